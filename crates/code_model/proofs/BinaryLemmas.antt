@@ -1,10 +1,10 @@
-use Rattle.std.proofs.Common.{◌≡◌, ℕ, zero, suc, ◌+◌, ◌-◌, ◌*◌, ◌/◌, ◌%◌, ◌^◌, ◌<◌, ◌≤◌, ◌⊎◌, inl, inr, refl, sym, ap, ap₂, ◌∙◌, subst, arith, cond, true, false, Bool, ⊎_elim}
-use Rattle.std.specs.Prelude.{bit_xor, nat_le}
+use Rattle.std.proofs.Common.{◌≡◌, ℕ, zero, suc, ◌+◌, ◌-◌, ◌*◌, ◌/◌, ◌%◌, ◌^◌, ◌<◌, ◌≤◌, inl, inr, sym, ap, ap₂, ◌∙◌, subst, arith}
+use Rattle.std.specs.Prelude.{bit_xor}
 use Rattle.std.proofs.lemmas.Nat.{xor_comm, xor_lt, xor_block, pow_pos}
 use Rattle.std.proofs.lemmas.Bool.Decides.{nat_tests}
 use Rattle.std.proofs.lemmas.Bool.{cases_lt}
 use lib.Bits.{xor_assoc, xor_self, xor_zero_r}
-use Rattle.code_model.specs.Binary.{bits_fold, product, HasDegree, reduced, remainder, times}
+use Rattle.code_model.specs.Binary.{product, reduced, remainder, times}
 use Rattle.code_model.proofs.BitsLemmas.{by_bits, bits_fold-zero, bits_fold-digit, xor_digit, xor_double, xor_double_digit, xor_swap, digit-xor, xor_digit-mul}
 
 by_lt : {P : Type 0} (a b : ℕ) → (a < b → P) → (b ≤ a → P) → P

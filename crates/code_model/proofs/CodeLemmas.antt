@@ -1,9 +1,9 @@
-use Rattle.std.proofs.Common.{◌≡◌, ℕ, zero, suc, ◌+◌, ◌-◌, ◌*◌, ◌/◌, ◌%◌, ◌^◌, ◌<◌, ◌≤◌, refl, sym, ap, ap₂, ◌∙◌, subst, arith, lit<, lit≤}
+use Rattle.std.proofs.Common.{◌≡◌, ℕ, suc, ◌+◌, ◌*◌, ◌/◌, ◌%◌, ◌^◌, ◌<◌, ◌≤◌, sym, ap, ap₂, ◌∙◌, arith}
 use Rattle.std.specs.Prelude.{bit_xor, bit_and}
-use Rattle.std.proofs.lemmas.Nat.{xor_comm, and_mask, shr-shr, pow-add, xor_lt}
+use Rattle.std.proofs.lemmas.Nat.{and_mask, shr-shr}
 use lib.Bits.{xor_zero_r}
 use Rattle.code_model.specs.Binary.{reduced, times}
-use Rattle.code_model.proofs.BinaryLemmas.{reduced-small, reduced-large, times-digit, times_comm, times-zero, times-lt}
+use Rattle.code_model.proofs.BinaryLemmas.{reduced-small, reduced-large, times-digit, times_comm, times-zero}
 
 pub doubled_large : (m f a n : ℕ) → n ≡ a * 2 → 2 ^ m ≤ n → bit_xor n f ≡ reduced m f (2 * a)
 doubled_large m f a n e h = let e' : n ≡ 2 * a = omega arith in sym (reduced-large m f n h) ∙ ap (reduced m f) e'

@@ -1,9 +1,9 @@
-use Rattle.std.proofs.Common.{◌≡◌, ◌≢◌, ℕ, zero, suc, ◌+◌, ◌-◌, ◌*◌, ◌^◌, ◌<◌, ◌≤◌, refl, sym, ap, ap₂, ◌∙◌, subst, arith, true, false, Bool, cond, inl, inr}
+use Rattle.std.proofs.Common.{◌≡◌, ◌≢◌, ℕ, zero, suc, ◌+◌, ◌-◌, ◌*◌, ◌^◌, ◌<◌, ◌≤◌, refl, sym, ap, ap₂, ◌∙◌, arith, true, false, Bool, cond, inl, inr}
 use Rattle.std.specs.Prelude.{bit_xor, nat_eq}
 use lib.Bits.{xor_zero_r}
 use Rattle.std.proofs.lemmas.Bool.Decides.{nat_tests}
-use Rattle.code_model.specs.Binary.{product, reduced, remainder, times, power, none_is_one, shifted, IsPrimitive}
-use Rattle.code_model.proofs.BinaryLemmas.{times-lt, times_comm, times_assoc, times-xor_right, times-one, times-zero, times-digit}
+use Rattle.code_model.specs.Binary.{reduced, times, power, none_is_one, shifted, IsPrimitive}
+use Rattle.code_model.proofs.BinaryLemmas.{times-lt, times_comm, times_assoc, times-one, times-zero, times-digit}
 use Rattle.std.proofs.lemmas.Bool.{cases_eq}
 use Rattle.std.proofs.Math.Nat.{mul_comm}
 use Rattle.code_model.proofs.Pigeonhole.{onto_from_one_to_one}

@@ -1,4 +1,4 @@
-use Rattle.std.proofs.Common.{◌≡◌, ℕ, ◌+◌, ◌-◌, ◌*◌, ◌^◌, ◌<◌, ◌≤◌, refl, true, lit<, lit≤}
+use Rattle.std.proofs.Common.{◌≡◌, ℕ, ◌^◌, refl, true, lit<, lit≤}
 use Rattle.code_model.specs.Binary.{reduced, shifted, none_is_one, IsPrimitive, times}
 use Rattle.code_model.proofs.FieldLemmas.{primitive_from_tests, times_zero-cancel}
 use Rattle.code_model.proofs.BinaryLemmas.{times-lt, times_comm, times_assoc, times-xor_right, times-zero, times-one}

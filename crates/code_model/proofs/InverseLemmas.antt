@@ -1,7 +1,7 @@
-use Rattle.std.proofs.Common.{◌≡◌, ℕ, zero, suc, ◌+◌, ◌-◌, ◌*◌, ◌^◌, ◌<◌, ◌≤◌, refl, sym, ap, ap₂, ◌∙◌, arith, lit<}
+use Rattle.std.proofs.Common.{◌≡◌, ℕ, suc, ◌+◌, ◌-◌, ◌*◌, ◌^◌, ◌<◌, refl, sym, ap, ap₂, ◌∙◌, arith}
 use Rattle.code_model.specs.Binary.{times, power, IsPrimitive}
 use Rattle.code_model.proofs.BinaryLemmas.{times_comm, times-one}
-use Rattle.code_model.proofs.FieldLemmas.{power-add, power-order, power-lt}
+use Rattle.code_model.proofs.FieldLemmas.{power-add, power-order}
 use Rattle.std.proofs.Math.Nat.{pow-suc}
 use Rattle.std.proofs.lemmas.Nat.{pow_pos}
 

@@ -1,9 +1,8 @@
-use Rattle.std.proofs.Common.{◌≡◌, ◌≢◌, ◌↔◌, ℕ, zero, suc, ◌+◌, ◌-◌, ◌*◌, ◌<◌, ◌≤◌, ◌⊎◌, List, [], ◌∷◌, length, map, get_or, refl, sym, ap, ap₂, ◌∙◌, subst, arith, inl, inr}
+use Rattle.std.proofs.Common.{◌≡◌, ◌≢◌, ℕ, zero, suc, ◌+◌, ◌<◌, ◌≤◌, ◌⊎◌, List, [], ◌∷◌, length, get_or, refl, sym, ap, ap₂, ◌∙◌, arith, inl, inr}
 use Rattle.std.specs.Prelude.{bit_xor}
 use Rattle.std.proofs.lemmas.Bool.{cases_eq, cases_lt}
-use lib.Bits.{xor_assoc, xor_self, xor_zero_r}
-use Rattle.code_model.specs.Poly.{IsDomain, Every, AllDiffer, value, term, moment, convolved, with_root, with_root_from, weighted, locator, against}
-use Rattle.code_model.proofs.PolyLemmas.{xor_cancel, zero_moments, zeros_from_roots, convolved-moments, locator-roots, length-locator, value-lt, Small, Apart, moment-zeros}
+use Rattle.code_model.specs.Poly.{IsDomain, Every, AllDiffer, value, moment, convolved, with_root, with_root_from, weighted, locator, against}
+use Rattle.code_model.proofs.PolyLemmas.{zero_moments, zeros_from_roots, convolved-moments, locator-roots, length-locator, value-lt, Apart, moment-zeros}
 
 -- a list of coefficients as a function of the degree
 abbrev pub coefficient : List ℕ → ℕ → ℕ

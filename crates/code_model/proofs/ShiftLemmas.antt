@@ -1,8 +1,7 @@
-use Rattle.std.proofs.Common.{◌≡◌, ℕ, zero, suc, ◌+◌, ◌*◌, ◌^◌, ◌<◌, ◌≤◌, refl, sym, ap, ap₂, ◌∙◌, subst, arith, mul_assoc, mul_comm}
+use Rattle.std.proofs.Common.{◌≡◌, ℕ, zero, suc, ◌+◌, ◌*◌, ◌^◌, ◌<◌, ◌≤◌, sym, ap, ap₂, ◌∙◌, subst, arith, mul_assoc, mul_comm}
 use Rattle.std.specs.Prelude.{bit_xor}
 use Rattle.std.proofs.lemmas.Nat.{xor_block, pow_pos, pow-add, shl_below}
-use Rattle.std.proofs.Math.Nat.{pow-suc, mul-le-mul_right}
-use lib.Bits.{xor_zero_r}
+use Rattle.std.proofs.Math.Nat.{pow-suc}
 use Rattle.code_model.specs.Binary.{product, remainder}
 use Rattle.code_model.proofs.BinaryLemmas.{product-double_right, remainder-unique, quotient, remainder-lt}
 

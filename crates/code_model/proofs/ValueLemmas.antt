@@ -1,21 +1,21 @@
-use Rattle.std.proofs.Common.{◌≡◌, ◌≢◌, ℕ, zero, suc, ◌+◌, ◌-◌, ◌*◌, ◌/◌, ◌%◌, ◌^◌, ◌<◌, ◌≤◌, List, [], ◌∷◌, length, map, refl, sym, ap, ap₂, ◌∙◌, subst, arith, true, false, Bool, cond, inl, inr}
+use Rattle.std.proofs.Common.{◌≡◌, ◌≢◌, ℕ, zero, suc, ◌+◌, ◌-◌, ◌*◌, ◌/◌, ◌%◌, ◌^◌, ◌<◌, ◌≤◌, List, [], ◌∷◌, length, refl, sym, ap, ap₂, ◌∙◌, subst, arith, true, false, cond, inl, inr}
 use Rattle.std.specs.Prelude.{bit_xor, nat_eq}
-use Rattle.std.proofs.lemmas.Nat.{xor_comm, xor_lt}
+use Rattle.std.proofs.lemmas.Nat.{xor_lt}
 use Rattle.std.proofs.lemmas.Bool.{cases_eq}
 use Rattle.std.proofs.lemmas.Bool.Decides.{nat_tests}
-use lib.Bits.{xor_assoc, xor_self, xor_zero_r}
-use Rattle.code_model.specs.Binary.{bits_fold, product, times, power, value_at, IsPrimitive}
+use lib.Bits.{xor_assoc, xor_zero_r}
+use Rattle.code_model.specs.Binary.{product, times, power, value_at, IsPrimitive}
 use Rattle.code_model.specs.Generator.{generator_of, minimal_of}
 use Rattle.code_model.specs.Poly.{Every, AllDiffer, moment, term}
-use Rattle.code_model.specs.Word.{number_from, AreBits, IsCodeWord, differences, distance}
-use Rattle.code_model.proofs.BitsLemmas.{by_bits, bits_fold-zero, bits_fold-digit, xor_digit, xor_swap, xor_double_digit}
+use Rattle.code_model.specs.Word.{number_from, AreBits, IsMultiple, differences, distance}
+use Rattle.code_model.proofs.BitsLemmas.{by_bits, bits_fold-zero, bits_fold-digit, xor_digit, xor_swap}
 use Rattle.code_model.proofs.BinaryLemmas.{times-lt, times_comm, times_assoc, times-xor_right, times-one, times-zero, product-zero_left, product-digit}
-use Rattle.code_model.proofs.FieldLemmas.{power-lt, power-add, power-mul, power_not-zero, powers_differ}
+use Rattle.code_model.proofs.FieldLemmas.{power-lt, power-mul, power_not-zero, powers_differ}
 use Rattle.code_model.proofs.KeyEquation.{errors, ArePlaces, none_from_moments}
 use Rattle.code_model.proofs.Instances.{domain_from_primitive}
 use Rattle.std.proofs.Math.Nat.{mul_comm}
 
-times-zero_left : (m f b : ℕ) → times m f 0 b ≡ 0
+pub times-zero_left : (m f b : ℕ) → times m f 0 b ≡ 0
 times-zero_left m f b = times_comm m f 0 b ∙ times-zero m f b
 
 pub value_at-zero : (m f x : ℕ) → value_at m f x 0 ≡ 0
@@ -27,11 +27,11 @@ unfolding value_at
 value_at-digit m f x a c h = bits_fold-digit (λ v c. bit_xor (times m f v x) c) (ap (λ v. bit_xor v 0) (times-zero_left m f x)) a c h
 
 module _ (m f : ℕ) (p : IsPrimitive m f) where
-  times-xor_left : (a b c : ℕ) → times m f (bit_xor a b) c ≡ bit_xor (times m f a c) (times m f b c)
+  pub times-xor_left : (a b c : ℕ) → times m f (bit_xor a b) c ≡ bit_xor (times m f a c) (times m f b c)
   times-xor_left a b c =
       times_comm m f (bit_xor a b) c ∙ times-xor_right m f c a b p.low p.high ∙ ap₂ bit_xor (times_comm m f c a) (times_comm m f c b)
 
-  value_at-lt : (x a : ℕ) → value_at m f x a < 2 ^ m
+  pub value_at-lt : (x a : ℕ) → value_at m f x a < 2 ^ m
   value_at-lt x a =
       by_bits (λ n. value_at m f x n < 2 ^ m) (subst (λ (v : ℕ). v < 2 ^ m) (sym (value_at-zero m f x)) (omega (arith, p.wide)))
       (λ a c h ih. subst (λ (v : ℕ). v < 2 ^ m) (sym (value_at-digit m f x a c h)) (xor_lt m (times m f (value_at m f x a) x) c (times-lt m f _ _ p.low p.high) (omega (arith, p.wide))))
@@ -98,7 +98,7 @@ module _ (m f : ℕ) (p : IsPrimitive m f) where
         ∙ ap (λ v. times m f v (value_at m f x (minimal_of m f (2 * t + 1)))) (generator-root x t i (omega arith) z) ∙ times-zero_left m f _
   ]
 
-  pub value-code_word : (x t : ℕ) (bs : List ℕ) → value_at m f x (generator_of m f t) ≡ 0 → IsCodeWord m f t bs → value_at m f x (number_from 0 bs) ≡ 0
+  pub value-code_word : (x t : ℕ) (bs : List ℕ) → value_at m f x (generator_of m f t) ≡ 0 → IsMultiple m f t bs → value_at m f x (number_from 0 bs) ≡ 0
   value-code_word x t bs z w =
       ap (value_at m f x) w.1 ∙ value_at-product x w.0 (generator_of m f t) ∙ ap (times m f (value_at m f x w.0)) z ∙ times-zero m f _
 
@@ -215,7 +215,7 @@ module _ (m f : ℕ) (p : IsPrimitive m f) where
   length-places [] = refl
   length-places (k ∷ ks) = ap suc (length-places ks)
 
-  same_from_none : (xs ys : List ℕ) → length xs ≡ length ys → length (differences xs ys) ≡ 0 → xs ≡ ys
+  pub same_from_none : (xs ys : List ℕ) → length xs ≡ length ys → length (differences xs ys) ≡ 0 → xs ≡ ys
   unfolding differences
   same_from_none [] [] e z = refl
   same_from_none [] (y ∷ ys) e z = cc
@@ -236,7 +236,7 @@ module _ (m f : ℕ) (p : IsPrimitive m f) where
 
   -- two code words that differ in at most w places are equal, where the generator has w neighbouring powers as roots
   pub bound : (t w : ℕ) (xs ys : List ℕ) → ((j : ℕ) → 0 < j → j ≤ w → value_at m f (power m f 2 j) (generator_of m f t) ≡ 0)
-      → AreBits xs → AreBits ys → length xs ≡ length ys → length xs ≤ 2 ^ m - 1 → distance xs ys ≤ w → IsCodeWord m f t xs → IsCodeWord m f t ys → xs ≡ ys
+      → AreBits xs → AreBits ys → length xs ≡ length ys → length xs ≤ 2 ^ m - 1 → distance xs ys ≤ w → IsMultiple m f t xs → IsMultiple m f t ys → xs ≡ ys
   bound t w xs ys roots s r e room near cx cy =
       let len = length-places (differences xs ys) in
       let none = none_from_moments (2 ^ m) (times m f) (domain_from_primitive m f p) (omega (arith, p.wide)) (places (differences xs ys)) w here (omega arith) zero_sum in

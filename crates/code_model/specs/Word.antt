@@ -1,5 +1,5 @@
 -- Words of bits, the highest coefficient first.
-use Rattle.std.specs.Prelude.{ℕ, zero, suc, ◌+◌, ◌*◌, ◌<◌, ◌≡◌, List, [], ◌∷◌, length, cond, nat_eq}
+use Rattle.std.specs.Prelude.{ℕ, ◌+◌, ◌*◌, ◌<◌, ◌≡◌, List, [], ◌∷◌, length, cond, nat_eq}
 use Rattle.code_model.specs.Binary.{product}
 use Rattle.code_model.specs.Generator.{generator_of}
 use Rattle.code_model.specs.Poly.{Every}
@@ -12,9 +12,9 @@ number_from a (b ∷ bs) = number_from (2 * a + b) bs
 abbrev pub AreBits : List ℕ → Type 0
 AreBits bs = Every (λ b. b < 2) bs
 
--- a multiple of the generator
-abbrev pub IsCodeWord : ℕ → ℕ → ℕ → List ℕ → Type 0
-IsCodeWord m f t bs = (q : ℕ) × (number_from 0 bs ≡ product q (generator_of m f t))
+-- the polynomial of a word is a multiple of the generator
+abbrev pub IsMultiple : ℕ → ℕ → ℕ → List ℕ → Type 0
+IsMultiple m f t bs = (q : ℕ) × (number_from 0 bs ≡ product q (generator_of m f t))
 
 -- the degrees at which two words of one length differ
 unfoldable pub differences : List ℕ → List ℕ → List ℕ
