@@ -6,6 +6,8 @@
 --     for each device              device mtdJ corrected N failed N
 --                                  end boot B
 use Rattle.std.specs.Prelude.{◌≡◌, ℕ, zero, suc, ◌+◌, ◌*◌, ◌/◌, ◌%◌, ◌^◌, Bool, true, false, ◌==◌, if◌then◌else◌, List, [], ◌∷◌, ◌++◌, length, map, take, drop, flat_map, sum_by, slice_index, slice_index_or, replicate, bytes_eq, codes, decimal, refl}
+use Rattle.hex.specs.Hex.{encode_lower}
+use Rattle.std.specs.Int.{to_be_bytes, w32}
 use Rattle.nand_model.specs.Sizes.{numbers_from}
 use Rattle.nand_model.specs.Operation.{Partitions}
 use Rattle.run_model.specs.Course.{SessionRun, without_finished, with_reply, geometry_for}
@@ -49,21 +51,18 @@ spaced (word ∷ next ∷ words) = word ++ 32 ∷ spaced (next ∷ words)
 abbrev pub device_name : ℕ → List ℕ
 device_name dev = codes "mtd" ++ decimal dev
 
-abbrev pub hex_digit : ℕ → ℕ
-hex_digit n = slice_index (codes "0123456789abcdef") n
+-- the eight hexadecimal digits of a number below 2^32, in lower case
+abbrev pub hex8 : ℕ → List ℕ
+hex8 n = encode_lower (to_be_bytes w32 n)
 
-abbrev pub hex_byte : ℕ → List ℕ
-hex_byte b = hex_digit (b / 16) ∷ hex_digit (b % 16) ∷ []
-
--- the low n hexadecimal digits of a number
-abbrev pub hex_number : ℕ → ℕ → List ℕ
-hex_number zero n = []
-hex_number (suc k) n = hex_digit (n / 16 ^ k % 16) ∷ hex_number k n
-
--- bytes cut into rows of 32, of which there are n
+-- bytes cut into n rows of 32
 abbrev pub rows_of : ℕ → List ℕ → List (List ℕ)
 rows_of zero bytes = []
 rows_of (suc n) bytes = take 32 bytes ∷ rows_of n (drop 32 bytes)
+
+-- bytes cut into rows of 32; the last one may be shorter
+abbrev pub rows_in : List ℕ → List (List ℕ)
+rows_in bytes = rows_of ((length bytes + 31) / 32) bytes
 
 -- a run of equal rows: its first row's number, its length and the row
 pub record RowRun : Type 0 where
@@ -83,10 +82,15 @@ runs_from at [] = []
 runs_from at (row ∷ rows) = add_row at row (runs_from (at + 1) rows)
 
 abbrev pub row_line : RowRun → List ℕ
-row_line run = line (32 ∷ spaced (hex_number 8 (32 * run.at) ∷ decimal run.count ∷ flat_map hex_byte run.row ∷ []))
+row_line run = line (32 ∷ spaced (hex8 (32 * run.at) ∷ decimal run.count ∷ encode_lower run.row ∷ []))
 
+-- the lines of some rows, the first of which has number `at`
+abbrev pub runs_text : ℕ → List (List ℕ) → List ℕ
+runs_text at rows = flat_map row_line (runs_from at rows)
+
+-- the rows of bytes
 abbrev pub rows_text : List ℕ → List ℕ
-rows_text bytes = flat_map row_line (runs_from 0 (rows_of ((length bytes + 31) / 32) bytes))
+rows_text bytes = runs_text 0 (rows_in bytes)
 
 abbrev pub op_text : Op → List (List ℕ)
 op_text (Read dev page) = codes "read" ∷ device_name dev ∷ decimal page ∷ []
