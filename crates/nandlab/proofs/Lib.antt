@@ -1,2 +1,3 @@
 mod RowSteps
 mod Joined
+mod Entries

@@ -1,10 +1,13 @@
 // The lines of a report, appended to a text.
-ghost use Rattle.std.specs.Prelude.{◌≡◌, ◌∷◌, [], ◌++◌, ◌<◌, ◌≤◌, ◌*◌, ◌+◌, ◌^◌, length, take, drop, OnOk, IsTrue, ◌↔◌, codes, decimal};
-ghost use Rattle.report_model.specs.Report.{note_text, line, spaced, device_name, op_text, state_text, kind_text, page_text, counts_text, reply_text, reply_rows, rows_in, rows_text, runs_text, row_line, bad_entries, joined_by_commas, origin_text, yes_or_no};
+ghost use Rattle.std.specs.Prelude.{◌≡◌, ◌∷◌, [], ◌++◌, ◌<◌, ◌≤◌, ◌*◌, ◌+◌, ◌^◌, length, take, drop, All, flat_map, OnOk, IfOk, IsTrue, ◌↔◌, codes, decimal, string_bytes};
+ghost use Rattle.report_model.specs.Report.{note_text, line, spaced, device_name, op_text, state_text, kind_text, page_text, counts_text, reply_text, reply_rows, rows_in, rows_text, runs_text, row_line, bad_entries, joined_by_commas, origin_text, yes_or_no, chip_name, event_text, cause_text, fairness_text};
 ghost use Rattle.report_model.proofs.RowLemmas.{leading};
-ghost use Rattle.nandlab.specs.Printing.{ForPage};
+ghost use Rattle.nandlab.specs.Printing.{ForPage, ForAnswer, entry_text, any_after};
 
-use nand_model::{Bytes, Note, Op, Origin, PageKind, PageRead, Reply, Which};
+use nand_iface::History;
+use nand_model::{
+    Bytes, Event, Fairness, Note, Op, Origin, PageKind, PageRead, Reply, Which,
+};
 use std::alloc::{AllocError, Global};
 
 /// Bytes of a row.
@@ -241,24 +244,203 @@ fn put_answered(
     put_reply_rows(alloc, out, reply)
 }
 
-// The blocks of a table that are worn or factory bad, each with its letter, parted by commas; `-` where there is none.
+// Appends a block with its letter where its state is worn or factory bad, after a comma where one came before; answers whether one came by now.
+fn put_bad_block(
+    alloc: Global,
+    out: &mut Bytes,
+    any: bool,
+    block: usize,
+    state: u8,
+) -> Result<bool, AllocError>
+    ensures text { OnOk result (out.new ≡ out.old ++ entry_text any block state) }
+    ensures any { IfOk result (λ now. now ≡ any_after any state) }
+{
+    let letter = match state {
+        1 => "w",
+        3 => "f",
+        _ => return Ok(any),
+    };
+    let comma = if any { "," } else { "" };
+    let text = format!(in alloc; "{comma}{block}{letter}")?;
+    put_text(out, text.as_str())?;
+    Ok(true)
+}
+
+// Appends the blocks of a table that are worn or factory bad, each with its letter, parted by commas; `-` where there is none.
 fn put_bad_blocks(alloc: Global, out: &mut Bytes, states: &[u8]) -> Result<(), AllocError>
-    requires { length states.now < 2 ^ 32 }
     ensures { OnOk result (out.new ≡ out.old ++ joined_by_commas (bad_entries 0 states.now)) }
 {
     let mut any = false;
-    for block in 0..states.len() {
-        let letter = match states[block] {
-            1 => "w",
-            3 => "f",
-            _ => "",
-        };
-        if !letter.is_empty() {
-            let comma = if any { "," } else { "" };
-            let text = format!(in alloc; "{comma}{block}{letter}")?;
-            put_text(out, text.as_str())?;
-            any = true;
-        }
+    for (block, state) in states.iter().enumerate() {
+        any = put_bad_block(alloc, out, any, block, *state)?;
     }
     if any { Ok(()) } else { put_text(out, "-") }
+}
+
+// How the copy of a table is called that an attach took it from.
+fn origin_name(origin: Origin) -> &'static str
+    ensures { result.now ≡ origin_text origin }
+{
+    match origin {
+        Origin::Primary => "primary",
+        Origin::Mirror => "mirror",
+        Origin::Markers => "markers",
+    }
+}
+
+// How an answer to a question is called.
+fn answer_name(answer: bool) -> &'static str
+    ensures { result.now ≡ yes_or_no answer }
+{
+    if answer { "yes" } else { "no" }
+}
+
+// A chip of a controller.
+fn chip_label(alloc: Global, controller: u32, chip: u32) -> Result<String, AllocError>
+    ensures { IfOk result (λ text. string_bytes text ≡ chip_name controller chip) }
+{
+    format!(in alloc; "{controller}.{chip}")
+}
+
+// Appends the words of an attach before its bad blocks.
+fn put_attach_words(
+    alloc: Global,
+    out: &mut Bytes,
+    chip: &str,
+    origin: Origin,
+    version: u8,
+    copies: u32,
+    quiet: bool,
+) -> Result<(), AllocError>
+    ensures { OnOk result (out.new ≡ out.old ++ spaced (codes "attach" ∷ chip.now ∷ origin_text origin
+        ∷ codes "version" ∷ decimal version ∷ codes "copies" ∷ decimal copies ∷ codes "quiet" ∷ yes_or_no quiet ∷ codes "bad" ∷ [] ∷ [])) }
+{
+    let origin = origin_name(origin);
+    let quiet = answer_name(quiet);
+    let text = format!(in alloc; "attach {chip} {origin} version {version} copies {copies} quiet {quiet} bad ")?;
+    put_text(out, text.as_str())
+}
+
+// The line of an attach.
+fn put_attached(
+    alloc: Global,
+    out: &mut Bytes,
+    chip: &str,
+    origin: Origin,
+    version: u8,
+    copies: u32,
+    quiet: bool,
+    states: &[u8],
+) -> Result<(), AllocError>
+    ensures { OnOk result (out.new ≡ out.old ++ line (spaced (codes "attach" ∷ chip.now ∷ origin_text origin
+        ∷ codes "version" ∷ decimal version ∷ codes "copies" ∷ decimal copies ∷ codes "quiet" ∷ yes_or_no quiet
+        ∷ codes "bad" ∷ joined_by_commas (bad_entries 0 states.now) ∷ []))) }
+{
+    put_attach_words(alloc, out, chip, origin, version, copies, quiet)?;
+    put_bad_blocks(alloc, out, states)?;
+    put_text(out, "\n")
+}
+
+// How the fairness of a torn event is called.
+fn fairness_name(fairness: Fairness) -> &'static str
+    ensures { result.now ≡ fairness_text fairness }
+{
+    match fairness {
+        Fairness::Plain => "plain",
+        Fairness::Missing => "missing",
+        Fairness::Whole => "whole",
+        Fairness::Foul => "foul",
+    }
+}
+
+// How the cause of a torn event is called.
+fn cause_name(cut: bool) -> &'static str
+    ensures { result.now ≡ cause_text cut }
+{
+    if cut { "cut" } else { "fault" }
+}
+
+// Appends the kind of an event, and its page or block.
+fn event_words(alloc: Global, event: Event) -> Result<String, AllocError>
+    ensures { IfOk result (λ text. string_bytes text ≡ spaced (event_text event)) }
+{
+    match event {
+        Event::Read(page) => format!(in alloc; "read {page}"),
+        Event::Program(page) => format!(in alloc; "program {page}"),
+        Event::Erase(block) => format!(in alloc; "erase {block}"),
+    }
+}
+
+// The line of a torn event.
+fn put_torn(
+    alloc: Global,
+    out: &mut Bytes,
+    chip: &str,
+    number: u32,
+    event: Event,
+    cut: bool,
+    fairness: Fairness,
+) -> Result<(), AllocError>
+    ensures { OnOk result (out.new ≡ out.old ++ line (spaced (codes "torn" ∷ chip.now ∷ codes "event" ∷ decimal number
+        ∷ spaced (event_text event) ∷ cause_text cut ∷ fairness_text fairness ∷ []))) }
+{
+    let words = event_words(alloc, event)?;
+    let cause = cause_name(cut);
+    let fairness = fairness_name(fairness);
+    let text = format!(in alloc; "torn {chip} event {number} {words} {cause} {fairness}\n")?;
+    put_text(out, text.as_str())
+}
+
+/// Appends the lines of a note of a controller.
+pub fn put_note(
+    alloc: Global,
+    out: &mut Bytes,
+    controller: u32,
+    note: &Note,
+) -> Result<(), AllocError>
+    requires { ForAnswer (ForPage (λ image. length image ≤ 2 ^ 32)) note.now }
+    ensures { OnOk result (out.new ≡ out.old ++ note_text controller note.now) }
+{
+    match note {
+        Note::Began { session, op } => put_began(alloc, out, *session, op),
+        Note::Answered { session, reply } => put_answered(alloc, out, *session, reply),
+        Note::Attached {
+            chip,
+            origin,
+            version,
+            copies,
+            quiet,
+            states,
+        } => {
+            let name = chip_label(alloc, controller, *chip)?;
+            let states = states.as_slice();
+            put_attached(alloc, out, name.as_str(), *origin, *version, *copies, *quiet, states)
+        }
+        Note::Torn {
+            chip,
+            number,
+            event,
+            cut,
+            fairness,
+        } => {
+            let name = chip_label(alloc, controller, *chip)?;
+            put_torn(alloc, out, name.as_str(), *number, *event, *cut, *fairness)
+        }
+    }
+}
+
+/// Appends the lines of notes of a controller.
+pub fn put_notes(
+    alloc: Global,
+    out: &mut Bytes,
+    controller: u32,
+    notes: &History,
+) -> Result<(), AllocError>
+    requires { All (ForAnswer (ForPage (λ image. length image ≤ 2 ^ 32))) notes.now.notes }
+    ensures { OnOk result (out.new ≡ out.old ++ flat_map (note_text controller) notes.now.notes) }
+{
+    for n in 0..notes.len() {
+        put_note(alloc, out, controller, notes.get(n))?;
+    }
+    Ok(())
 }

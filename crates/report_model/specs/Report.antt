@@ -178,6 +178,10 @@ fairness_text Missing = codes "missing"
 fairness_text Whole = codes "whole"
 fairness_text Foul = codes "foul"
 
+abbrev pub cause_text : Bool → List ℕ
+cause_text true = codes "cut"
+cause_text false = codes "fault"
+
 abbrev pub chip_name : ℕ → ℕ → List ℕ
 chip_name c k = decimal c ++ 46 ∷ decimal k
 
@@ -189,8 +193,8 @@ note_text c (Attached k origin version copies quiet states) =
     line (spaced (codes "attach" ∷ chip_name c k ∷ origin_text origin ∷ codes "version" ∷ decimal version ∷ codes "copies" ∷ decimal copies
     ∷ codes "quiet" ∷ yes_or_no quiet ∷ codes "bad" ∷ joined_by_commas (bad_entries 0 states) ∷ []))
 note_text c (Torn k number event cut fairness) =
-    line (spaced (codes "torn" ∷ chip_name c k ∷ codes "event" ∷ decimal number ∷ (event_text event
-    ++ (if cut then codes "cut" else codes "fault") ∷ fairness_text fairness ∷ [])))
+    line (spaced (codes "torn" ∷ chip_name c k ∷ codes "event" ∷ decimal number ∷ spaced (event_text event)
+    ∷ cause_text cut ∷ fairness_text fairness ∷ []))
 
 abbrev pub ending_text : Ending → List ℕ
 ending_text AllWritten = []
