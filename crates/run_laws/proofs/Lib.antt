@@ -1,0 +1,15 @@
+pub mod Traces
+pub mod ChipNotes
+pub mod Places
+pub mod Logs
+pub mod Life
+pub mod Sessions
+pub mod ChipSteps
+pub mod Courses
+pub mod Events
+pub mod Steps
+pub mod Starts
+pub mod Faithful
+pub mod Runs
+pub mod Alone
+pub mod Replies

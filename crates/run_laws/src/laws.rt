@@ -1,0 +1,26 @@
+ghost use Rattle.std.specs.Prelude.{ℕ, List, ◌≡◌, Contains};
+ghost use Rattle.nand_model.specs.Chip.{ChipState, FaultModel};
+ghost use Rattle.nand_model.specs.Operation.{Partitions};
+ghost use Rattle.run_model.specs.Course.{Boot, Course};
+ghost use Rattle.run_model.specs.Laws.{RepliesDependOnTheChip};
+ghost use Rattle.run_model.specs.Run.{AreBoots, CoursesAreFaithful, RunsAreFaithful};
+
+/// Whatever the turns, the cut, the flips and the failures of a boot, its notes are a history of one thread whose traces are
+/// what befell the chips, and each session's operations are those of its commands, in order and each once.
+pub fn every_interleaving<W>()
+    ensures { (model : FaultModel W) (boot : Boot) (starts : List (ChipState W)) (attaches : ℕ) (turns : List ℕ) →
+        CoursesAreFaithful model boot starts attaches turns }
+{}
+
+/// The same over all boots of a run, each from the states that the one before it left.
+pub fn every_run<W>()
+    ensures { (model : FaultModel W) (partitions : Partitions) (starts : List (ChipState W)) (boots : List Boot)
+        (turns : List (List ℕ)) (courses : List (Course W)) →
+        ((boot : Boot) → Contains boots boot → boot.partitions ≡ partitions) → AreBoots model starts boots turns courses →
+        RunsAreFaithful model partitions starts boots courses }
+{}
+
+/// A chip's replies depend on that chip alone.
+pub fn chips_stand_alone<W>()
+    ensures { (model : FaultModel W) → RepliesDependOnTheChip model }
+{}

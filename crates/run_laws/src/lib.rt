@@ -1,0 +1,6 @@
+//! Laws of whole runs of a controller: every interleaving of its sessions is a history of one thread.
+#![tactic(auto)]
+
+mod laws;
+
+pub use laws::{chips_stand_alone, every_interleaving, every_run};
