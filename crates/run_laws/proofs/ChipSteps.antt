@@ -4,9 +4,8 @@ use Rattle.std.proofs.lemmas.Bool.{false≢true}
 use Rattle.nand_model.specs.declared.words.Note.{Note}
 use Rattle.nand_model.specs.declared.words.Note.TheVariants.{Began, Answered}
 use Rattle.nand_model.specs.declared.words.Op.{Op}
-use Rattle.nand_model.specs.declared.words.Reply.{Reply}
 use Rattle.nand_model.specs.Chip.{ChipState, FaultModel, ChipEvent, Complete, PowerCut, Flipped, PageEvent, DoneBits, happens, after_trace, flip_events}
-use Rattle.nand_model.specs.Path.{Answer, Path, Over, Then, GoesAlong, answers_of, answer_to, is_uncut, after_answers, next_event, result_of}
+use Rattle.nand_model.specs.Path.{Answer, GoesAlong, answers_of, answer_to, is_uncut, after_answers, next_event, result_of}
 use Rattle.nand_model.specs.Attach.{Attaching, attach_path}
 use Rattle.nand_model.specs.Operation.{Partitions, Known, Finished, operation_path, Performs}
 use Rattle.nand_model.specs.ChipRun.{ChipRun, Pending, attach_note, known_at_first, with_finished}

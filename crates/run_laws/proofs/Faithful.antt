@@ -1,5 +1,5 @@
 -- The invariant says that the notes are those of one thread.
-use Rattle.std.proofs.Common.{◌≡◌, ◌&&◌, ◌||◌, Bool, true, false, cond, inl, inr, ℕ, zero, suc, ◌<◌, List, [], ◌∷◌, length, Option, Some, None, refl, ap, sym, ◌∙◌, subst, subst₂, get_or, arith}
+use Rattle.std.proofs.Common.{◌≡◌, ◌&&◌, ◌||◌, Bool, true, false, cond, inl, inr, ℕ, zero, suc, List, [], ◌∷◌, length, Option, Some, None, refl, ap, sym, ◌∙◌, subst, subst₂, arith}
 use Rattle.std.specs.Prelude.{slice_get, option_map, fold, find, is_some, ◌==◌, All}
 use Rattle.std.specs.List.{list_all}
 use Rattle.std.proofs.lemmas.Bool.{and_parts}
@@ -11,7 +11,7 @@ use Rattle.nand_model.specs.Chip.{ChipState, FaultModel, after_trace}
 use Rattle.nand_model.specs.ChipRun.{ChipRun}
 use Rattle.nand_model.specs.Sizes.{raw_len}
 use Rattle.run_model.specs.Log.{Log, befalls}
-use Rattle.run_model.specs.Course.{sizes_of, Boot, Course, SessionRun, without_finished, next_op_of, start_of_boot, attach_step, turn_step, attach_steps, course_after, end_states, is_finished, is_over}
+use Rattle.run_model.specs.Course.{sizes_of, Boot, Course, SessionRun, next_op_of, start_of_boot, attach_step, turn_step, attach_steps, course_after, end_states, is_finished, is_over}
 use Rattle.run_model.specs.History.{events_in, numbered_of, notes_of_chip, exchanges_of, ChipBoot, trace_of, IsChipHistory, IsChipLife, Alternate, AreOfChips, session_after, FollowsCommands}
 use Rattle.run_model.specs.Run.{CoursesAreFaithful, AreInOrder, AreComplete, session_at_start, HaveOneNumberEach}
 use Rattle.run_laws.proofs.Life.{ChipEnd}

@@ -13,3 +13,4 @@ pub mod Faithful
 pub mod Runs
 pub mod Alone
 pub mod Replies
+pub mod Turns

@@ -1,6 +1,6 @@
 -- The start of a boot.
 use Rattle.std.proofs.Common.{◌≡◌, ℕ, zero, suc, ◌≤◌, ◌<◌, Bool, true, false, List, [], ◌∷◌, map, length, Option, Some, None, refl, ap, sym, ◌∙◌, subst, arith}
-use Rattle.std.specs.Prelude.{slice_get, slice_index_or, option_map, is_none, find, ◌==◌, Contains}
+use Rattle.std.specs.Prelude.{slice_get, slice_index_or, option_map, find, ◌==◌, Contains}
 use Rattle.std.proofs.lemmas.Bool.{eq-eqb, eqb-true, eqb-false, ne_eqb, and_parts, leb-true, cond-true, cond-false}
 use Rattle.std.proofs.lemmas.Option.{none-some, slice_get-map}
 use Rattle.nand_model.specs.declared.geometry.Geometry.{Geometry}

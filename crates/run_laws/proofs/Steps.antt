@@ -1,33 +1,23 @@
 -- Each step of a course keeps the invariant.
-use Rattle.std.proofs.Common.{◌≡◌, inl, inr, ℕ, zero, suc, ◌+◌, ◌<◌, Bool, true, false, ◌&&◌, ◌||◌, List, [], ◌∷◌, ◌++◌, length, Option, Some, None, refl, ap, sym, ◌∙◌, subst, subst₂, append_assoc, append-nil, arith}
+use Rattle.std.proofs.Common.{◌≡◌, inl, inr, ℕ, ◌+◌, Bool, true, false, List, [], ◌∷◌, ◌++◌, length, Option, Some, None, refl, ap, sym, ◌∙◌, subst, subst₂}
 use Rattle.std.specs.Prelude.{slice_get, option_map, is_none, is_some, if◌then◌else◌}
 use Rattle.std.proofs.lemmas.Bool.{false≢true, eq-eqb, or_parts}
-use Rattle.std.proofs.lemmas.Option.{none-some, same_Some, some_pair_parts, slice_get_within}
-use Rattle.std.proofs.lemmas.List.{length_push}
-use Rattle.nand_model.specs.declared.geometry.Geometry.{Geometry}
-use Rattle.nand_model.specs.declared.tear.Tear.{Tear}
+use Rattle.std.proofs.lemmas.Option.{none-some, same_Some, some_pair_parts}
 use Rattle.nand_model.specs.declared.words.Note.{Note}
 use Rattle.nand_model.specs.declared.words.Note.TheVariants.{Began, Answered}
 use Rattle.nand_model.specs.declared.words.Op.{Op}
-use Rattle.nand_model.specs.Sizes.{raw_len}
-use Rattle.nand_model.specs.Chip.{ChipState, FaultModel, ChipEvent, Complete, PowerCut, PageEvent, DoneBits, happens, done_bits}
-use Rattle.nand_model.specs.Path.{Answer, Path, Over, Then, answer_to, after_answers, next_event, result_of}
-use Rattle.nand_model.specs.Attach.{Attaching, attach_path}
-use Rattle.nand_model.specs.Operation.{Partitions, Known, Finished, device_of}
-use Rattle.nand_model.specs.Quiet.{is_quiet}
-use Rattle.nand_model.specs.ChipRun.{ChipRun, Pending, next_event_by, next_chip_event, with_pending, pending_after, known_once_over, known_at_first, attach_note, attach_notes_of, answered_by, torn_by, finished_by, with_finished, attach_notes_by, advanced, torn_at}
-use Rattle.run_model.specs.Course.{Boot, Course, SessionRun, change_at, with_flips_before, tear_at, chip_of, next_op, session_run, unattached, pending_chip, is_pending_of, began, finish, with_answer, is_idle, turn_unless, event_done, event_on, event_or_answer, chip_step, begin_on, begin_at, begin_step, session_step, turn_step, attach_first, attach_step, sizes_of}
-use Rattle.run_model.specs.History.{LastChips, AreOfChips, notes_of_chip, notes_of_event, exchanges_of, events_in}
-use Rattle.run_model.specs.Log.{Log, due_flips, torn_by_cut, befalls}
-use Rattle.run_laws.proofs.Traces.{geometry_after, geometry_happens}
-use Rattle.run_laws.proofs.ChipNotes.{of_chips-append, lasts, lasts-append, AreOf, nothing_is_of, torn_are_of, torn_last, torn_exchanges, one_is_of, both_are_of, exchanges-append}
+use Rattle.nand_model.specs.Chip.{ChipState, FaultModel, PageEvent}
+use Rattle.nand_model.specs.Operation.{Known, Finished, device_of}
+use Rattle.nand_model.specs.ChipRun.{ChipRun, Pending, next_chip_event, with_pending, finished_by, with_finished}
+use Rattle.run_model.specs.Course.{Boot, Course, change_at, with_flips_before, chip_of, next_op, session_run, unattached, pending_chip, is_pending_of, began, finish, with_answer, is_idle, turn_unless, event_or_answer, chip_step, begin_on, begin_at, begin_step, session_step, turn_step, attach_first, attach_step, sizes_of}
+use Rattle.run_model.specs.History.{notes_of_chip}
+use Rattle.run_laws.proofs.ChipNotes.{of_chips-append, lasts, AreOf, one_is_of}
 use Rattle.run_laws.proofs.Places.{position_none, change_here, change_elsewhere}
-use Rattle.run_laws.proofs.Life.{IsAttaching, IsAttached, IsPerforming, ChipLaw, ChipLawAt, ChipEnd}
-use Rattle.run_laws.proofs.ChipSteps.{attach_more, attach_ends, attach_cut, operation_begins, performs_on, operation_cut, operation_answered}
-use Rattle.run_laws.proofs.Sessions.{nowhere, SessionLaw, session_stays, session_begins, session_answered}
-use Rattle.run_laws.proofs.Logs.{befalls-more, own_here, own_elsewhere}
+use Rattle.run_laws.proofs.Life.{ChipLaw, ChipLawAt}
+use Rattle.run_laws.proofs.ChipSteps.{operation_begins, operation_answered}
+use Rattle.run_laws.proofs.Sessions.{nowhere, session_begins, session_answered}
 use Rattle.run_laws.proofs.Events.{chip_is_there, event_holds}
-use Rattle.run_laws.proofs.Courses.{place_start, asked_by, asked_on, asked_at, rest_of, same_next, ChipsHold, SessionsHold, LawOf, EndOf, by_log, with_due, IsLog, IsLive, Holds, live_ends, place_update, due_hold, due_rest, due_asked, same_asked}
+use Rattle.run_laws.proofs.Courses.{asked_by, asked_on, asked_at, LawOf, by_log, IsLive, Holds, place_update}
 
 module _ {W : Type 0} (model : FaultModel W) (boot : Boot) (starts : List (ChipState W)) where
   -- an operation is answered

@@ -4,6 +4,9 @@ ghost use Rattle.nand_model.specs.Operation.{Partitions};
 ghost use Rattle.run_model.specs.Course.{Boot, Course};
 ghost use Rattle.run_model.specs.Laws.{RepliesDependOnTheChip};
 ghost use Rattle.run_model.specs.Run.{AreBoots, CoursesAreFaithful, RunsAreFaithful};
+ghost use Rattle.nand_model.specs.declared.geometry.Geometry.{Geometry};
+ghost use Rattle.nand_model.specs.declared.words.Command.{Command};
+ghost use Rattle.run_laws.specs.Turns.{TurnIsStep, BusyTurnsSuffice};
 
 /// Whatever the turns, the cut, the flips and the failures of a boot, its notes are a history of one thread whose traces are
 /// what befell the chips, and each session's operations are those of its commands, in order and each once.
@@ -23,4 +26,13 @@ pub fn every_run<W>()
 /// A chip's replies depend on that chip alone.
 pub fn chips_stand_alone<W>()
     ensures { (model : FaultModel W) → RepliesDependOnTheChip model }
+{}
+
+/// A turn of a session changes nothing where it is idle, and is else one step: an operation begins, or one page event is done,
+/// or the operation is answered. So the turns of a list that are not idle lead to the same course.
+pub fn turns_are_steps<W>()
+    ensures one_step { (model : FaultModel W) (boot : Boot) (sizes : Command → Geometry) (course : Course W) (session : ℕ) →
+        TurnIsStep model boot sizes course session }
+    ensures busy_turns { (model : FaultModel W) (boot : Boot) (starts : List (ChipState W)) (turns : List ℕ) (course : Course W) →
+        BusyTurnsSuffice model boot starts turns course }
 {}

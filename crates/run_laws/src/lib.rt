@@ -3,4 +3,4 @@
 
 mod laws;
 
-pub use laws::{chips_stand_alone, every_interleaving, every_run};
+pub use laws::{chips_stand_alone, every_interleaving, every_run, turns_are_steps};
