@@ -14,3 +14,4 @@ pub mod Runs
 pub mod Alone
 pub mod Replies
 pub mod Turns
+pub mod AttachTurns

@@ -1,7 +1,7 @@
 -- What a turn does to a course, and which turns of a list do anything.
-use Rattle.std.specs.Prelude.{◌≡◌, ℕ, ◌+◌, true, false, if◌then◌else◌, List, [], ◌∷◌, ◌++◌}
+use Rattle.std.specs.Prelude.{◌≡◌, ℕ, ◌+◌, true, false, if◌then◌else◌, List, [], ◌∷◌, ◌++◌, Some, None}
 use Rattle.nand_model.specs.Chip.{FaultModel, ChipState}
-use Rattle.run_model.specs.Course.{Boot, Course, is_idle, sizes_of, turn_step, turns_taken}
+use Rattle.run_model.specs.Course.{Boot, Course, is_idle, sizes_of, unattached, attach_step, turn_step, turns_taken}
 use Rattle.nand_model.specs.declared.geometry.Geometry.{Geometry}
 use Rattle.nand_model.specs.declared.words.Command.{Command}
 use Rattle.nand_model.specs.declared.words.Note.{Note}
@@ -19,6 +19,12 @@ pub data IsStep {W : Type 0} (session : ℕ) (before after : Course W) : Type 0 
 pub record TurnIsStep {W : Type 0} (model : FaultModel W) (boot : Boot) (sizes : Command → Geometry) (course : Course W) (session : ℕ) : Type 0 where
   pub nothing_where_idle : is_idle boot.partitions sizes course session ≡ true → turn_step model boot sizes course session ≡ course
   pub step_else : is_idle boot.partitions sizes course session ≡ false → IsStep session course (turn_step model boot sizes course session)
+
+-- an attach step changes nothing where the controller is dark or all chips are attached, and is else one page event
+pub record AttachIsStep {W : Type 0} (model : FaultModel W) (boot : Boot) (sizes : Command → Geometry) (course : Course W) : Type 0 where
+  pub nothing_where_dark : course.dark ≡ true → attach_step model boot sizes course ≡ course
+  pub nothing_where_attached : unattached course ≡ None → attach_step model boot sizes course ≡ course
+  pub event_else : (k : ℕ) → course.dark ≡ false → unattached course ≡ Some k → (attach_step model boot sizes course).events ≡ course.events + 1
 
 module _ {W : Type 0} (model : FaultModel W) (boot : Boot) (starts : List (ChipState W)) where
   -- the turns of a list that are not idle when they come

@@ -1,12 +1,12 @@
 ghost use Rattle.std.specs.Prelude.{ℕ, List, ◌≡◌, Contains};
 ghost use Rattle.nand_model.specs.Chip.{ChipState, FaultModel};
 ghost use Rattle.nand_model.specs.Operation.{Partitions};
-ghost use Rattle.run_model.specs.Course.{Boot, Course};
+ghost use Rattle.run_model.specs.Course.{Boot, Course, course_after};
 ghost use Rattle.run_model.specs.Laws.{RepliesDependOnTheChip};
 ghost use Rattle.run_model.specs.Run.{AreBoots, CoursesAreFaithful, RunsAreFaithful};
 ghost use Rattle.nand_model.specs.declared.geometry.Geometry.{Geometry};
 ghost use Rattle.nand_model.specs.declared.words.Command.{Command};
-ghost use Rattle.run_laws.specs.Turns.{TurnIsStep, BusyTurnsSuffice};
+ghost use Rattle.run_laws.specs.Turns.{AttachIsStep, TurnIsStep, BusyTurnsSuffice};
 
 /// Whatever the turns, the cut, the flips and the failures of a boot, its notes are a history of one thread whose traces are
 /// what befell the chips, and each session's operations are those of its commands, in order and each once.
@@ -26,6 +26,12 @@ pub fn every_run<W>()
 /// A chip's replies depend on that chip alone.
 pub fn chips_stand_alone<W>()
     ensures { (model : FaultModel W) → RepliesDependOnTheChip model }
+{}
+
+/// An attach step of a course changes nothing where the controller is dark or all chips are attached, and is else one page event.
+pub fn attach_steps_are_events<W>()
+    ensures { (model : FaultModel W) (boot : Boot) (starts : List (ChipState W)) (sizes : Command → Geometry) (attaches : ℕ) (turns : List ℕ) →
+        AttachIsStep model boot sizes (course_after model boot starts attaches turns) }
 {}
 
 /// A turn of a session changes nothing where it is idle, and is else one step: an operation begins, or one page event is done,

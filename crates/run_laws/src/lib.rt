@@ -3,4 +3,6 @@
 
 mod laws;
 
-pub use laws::{chips_stand_alone, every_interleaving, every_run, turns_are_steps};
+pub use laws::{
+    attach_steps_are_events, chips_stand_alone, every_interleaving, every_run, turns_are_steps,
+};
