@@ -16,7 +16,7 @@ use Rattle.run_model.specs.History.{LastChips, events_in, notes_of_event, notes_
 use Rattle.run_model.specs.Log.{Log, befalls, torn_by_cut}
 use Rattle.run_model.specs.Laws.{ops_in, replies_in, IsCalm}
 
--- nothing but whole events
+-- nothing but complete events
 abbrev pub IsPlain : List (ℕ × ChipEvent) → Type 0
 IsPlain [] = ⊤
 IsPlain ((n, Complete e) ∷ trace) = IsPlain trace
@@ -35,7 +35,7 @@ plain_right ((n, Complete e) ∷ xs) ys h = plain_right xs ys h
 plain_right ((n, PowerCut e done) ∷ xs) ys h = absurd h
 plain_right ((n, Flipped page bit) ∷ xs) ys h = absurd h
 
--- without flips and a cut a chip has nothing but whole events
+-- without flips and a cut a chip has nothing but complete events
 pub calm_is_plain : (boot : Boot) (k raw n : ℕ) (log : Log) → IsCalm boot → IsPlain (befalls boot k raw n log)
 calm_is_plain boot k raw n [] c = tt
 calm_is_plain boot k raw n (x ∷ log) c =

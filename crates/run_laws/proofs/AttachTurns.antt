@@ -8,7 +8,7 @@ use Rattle.nand_model.specs.declared.tear.Tear.{Tear}
 use Rattle.nand_model.specs.declared.words.Command.{Command}
 use Rattle.nand_model.specs.declared.words.Note.{Note}
 use Rattle.nand_model.specs.Chip.{ChipState, FaultModel, ChipEvent, PageEvent}
-use Rattle.nand_model.specs.Path.{Path, Over, Then, after_answers, first_event, result_of}
+use Rattle.nand_model.specs.Path.{after_answers, result_of}
 use Rattle.nand_model.specs.Attach.{attach_path}
 use Rattle.nand_model.specs.Operation.{Known}
 use Rattle.nand_model.specs.ChipRun.{ChipRun, Pending, next_event_by}
@@ -16,15 +16,11 @@ use Rattle.run_model.specs.Course.{Boot, Course, unattached, tear_at, with_flips
 use Rattle.run_model.specs.History.{notes_of_chip, events_in}
 use Rattle.run_laws.specs.Turns.{AttachIsStep}
 use Rattle.run_laws.proofs.Traces.{geometry_after}
+use Rattle.run_laws.proofs.Paths.{event_by}
 use Rattle.run_laws.proofs.Places.{position_is}
 use Rattle.run_laws.proofs.Life.{ChipLawAt}
 use Rattle.run_laws.proofs.Courses.{rest_of, due_rest, place_start, LawOf, by_log, IsLive, Holds}
 use Rattle.run_laws.proofs.Faithful.{course_holds}
-
--- a path without a result has a next event
-event_by : {A : Type 0} (path : Path A) → result_of path ≡ None → (event : PageEvent) × (first_event path ≡ Some event)
-event_by (Over result) h = absurd (none-some result (sym h))
-event_by (Then event rest) h = (event, refl)
 
 module _ {W : Type 0} (model : FaultModel W) (boot : Boot) (starts : List (ChipState W)) (sizes : Command → Geometry) (course : Course W) where
   -- a chip that is not attached has a next event

@@ -122,7 +122,7 @@ module _ {W : Type 0} (model : FaultModel W) (partitions : Partitions) where
       (flip_all k s (record c { chip = happens model c.chip (Flipped page bit) }) notes (whole ++ (n, Flipped page bit) ∷ []) n page bits
       (flip_one k s c notes whole c.known c.pending n page bit a))
 
-  -- a whole event of an attach, after which another follows
+  -- a complete event of an attach, after which another follows
   pub attach_more : (k : ℕ) (s : ChipState W) (c : ChipRun W) (notes : List Note) (whole : List (ℕ × ChipEvent)) (n : ℕ) (e : PageEvent) (after : ChipRun W)
       → IsAttaching model partitions k s c notes whole → next_event (attach_path s.geometry) c.attach_answers ≡ Some e
       → result_of (after_answers (c.attach_answers ++ answer_to model c.chip e ∷ []) (attach_path s.geometry)) ≡ None
@@ -210,7 +210,7 @@ module _ {W : Type 0} (model : FaultModel W) (partitions : Partitions) where
       → next_event (operation_path c.chip.geometry partitions known pending.op) pending.answers ≡ o → next_event (operation_path a.rested.geometry partitions known pending.op) pending.answers ≡ o
   next_here k s c known pending notes whole o a h = subst (λ g. next_event (operation_path g partitions known pending.op) pending.answers ≡ o) (performing_geometry k s c known pending notes whole a) h
 
-  -- a whole event of an operation
+  -- a complete event of an operation
   pub performs_on : (k : ℕ) (s : ChipState W) (c : ChipRun W) (known : Known) (pending : Pending) (notes : List Note) (whole : List (ℕ × ChipEvent)) (n : ℕ) (e : PageEvent)
       → IsPerforming model partitions k s c known pending notes whole → next_event (operation_path c.chip.geometry partitions known pending.op) pending.answers ≡ Some e
       → IsPerforming model partitions k s (record c { chip = happens model c.chip (Complete e); pending = Some (record pending { answers = pending.answers ++ answer_to model c.chip e ∷ [] }) }) known

@@ -24,7 +24,7 @@ use Rattle.run_laws.proofs.Life.{ChipLaw, ChipEnd}
 use Rattle.run_laws.proofs.ChipSteps.{flip_all, chip_end_at}
 use Rattle.run_laws.proofs.Sessions.{SessionLaw, nowhere}
 
--- both lists have a chip at this place, of which P holds, or neither has
+-- both lists have a chip at this place, and P holds of it, or neither has one
 abbrev pub AtPlace : {W : Type 0} → (ChipState W → ChipRun W → List Note → Type 0) → List Note → Option (ChipState W) → Option (ChipRun W) → Type 0
 AtPlace P notes None None = ⊤
 AtPlace P notes (Some s) (Some c) = P s c notes
@@ -238,7 +238,7 @@ module _ {W : Type 0} (model : FaultModel W) (boot : Boot) (starts : List (ChipS
   pub due_asked : (chips : List (ChipRun W)) (n : ℕ) → asked_at (with_flips_before model boot n chips) ≡ asked_at chips
   due_asked chips n = fun_ext (λ j. asked_rest _ ∙ ap rest_asked (due_rest chips n j) ∙ sym (asked_rest _))
 
-  -- chip k changes, and its pending stays
+  -- chip k changes, and which operation is pending there stays
   pub same_asked : (chips : List (ChipRun W)) (k : ℕ) (f : ChipRun W → ChipRun W) → ((c : ChipRun W) → slice_get chips k ≡ Some c → asked_by (f c).pending ≡ asked_by c.pending) → asked_at (change_at chips k f) ≡ asked_at chips
   same_asked chips k f h = fun_ext (λ j. by_case j (cases_eq k j))
     where

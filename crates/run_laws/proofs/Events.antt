@@ -117,7 +117,7 @@ module _ {W : Type 0} (model : FaultModel W) (partitions : Partitions) where
   cut_law k n s c e done notes whole (Some known) None a h = absurd (none-some e h)
   cut_law k n s c e done notes whole (Some known) (Some pending) a h = operation_cut model partitions k s c known pending notes whole n e done a h
 
-  -- who is in the asked_at stays so
+  -- which operation is pending stays so
   advance_asked : (k : ℕ) (s : ChipState W) (c : ChipRun W) (after : ChipState W) (answer : Answer) (notes : List Note) (whole : List (ℕ × ChipEvent)) (known : Option Known) (pending : Option Pending)
       → c.pending ≡ pending → ChipLawAt model partitions k s c notes whole known pending → asked_by (answered_by c after answer known).pending ≡ asked_by c.pending
   advance_asked k s c after answer notes whole None pending y a = sym (ap asked_by a.idle)

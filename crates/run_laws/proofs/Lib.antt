@@ -1,6 +1,7 @@
 pub mod Traces
 pub mod ChipNotes
 pub mod Places
+pub mod Paths
 pub mod Logs
 pub mod Life
 pub mod Sessions

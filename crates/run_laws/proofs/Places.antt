@@ -1,7 +1,7 @@
 -- Lists with the item at a place changed, and the place that a search finds.
-use Rattle.std.proofs.Common.{◌≡◌, ◌<◌, ◌≤◌, ◌⊎◌, inl, inr, ltb, get_or, not, arith, ℕ, zero, suc, ◌+◌, Bool, true, false, List, [], ◌∷◌, length, Some, None, refl, ap, sym, ◌∙◌, subst, cond}
-use Rattle.std.specs.Prelude.{slice_get, position, option_map}
-use Rattle.std.proofs.lemmas.Bool.{ltb-true, lt-ltb, cond-true, false_from_ne_true}
+use Rattle.std.proofs.Common.{◌≡◌, ◌<◌, ◌≤◌, ◌⊎◌, inl, inr, ltb, get_or, not, arith, ℕ, zero, suc, ◌+◌, Bool, true, false, List, [], ◌∷◌, length, Option, Some, None, refl, ap, sym, ◌∙◌, subst, cond}
+use Rattle.std.specs.Prelude.{slice_get, position, option_map, is_some}
+use Rattle.std.proofs.lemmas.Bool.{ltb-true, lt-ltb, cond-true, false_from_ne_true, false≢true}
 use Rattle.std.proofs.lemmas.Option.{cond_some, slice_get_cases, none-some, same_Some}
 use Rattle.std.proofs.lemmas.List.Quantifiers.{position-Some}
 use Rattle.std.specs.List.{position_or_len}
@@ -47,3 +47,7 @@ pub length-change : {A : Type 0} (xs : List A) (k : ℕ) (f : A → A) → lengt
 length-change [] k f = refl
 length-change (x ∷ xs) zero f = refl
 length-change (x ∷ xs) (suc k) f = ap suc (length-change xs k f)
+
+pub none_there : {A : Type 0} (o : Option A) → is_some o ≡ false → o ≡ None
+none_there None h = refl
+none_there (Some x) h = absurd (false≢true (sym h))

@@ -11,13 +11,14 @@ use Rattle.nand_model.specs.declared.words.Op.TheVariants.{Read, Write, RawRead,
 use Rattle.nand_model.specs.declared.words.Reply.{Reply}
 use Rattle.nand_model.specs.Sizes.{raw_len}
 use Rattle.nand_model.specs.Chip.{ChipState, FaultModel, ChipEvent, after_trace}
-use Rattle.nand_model.specs.Path.{Path, Over, Then, GoesAlong, answers_of, is_uncut, after_answers, first_event, next_event, result_of}
+use Rattle.nand_model.specs.Path.{Path, GoesAlong, answers_of, is_uncut, after_answers, first_event, next_event, result_of}
 use Rattle.nand_model.specs.Attach.{Attaching, attach_path}
 use Rattle.nand_model.specs.Operation.{Partitions, part_of, Known, Finished, operation_in, operation_by, operation_path, device_of}
 use Rattle.nand_model.specs.ChipRun.{known_at_first}
 use Rattle.run_model.specs.Course.{chip_of, chip_of_part, course_after}
 use Rattle.run_model.specs.History.{OperationTrace, ChipBoot, events_in, notes_of_trace, notes_of_operation, answer_note, attach_outcome, outcome_if, known_then, IsOperationTrace, AreOperationTraces, GoesOn, IsChipHistory}
 use Rattle.run_model.specs.Laws.{ops_in, replies_in, AgreeAsFar, IsSamePart, SamePartitions, RepliesDependOnTheChip}
+use Rattle.run_laws.proofs.Paths.{over_has_no_event}
 use Rattle.run_laws.proofs.Life.{traces_of}
 use Rattle.run_laws.proofs.Sessions.{nowhere}
 use Rattle.run_laws.proofs.Faithful.{course_holds, log_of, LifeLaw, life_at}
@@ -47,11 +48,6 @@ same_paths j k (Some p) (Some q) same on g h op =
     let s = same (eq-eqb _ _ (same_Some _ _ on)) in
     path_bare g h p op ∙ ap (λ (m : ℕ). operation_in g h (record { chip = 0; start = m; count = p.count }) op) (sym s.1)
     ∙ ap (λ (m : ℕ). operation_in g h (record { chip = 0; start = q.start; count = m }) op) (sym s.2) ∙ sym (path_bare g h q op)
-
--- a path that is over has no event
-over_has_no_event : {A : Type 0} (path : Path A) (result : A) → result_of path ≡ Some result → first_event path ≡ None
-over_has_no_event (Over a) result h = refl
-over_has_no_event (Then event rest) result h = absurd (none-some result h)
 
 -- an attach has come to its outcome by its answers
 outcome_over : (uncut : Bool) (result : Option Attaching) (attaching : Attaching) → outcome_if uncut result ≡ Some attaching → result ≡ Some attaching

@@ -12,7 +12,7 @@ use Rattle.nand_model.specs.ChipRun.{ChipRun, Pending, next_chip_event, with_pen
 use Rattle.run_model.specs.Course.{Boot, Course, change_at, with_flips_before, chip_of, next_op, session_run, unattached, pending_chip, is_pending_of, began, finish, with_answer, is_idle, turn_unless, event_or_answer, chip_step, begin_on, begin_at, begin_step, session_step, turn_step, attach_first, attach_step, sizes_of}
 use Rattle.run_model.specs.History.{notes_of_chip}
 use Rattle.run_laws.proofs.ChipNotes.{of_chips-append, lasts, AreOf, one_is_of}
-use Rattle.run_laws.proofs.Places.{position_none, change_here, change_elsewhere}
+use Rattle.run_laws.proofs.Places.{none_there, position_none, change_here, change_elsewhere}
 use Rattle.run_laws.proofs.Life.{ChipLaw, ChipLawAt}
 use Rattle.run_laws.proofs.ChipSteps.{operation_begins, operation_answered}
 use Rattle.run_laws.proofs.Sessions.{nowhere, session_begins, session_answered}
@@ -159,10 +159,6 @@ module _ {W : Type 0} (model : FaultModel W) (boot : Boot) (starts : List (ChipS
       → (o : Option ℕ) → pending_chip course session ≡ o → Holds model boot starts (session_step model boot (sizes_of boot starts) course session o)
   session_holds course session live all (Some k) e = chip_holds course k live (slice_get course.chips k) refl
   session_holds course session live all None e = begin_holds course session live all e (next_op (sizes_of boot starts) (session_run course session)) refl
-
-  none_there : (o : Option ℕ) → is_some o ≡ false → o ≡ None
-  none_there None h = refl
-  none_there (Some k) h = absurd (false≢true (sym h))
 
   pub turn_step_holds : (course : Course W) (session : ℕ) → Holds model boot starts course → Holds model boot starts (turn_step model boot (sizes_of boot starts) course session)
   turn_step_holds course session holds = by_idle (is_idle boot.partitions (sizes_of boot starts) course session) refl holds

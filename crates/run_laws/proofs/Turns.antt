@@ -9,21 +9,17 @@ use Rattle.nand_model.specs.declared.words.Command.{Command}
 use Rattle.nand_model.specs.declared.words.Op.{Op}
 use Rattle.nand_model.specs.declared.words.Note.TheVariants.{Answered}
 use Rattle.nand_model.specs.Chip.{ChipState, FaultModel, PageEvent}
-use Rattle.nand_model.specs.Path.{Path, Over, Then, first_event, result_of}
 use Rattle.nand_model.specs.Operation.{Known, Finished, device_of}
 use Rattle.nand_model.specs.ChipRun.{ChipRun, Pending, next_event_by, next_chip_event, finished_by}
 use Rattle.run_model.specs.Course.{Boot, Course, chip_of, can_begin, is_free_at, is_free, is_idle, is_pending_of, pending_chip, unattached, began, next_op, session_run, tear_at, with_flips_before, with_answer, finish, event_done, event_on, event_or_answer, chip_step, begin_on, begin_at, begin_step, session_step, turn_unless, turn_step, sizes_of}
 use Rattle.run_laws.specs.Turns.{IsStep, Begins, DoesEvent, Answers, TurnIsStep, busy_turns, BusyTurnsSuffice}
-use Rattle.run_laws.proofs.Places.{position_is, position_none}
+use Rattle.run_laws.proofs.Paths.{result_by}
+use Rattle.run_laws.proofs.Places.{none_there, position_is, position_none}
 use Rattle.run_laws.proofs.Courses.{rest_of, due_rest}
 
 not_false : (b : Bool) → not b ≡ false → b ≡ true
 not_false true h = refl
 not_false false h = absurd (false≢true (sym h))
-
-none_there : {A : Type 0} (o : Option A) → is_some o ≡ false → o ≡ None
-none_there None h = refl
-none_there (Some x) h = absurd (false≢true (sym h))
 
 module _ {W : Type 0} (model : FaultModel W) (boot : Boot) (sizes : Command → Geometry) (course : Course W) (session : ℕ) where
   begin_is_step : (k : ℕ) (op : Op) (o : Option (ChipRun W)) → is_free o ≡ true → IsStep session course (begin_on model boot course session op k o)
@@ -46,11 +42,6 @@ module _ {W : Type 0} (model : FaultModel W) (boot : Boot) (sizes : Command → 
   event_is_step chips k n c e None h = DoesEvent _ (append_assoc course.notes _ _) h
   event_is_step chips k n c e (Some tear) h = DoesEvent _ refl h
 
-  -- a path without a next event has its result
-  over_by : {A : Type 0} (path : Path A) → first_event path ≡ None → (result : A) × (result_of path ≡ Some result)
-  over_by (Over result) h = (result, refl)
-  over_by (Then event rest) h = absurd (none-some event (sym h))
-
   -- the chip on which the session has its pending operation
   chip_is_step : (k : ℕ) (c : ChipRun W) → slice_get course.chips k ≡ Some c → unattached course ≡ None → is_pending_of session c.pending ≡ true → IsStep session course (chip_step model boot sizes course k (Some c))
   chip_is_step k c at all asks = by_event (next_chip_event boot.partitions c) refl
@@ -69,7 +60,7 @@ module _ {W : Type 0} (model : FaultModel W) (boot : Boot) (sizes : Command → 
       by_pending None pending knows mine over = absurd (false≢true (sym knows))
       by_pending (Some known) None knows mine over = absurd (false≢true mine)
       by_pending (Some known) (Some pending) knows mine over =
-          let r = over_by _ over in by_result pending (finished_by boot.partitions c known pending) mine r.0 r.1
+          let r = result_by _ over in by_result pending (finished_by boot.partitions c known pending) mine r.0 r.1
 
       by_event : (o : Option PageEvent) → next_chip_event boot.partitions c ≡ o → IsStep session course (event_or_answer model boot sizes course k c o)
       by_event (Some e) h = by_flips e (slice_get (with_flips_before model boot (course.events + 1) course.chips) k) refl
