@@ -23,7 +23,8 @@ pub fn every_run<W>()
         RunsAreFaithful model partitions starts boots courses }
 {}
 
-/// A chip's replies depend on that chip alone.
+/// A chip's replies depend on that chip alone: where it starts alike in two boots without flips and cuts, with the same partitions,
+/// the same operations in order are answered alike.
 pub fn chips_stand_alone<W>()
     ensures { (model : FaultModel W) → RepliesDependOnTheChip model }
 {}
