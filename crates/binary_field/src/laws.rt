@@ -1,5 +1,5 @@
 // The laws of a field, for code above to cite.
-ghost use Rattle.std.specs.Prelude.{◌≡◌, ◌≢◌, ◌<◌, ◌-◌, ◌^◌, ℕ, bit_xor};
+ghost use Rattle.std.specs.Prelude.{◌≡◌, ◌<◌, ◌-◌, ◌^◌, ℕ, bit_xor};
 ghost use Rattle.code_model.specs.Binary.{times, power};
 
 use crate::field::BinaryField;
@@ -37,8 +37,8 @@ pub fn inverse_laws<F: BinaryField>()
 /// The powers of x below 2^m - 1 differ, are all elements other than 0, and then begin again with 1.
 pub fn power_laws<F: BinaryField>()
     ensures returns { power F.DEGREE F.MODULUS 2 (2 ^ F.DEGREE - 1) ≡ 1 }
-    ensures differ { (i j : ℕ) → i < j → j < 2 ^ F.DEGREE - 1
-        → power F.DEGREE F.MODULUS 2 i ≢ power F.DEGREE F.MODULUS 2 j }
+    ensures differ { (i j : ℕ) → i < 2 ^ F.DEGREE - 1 → j < 2 ^ F.DEGREE - 1
+        → power F.DEGREE F.MODULUS 2 i ≡ power F.DEGREE F.MODULUS 2 j → i ≡ j }
     ensures all { (a : ℕ) → 0 < a → a < 2 ^ F.DEGREE
         → (n : ℕ) × (n < 2 ^ F.DEGREE - 1) × (power F.DEGREE F.MODULUS 2 n ≡ a) }
 {}

@@ -1,10 +1,11 @@
 -- Powers of x by squaring and one after another.
-use Rattle.std.proofs.Common.{◌≡◌, ◌≢◌, ℕ, suc, ◌+◌, ◌-◌, ◌*◌, ◌/◌, ◌%◌, ◌^◌, ◌<◌, sym, ap, ap₂, ◌∙◌, arith}
+use Rattle.std.proofs.Common.{◌≡◌, ◌≢◌, ℕ, suc, ◌+◌, ◌-◌, ◌*◌, ◌/◌, ◌%◌, ◌^◌, ◌<◌, sym, ap, ap₂, ◌∙◌, arith, inl, inr}
 use Rattle.std.specs.Prelude.{bit_and}
 use Rattle.std.proofs.lemmas.Nat.{and_mask}
+use Rattle.std.proofs.lemmas.Bool.{cases_eq, cases_lt}
 use Rattle.code_model.specs.Binary.{times, power, reduced, IsPrimitive}
 use Rattle.code_model.proofs.CodeLemmas.{shr_digit}
-use Rattle.code_model.proofs.FieldLemmas.{times-x, power-add, power-lt, logarithm}
+use Rattle.code_model.proofs.FieldLemmas.{times-x, power-add, power-lt, powers_differ, logarithm}
 
 module _ (m f : ℕ) (p : IsPrimitive m f) where
   pub power-double : (a n : ℕ) → power m f a (2 * n) ≡ times m f (power m f a n) (power m f a n)
@@ -35,3 +36,10 @@ module _ (m f : ℕ) (p : IsPrimitive m f) where
   -- an element other than 0 is one of the powers below 2^m - 1
   pub not_none : (a : ℕ) → 0 < a → a < 2 ^ m → ((k : ℕ) → k < 2 ^ m - 1 → power m f 2 k ≢ a) → ⊥
   not_none a not_zero small none = let l = logarithm m f p a not_zero small in none l.0 l.1 l.2
+
+  -- powers below 2^m - 1 are equal only where their exponents are
+  pub same_exponent : (i j : ℕ) → i < 2 ^ m - 1 → j < 2 ^ m - 1 → power m f 2 i ≡ power m f 2 j → i ≡ j
+  same_exponent i j h k e = elim (cases_eq i j) [
+    | inl same ↦ same
+    | inr ne ↦ elim (cases_lt i j) [ inl below ↦ absurd (powers_differ m f p i j below k e) | inr above ↦ absurd (powers_differ m f p j i (omega arith) h (sym e)) ]
+  ]
