@@ -1,13 +1,13 @@
 -- The BCH bound for a code, and that the search finds what a decoder answers.
-use Rattle.std.proofs.Common.{◌≡◌, ◌≢◌, ℕ, zero, suc, ◌+◌, ◌-◌, ◌*◌, ◌^◌, ◌<◌, ◌≤◌, List, [], ◌∷◌, length, refl, sym, ap, ap₂, ◌∙◌, subst, arith, true, false, Bool, cond, inl, inr, ◌&&◌, Option, Some, None}
+use Rattle.std.proofs.Common.{◌≡◌, ℕ, zero, suc, ◌+◌, ◌*◌, ◌<◌, ◌≤◌, List, [], ◌∷◌, length, refl, sym, ap, ap₂, ◌∙◌, subst, arith, true, false, Bool, cond, inl, inr, ◌&&◌, Option, Some, None}
 use Rattle.std.specs.Prelude.{nat_eq, nat_lt, bit_xor}
 use Rattle.std.specs.List.{list_all, find}
 use Rattle.std.proofs.lemmas.Bool.{cases_eq, cases_lt}
 use Rattle.std.proofs.lemmas.Bool.Decides.{nat_tests}
-use Rattle.code_model.specs.Binary.{product, remainder, IsPrimitive}
+use Rattle.code_model.specs.Binary.{product, remainder}
 use Rattle.code_model.specs.Poly.{Every}
 use Rattle.code_model.specs.Word.{number_from, AreBits, distance}
-use Rattle.code_model.specs.Code.{Code, word_bits, parity_bits, generator, IsBchCode, IsCodeWord, IsNearest, NoneNear, Decodes, is_code_word, words_at, found_or, nearest_from, nearest}
+use Rattle.code_model.specs.Code.{Code, word_bits, parity_bits, generator, IsBchCode, IsCodeWord, Decodes, is_code_word, words_at, found_or, nearest_from, nearest}
 use Rattle.code_model.proofs.BinaryLemmas.{remainder-multiple, quotient}
 use Rattle.code_model.proofs.ValueLemmas.{bound}
 use Rattle.code_model.proofs.RootLemmas.{generator-roots, generator-degree}

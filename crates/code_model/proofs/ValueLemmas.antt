@@ -2,7 +2,6 @@ use Rattle.std.proofs.Common.{◌≡◌, ◌≢◌, ℕ, zero, suc, ◌+◌, ◌
 use Rattle.std.specs.Prelude.{bit_xor, nat_eq}
 use Rattle.std.proofs.lemmas.Nat.{xor_lt}
 use Rattle.std.proofs.lemmas.Bool.{cases_eq}
-use Rattle.std.proofs.lemmas.Bool.Decides.{nat_tests}
 use lib.Bits.{xor_assoc, xor_zero_r}
 use Rattle.code_model.specs.Binary.{product, times, power, value_at, IsPrimitive}
 use Rattle.code_model.specs.Generator.{generator_of, minimal_of}
