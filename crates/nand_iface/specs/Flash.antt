@@ -1,0 +1,14 @@
+-- What the calls of a flash chip ask, and what their failures show.
+use Rattle.std.specs.Prelude.{◌≡◌, ℕ, ◌<◌, ◌≤◌, List, length}
+use Rattle.nand_model.specs.Chip.{saturating_increment}
+use Rattle.nand_model.specs.Sizes.{page_count, raw_len}
+use Rattle.nand_model.specs.declared.geometry.Geometry.{Geometry}
+
+-- a page of the chip, and bytes for a whole page
+pub record FitsPage (g : Geometry) (page : ℕ) (bytes : List ℕ) : Type 0 where
+  pub page_there : page < page_count g
+  pub length_right : length bytes ≡ raw_len g
+
+-- a count of faults went up, or stands at the last value of 64 bits
+abbrev pub HasRisen : ℕ → ℕ → Type 0
+HasRisen before now = saturating_increment before ≤ now
