@@ -1,6 +1,6 @@
 // A field of polynomials over two elements, modulo a primitive polynomial.
-ghost use Rattle.std.specs.Prelude.{◌≡◌, ◌<◌, ◌≤◌, ◌*◌, ◌+◌, ◌^◌, ℕ};
-ghost use Rattle.code_model.specs.Binary.{reduced, times, IsPrimitive};
+ghost use Rattle.std.specs.Prelude.{◌≡◌, ◌<◌, ◌≤◌, ◌+◌, ◌-◌, ◌*◌, ◌^◌, ℕ};
+ghost use Rattle.code_model.specs.Binary.{reduced, times, power, IsPrimitive};
 
 /// A field of at most 2^14 elements: polynomials over two elements of degree below `DEGREE`, modulo a primitive polynomial of that degree. Bit k of a number is the coefficient of x^k.
 pub trait BinaryField {
@@ -17,10 +17,11 @@ pub trait BinaryField {
     ghost small: { DEGREE ≤ 14 };
 }
 
-// The product by x.
-fn doubled<F: BinaryField>(a: u16) -> u16
+/// The product by x of an element, of degree below `F::DEGREE`.
+pub fn doubled<F: BinaryField>(a: u16) -> u16
     requires { a < 2 ^ F.DEGREE }
-    ensures { result ≡ reduced F.DEGREE F.MODULUS (2 * a) }
+    ensures value { result ≡ reduced F.DEGREE F.MODULUS (2 * a) }
+    ensures small { result < 2 ^ F.DEGREE }
 {
     let twice = a * 2;
     if twice >> F::DEGREE == 1 {
@@ -45,4 +46,52 @@ pub fn product<F: BinaryField>(a: u16, b: u16) -> u16
         }
     }
     sum
+}
+
+/// The inverse of an element other than 0: its power 2^m - 2, where m is `F::DEGREE`.
+pub fn inverse<F: BinaryField>(a: u16) -> u16
+    requires not_zero { 0 < a }
+    requires small { a < 2 ^ F.DEGREE }
+    ensures value { times F.DEGREE F.MODULUS a result ≡ 1 }
+    ensures small { result < 2 ^ F.DEGREE }
+{
+    let mut square = a;
+    let mut all = 1u16;
+    for i in 1u32..F::DEGREE {
+        square = product::<F>(square, square);
+        all = product::<F>(all, square);
+    }
+    all
+}
+
+/// The n-th power of x, by squaring.
+pub fn power_of_x<F: BinaryField>(n: u32) -> u16
+    ensures value { result ≡ power F.DEGREE F.MODULUS 2 n }
+    ensures small { result < 2 ^ F.DEGREE }
+{
+    let mut power = 1u16;
+    for i in 0u32..32u32 {
+        power = product::<F>(power, power);
+        if (n >> (31 - i)) & 1 == 1 {
+            power = doubled::<F>(power);
+        }
+    }
+    power
+}
+
+/// The logarithm of an element other than 0 to the base x, by trying the powers one after another.
+pub fn logarithm<F: BinaryField>(a: u16) -> u32
+    requires not_zero { 0 < a }
+    requires small { a < 2 ^ F.DEGREE }
+    ensures value { power F.DEGREE F.MODULUS 2 result ≡ a }
+    ensures small { result < 2 ^ F.DEGREE - 1 }
+{
+    let mut power = 1u16;
+    for n in 0u32..(1 << F::DEGREE) - 1 {
+        if power == a {
+            return n;
+        }
+        power = doubled::<F>(power);
+    }
+    0
 }

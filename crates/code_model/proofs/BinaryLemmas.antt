@@ -141,7 +141,7 @@ xor_top_both m a b p q s t =
     omega (arith, e, xor_lt m (a - 2 ^ m) (b - 2 ^ m) (omega arith) (omega arith))
 
 -- one top coefficient stays, with the rest below it
-xor_top_one : (m a b : ℕ) → a < 2 * 2 ^ m → b < 2 ^ m → 2 ^ m ≤ a → (2 ^ m ≤ bit_xor a b) × (bit_xor a b < 2 * 2 ^ m)
+pub xor_top_one : (m a b : ℕ) → a < 2 * 2 ^ m → b < 2 ^ m → 2 ^ m ≤ a → (2 ^ m ≤ bit_xor a b) × (bit_xor a b < 2 * 2 ^ m)
 xor_top_one m a b p q s =
     let e : bit_xor a b ≡ 1 * 2 ^ m + bit_xor (a - 2 ^ m) b =
     (let z : 0 * 2 ^ m + b ≡ b = omega arith in

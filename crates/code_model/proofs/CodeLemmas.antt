@@ -15,7 +15,7 @@ pub times-zero_left : (m f b : ℕ) → times m f 0 b ≡ 0
 times-zero_left m f b = times_comm m f 0 b ∙ times-zero m f b
 
 -- the next lower digit of a
-shr_digit : (a k : ℕ) → 2 * (a / 2 ^ suc k) + a / 2 ^ k % 2 ≡ a / 2 ^ k
+pub shr_digit : (a k : ℕ) → 2 * (a / 2 ^ suc k) + a / 2 ^ k % 2 ≡ a / 2 ^ k
 shr_digit a k =
     let e : a / 2 ^ suc k ≡ a / 2 ^ k / 2 = sym (shr-shr a k 1 ∙ ap (λ x. a / 2 ^ x) (omega arith)) in
     omega arith

@@ -1,6 +1,6 @@
 use Rattle.std.proofs.Common.{◌≡◌, ℕ, suc, ◌+◌, ◌-◌, ◌*◌, ◌^◌, ◌<◌, refl, sym, ap, ap₂, ◌∙◌, arith}
 use Rattle.code_model.specs.Binary.{times, power, IsPrimitive}
-use Rattle.code_model.proofs.BinaryLemmas.{times_comm, times-one}
+use Rattle.code_model.proofs.BinaryLemmas.{times_comm, times_assoc, times-one}
 use Rattle.code_model.proofs.FieldLemmas.{power-add, power-order}
 use Rattle.std.proofs.Math.Nat.{pow-suc}
 use Rattle.std.proofs.lemmas.Nat.{pow_pos}
@@ -34,3 +34,8 @@ module _ (m f : ℕ) (p : IsPrimitive m f) where
   times-inverse a r n h k e er =
       let s : suc n ≡ 2 ^ m - 1 = omega arith in
       times_comm m f a r ∙ ap (λ x. times m f x a) er ∙ ap (power m f a) s ∙ power-order m f p a h k
+
+  pub inverse_unique : (a b d : ℕ) → b < 2 ^ m → d < 2 ^ m → times m f a b ≡ 1 → times m f a d ≡ 1 → b ≡ d
+  inverse_unique a b d h k e e' =
+      sym (times-one m f b h) ∙ ap (times m f b) (sym e') ∙ sym (times_assoc m f b a d p.low p.high) ∙ ap (λ x. times m f x d) (times_comm m f b a ∙ e)
+      ∙ times_comm m f 1 d ∙ times-one m f d k

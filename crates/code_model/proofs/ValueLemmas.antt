@@ -2,7 +2,6 @@ use Rattle.std.proofs.Common.{◌≡◌, ◌≢◌, ℕ, zero, suc, ◌+◌, ◌
 use Rattle.std.specs.Prelude.{bit_xor, nat_eq}
 use Rattle.std.proofs.lemmas.Nat.{xor_lt}
 use Rattle.std.proofs.lemmas.Bool.{cases_eq}
-use Rattle.std.proofs.lemmas.Bool.Decides.{nat_tests}
 use lib.Bits.{xor_assoc, xor_zero_r}
 use Rattle.code_model.specs.Binary.{product, times, power, value_at, IsPrimitive}
 use Rattle.code_model.specs.Generator.{generator_of, minimal_of}
@@ -11,6 +10,7 @@ use Rattle.code_model.specs.Word.{number_from, AreBits, IsMultiple, differences,
 use Rattle.code_model.proofs.BitsLemmas.{by_bits, bits_fold-zero, bits_fold-digit, xor_digit, xor_swap}
 use Rattle.code_model.proofs.BinaryLemmas.{times-lt, times_comm, times_assoc, times-xor_right, times-one, times-zero, product-zero_left, product-digit}
 use Rattle.code_model.proofs.FieldLemmas.{power-lt, power-mul, power_not-zero, powers_differ}
+use Rattle.code_model.proofs.DistanceLemmas.{same_from_none}
 use Rattle.code_model.proofs.KeyEquation.{errors, ArePlaces, none_from_moments}
 use Rattle.code_model.proofs.Instances.{domain_from_primitive}
 use Rattle.std.proofs.Math.Nat.{mul_comm}
@@ -214,25 +214,6 @@ module _ (m f : ℕ) (p : IsPrimitive m f) where
   unfolding places
   length-places [] = refl
   length-places (k ∷ ks) = ap suc (length-places ks)
-
-  pub same_from_none : (xs ys : List ℕ) → length xs ≡ length ys → length (differences xs ys) ≡ 0 → xs ≡ ys
-  unfolding differences
-  same_from_none [] [] e z = refl
-  same_from_none [] (y ∷ ys) e z = cc
-  same_from_none (x ∷ xs) [] e z = cc
-  same_from_none (x ∷ xs) (y ∷ ys) e z = elim (cases_eq x y) [
-    | inl q ↦ ap₂ (λ v vs. v ∷ vs) q (same_from_none xs ys (omega arith) (subst (λ b. length (cond b (differences xs ys) (length xs ∷ differences xs ys)) ≡ 0) (test_true x y q) z))
-    | inr ne ↦ absurd (not_empty (subst (λ b. length (cond b (differences xs ys) (length xs ∷ differences xs ys)) ≡ 0) (test_false x y ne) z))
-  ]
-    where
-      test_true : (x y : ℕ) → x ≡ y → nat_eq x y ≡ true
-      test_true x y q = search (arith, nat_tests)
-
-      test_false : (x y : ℕ) → x ≢ y → nat_eq x y ≡ false
-      test_false x y q = search (arith, nat_tests)
-
-      not_empty : (suc (length (differences xs ys)) ≡ 0) → ⊥
-      not_empty q = omega arith
 
   -- two code words that differ in at most w places are equal, where the generator has w neighbouring powers as roots
   pub bound : (t w : ℕ) (xs ys : List ℕ) → ((j : ℕ) → 0 < j → j ≤ w → value_at m f (power m f 2 j) (generator_of m f t) ≡ 0)

@@ -1,7 +1,7 @@
 -- BCH codes over steps of bytes, and the code word nearest to a word. Generator, order of bits and mask are those of lib/bch and of nand_ecc's software BCH.
 use Rattle.std.specs.Prelude.{◌≡◌, ℕ, zero, suc, ◌+◌, ◌-◌, ◌*◌, ◌/◌, ◌^◌, ◌<◌, ◌≤◌, Bool, ◌&&◌, nat_eq, nat_lt, List, [], ◌∷◌, ◌++◌, length, map, replicate, Option, Some, None, find, bit_xor}
 use Rattle.std.specs.List.{list_all}
-use Rattle.code_model.specs.Binary.{remainder}
+use Rattle.code_model.specs.Binary.{remainder, IsPrimitive}
 use Rattle.code_model.specs.Generator.{generator_of}
 use Rattle.code_model.specs.Word.{number_from, AreBits, IsMultiple, distance}
 use Rattle.code_model.specs.Bits.{bits_of, bytes_of, xor_bytes}
@@ -46,6 +46,11 @@ pub record IsCodeWord (code : Code) (word : List ℕ) : Type 0 where
   pub long : length word ≡ word_bits code
   pub bits : AreBits word
   pub multiple : IsMultiple code.degree code.modulus code.strength word
+
+-- the code is a BCH code: its modulus is primitive, and its words are shorter than 2^m
+pub record IsBchCode (code : Code) : Type 0 where
+  pub primitive : IsPrimitive code.degree code.modulus
+  pub short : word_bits code < 2 ^ code.degree
 
 -- c is a code word that differs from w in exactly d places, at most as many as the code corrects
 pub record IsNearest (code : Code) (w c : List ℕ) (d : ℕ) : Type 0 where

@@ -1,4 +1,4 @@
-use Rattle.std.proofs.Common.{◌≡◌, ◌≢◌, ◌<◌, ◌/◌, ◌*◌, ◌^◌, ◌-◌, ◌+◌, suc, sym, ap, ◌∙◌, refl, subst, ℕ, arith}
+use Rattle.std.proofs.Common.{◌≡◌, ◌<◌, ◌/◌, ◌^◌, ◌-◌, ◌+◌, suc, sym, ap, ◌∙◌, subst, ℕ, arith}
 use Rattle.std.specs.Prelude.{bit_and}
 use Rattle.std.proofs.lemmas.Nat.{pow_pos}
 use Rattle.code_model.specs.Binary.{times}
@@ -28,9 +28,9 @@ loop-i-preserved g c =
     let d = c.doubled-sum.result in
     let value : c.if-a-DEGREE-eq1.sum ≡ times m f (c.args.a / 2 ^ after) c.args.b =
     elim c.if-a-DEGREE-eq1.branch [
-      | then-a-DEGREE-eq1 w ↦ w.sum-is ∙ times_step_one m f c.args.a c.args.b after before c.loop-i.sum d p.low p.high c.requires.right next c.loop-i.invariant.value c.doubled-sum.ensures
+      | then-a-DEGREE-eq1 w ↦ w.sum-is ∙ times_step_one m f c.args.a c.args.b after before c.loop-i.sum d p.low p.high c.requires.right next c.loop-i.invariant.value c.doubled-sum.ensures.value
           (ap (λ i. bit_and (c.args.a / 2 ^ i) 1) (sym same) ∙ w.if-a-DEGREE-eq1.true)
-      | else-a-DEGREE-eq1 w ↦ w.sum-is ∙ times_step_zero m f c.args.a c.args.b after before c.loop-i.sum d p.low p.high c.requires.right next c.loop-i.invariant.value c.doubled-sum.ensures
+      | else-a-DEGREE-eq1 w ↦ w.sum-is ∙ times_step_zero m f c.args.a c.args.b after before c.loop-i.sum d p.low p.high c.requires.right next c.loop-i.invariant.value c.doubled-sum.ensures.value
           (λ e. w.if-a-DEGREE-eq1.false (ap (λ i. bit_and (c.args.a / 2 ^ i) 1) same ∙ e))
     ] in
     record { value = value; small = subst (λ (x : ℕ). x < 2 ^ m) (sym value) (times-lt m f _ _ p.low p.high) }
