@@ -1,6 +1,13 @@
 //! The outside of a run: sources of bytes and sinks of bytes, in memory and over std's readers and writers.
 #![tactic(auto)]
 
+mod calls;
+mod mem_source;
 mod outside;
+mod reading;
+mod writing;
 
+pub use mem_source::MemSource;
 pub use outside::{Failed, Sink, Source};
+pub use reading::{ReadError, read_to_end};
+pub use writing::write_all;
