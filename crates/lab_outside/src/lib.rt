@@ -2,11 +2,13 @@
 #![tactic(auto)]
 
 mod calls;
+mod mem_sink;
 mod mem_source;
 mod outside;
 mod reading;
 mod writing;
 
+pub use mem_sink::MemSink;
 pub use mem_source::MemSource;
 pub use outside::{Failed, Sink, Source};
 pub use reading::{ReadError, read_to_end};
