@@ -8,6 +8,8 @@ mod outside;
 mod reading;
 mod std_sink;
 mod std_source;
+#[cfg(test)]
+mod tests;
 mod writing;
 
 pub use mem_sink::MemSink;
