@@ -26,8 +26,3 @@ map_from_done f [] (suc k) i h = refl
 map_from_done f (x ∷ xs) zero i h = absurd (omega (arith, h))
 map_from_done f (x ∷ xs) (suc k) i h =
     let less : length xs ≤ k = omega (arith, h) in ap (λ ys. f i x ∷ ys) (map_from_done f xs k (i + 1) less)
-
--- a list keeps its length
-pub length-map_from : (f : ℕ → ℕ → ℕ) (xs : List ℕ) (i : ℕ) → length (map_from i f xs) ≡ length xs
-length-map_from f [] i = refl
-length-map_from f (x ∷ xs) i = ap suc (length-map_from f xs (i + 1))

@@ -79,3 +79,6 @@ impl Flash for SimChip {
         Ok(())
     }
 }
+
+#[cfg(test)]
+mod tests;
