@@ -1,4 +1,4 @@
--- BCH codes over steps of bytes, and the code word nearest to a word. Generator and order of bits are those of lib/bch, and the mask is that of nand_bch.
+-- BCH codes over steps of bytes, and the code word nearest to a word. Generator, order of bits and mask are those of lib/bch and of nand_ecc's software BCH.
 use Rattle.std.specs.Prelude.{◌≡◌, ℕ, zero, suc, ◌+◌, ◌-◌, ◌*◌, ◌/◌, ◌^◌, ◌<◌, ◌≤◌, Bool, ◌&&◌, nat_eq, nat_lt, List, [], ◌∷◌, ◌++◌, length, map, replicate, Option, Some, None, find, bit_xor}
 use Rattle.std.specs.List.{list_all}
 use Rattle.code_model.specs.Binary.{remainder, IsPrimitive}
