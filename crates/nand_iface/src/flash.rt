@@ -1,9 +1,8 @@
 // A chip as the layers above it see it.
-ghost use Rattle.std.specs.Prelude.{◌≡◌, ◌≤◌, ◌<◌, ◌+◌, ◌^◌, ℕ, length, OnOk, is_none, is_ok};
+ghost use Rattle.std.specs.Prelude.{◌≡◌, ◌≤◌, ◌<◌, ◌+◌, ℕ, OnOk, is_none, is_ok};
 ghost use Rattle.std.specs.Coded.{Coded};
 ghost use Rattle.nand_model.specs.Chip.{ChipState, FaultModel, ProgramCall, EraseCall, Complete, ProgramEvent, EraseEvent, happens, failure_of};
-ghost use Rattle.nand_model.specs.Sizes.{raw_len, page_count};
-ghost use Rattle.nand_iface.specs.Flash.{FitsPage};
+ghost use Rattle.nand_iface.specs.Flash.{FitsPage, HasWholePages};
 
 use nand_model::Geometry;
 use std::alloc::AllocError;
@@ -39,7 +38,7 @@ pub trait Flash: Drop {
     /// The sizes of the chip, which no call changes.
     fn geometry(&self) -> Geometry
         ensures sizes { result ≡ (state self.now).geometry }
-        ensures whole_pages { (p : ℕ) → p < page_count result → length ((state self.now).pages p).cells ≡ raw_len result };
+        ensures whole_pages { HasWholePages (state self.now) };
 
     /// Makes the room at least `pages`, and changes nothing else. Where memory runs out, the room is no less than before.
     fn reserve(&mut self, pages: u32) -> Result<(), AllocError>

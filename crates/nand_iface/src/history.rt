@@ -63,3 +63,36 @@ impl History {
         &self.notes[n]
     }
 }
+
+#[cfg(test)]
+mod tests {
+    use super::*;
+    use nand_model::Reply;
+    use std::test::Fail;
+
+    fn done(session: u32) -> Note {
+        let reply = Reply::Done;
+        Note::Answered { session, reply }
+    }
+
+    fn session_of(note: &Note) -> u32 {
+        match note {
+            Note::Answered { session, .. } => *session,
+            _ => 0,
+        }
+    }
+
+    #[test]
+    fn keeps_notes_in_order(rt: HostRuntime) -> Result<(), Fail> {
+        let mut history = History::new(rt.alloc());
+        history.reserve(3)?;
+        history.push(done(7));
+        history.push(done(4));
+        history.push(done(9));
+        assert_eq!(rt; history.len(), 3);
+        assert_eq!(rt; session_of(history.get(0)), 7);
+        assert_eq!(rt; session_of(history.get(1)), 4);
+        assert_eq!(rt; session_of(history.get(2)), 9);
+        Ok(())
+    }
+}

@@ -39,7 +39,7 @@ torn_programmed old image done = map_from 0 (λ i byte. bit_and byte (bit_or (sl
 abbrev pub torn_erased : List ℕ → (ℕ → ℕ) → List ℕ
 torn_erased old done = map_from 0 (λ i byte. bit_or byte (done i % 0x100)) old
 
--- a page's cells, the bits flipped since its last good erase, whether its last program or erase was torn or failed, and whether a bit was flipped since the first such event after its last good one
+-- a page's cells, the bits flipped since its last good erase, whether its last program or erase was torn or failed, and whether a bit was flipped since its last good program or erase, or since the first torn or failed one after that
 pub record PageState : Type 0 where
   pub cells : List ℕ
   pub flips : List ℕ

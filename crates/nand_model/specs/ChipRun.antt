@@ -1,7 +1,7 @@
 -- A chip in a boot: its attach, what is known of it then, and its pending operation.
 use Rattle.std.specs.Prelude.{ℕ, Bool, true, false, ◌&&◌, ◌||◌, ◌==◌, List, [], ◌∷◌, ◌++◌, count_by, slice_get, Option, Some, None}
 use Rattle.nand_model.specs.Chip.{ChipState, FaultModel, DoneBits, Complete, PowerCut, PageEvent, ReadEvent, ProgramEvent, EraseEvent, happens, after_trace, flip_events}
-use Rattle.nand_model.specs.Path.{Answer, Path, Over, Then, answer_to, is_failure, after_answers, next_event, result_of}
+use Rattle.nand_model.specs.Path.{Answer, Good, Path, Over, Then, answer_to, is_failure, after_answers, next_event, result_of}
 use Rattle.nand_model.specs.Attach.{Attaching, attach_path, has_tables}
 use Rattle.nand_model.specs.Operation.{Partitions, part_of, chip_block, Known, Finished, operation_path, marked}
 use Rattle.nand_model.specs.Quiet.{fairness_of, is_quiet}
@@ -114,17 +114,14 @@ attach_notes_by k now (Some known) = []
 abbrev pub attach_notes : {W : Type 0} → ℕ → ChipRun W → ChipRun W → List Note
 attach_notes k before now = attach_notes_by k now before.known
 
--- the entry of a mark changes once its marker is programmed, while the tables on flash are still to be written
-abbrev pub table_in_mark : Option Part → ℕ → List Answer → List ℕ → List ℕ
-table_in_mark (Some part) block (erased ∷ marker ∷ answers) table = marked table (chip_block part block)
-table_in_mark part block answers table = table
+-- the entry of a mark changes once its marker is programmed: with tables always, while they are still to be written, and without them where that was good
+abbrev pub table_in_mark : Bool → Option Part → ℕ → List Answer → List ℕ → List ℕ
+table_in_mark true (Some part) block (erased ∷ marker ∷ answers) table = marked table (chip_block part block)
+table_in_mark false (Some part) block (erased ∷ Good ∷ answers) table = marked table (chip_block part block)
+table_in_mark tables part block answers table = table
 
 abbrev pub table_during : Geometry → Partitions → Known → Op → List Answer → List ℕ
-table_during g partitions k (Mark dev block) answers = table_if (has_tables g)
-  where
-    table_if : Bool → List ℕ
-    table_if true = table_in_mark (part_of partitions dev) block answers k.table
-    table_if false = k.table
+table_during g partitions k (Mark dev block) answers = table_in_mark (has_tables g) (part_of partitions dev) block answers k.table
 table_during g partitions k op answers = k.table
 
 -- the table in memory, also while an operation is pending: a mark that has had no event yet leaves it as it is

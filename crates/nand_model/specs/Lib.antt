@@ -2,6 +2,7 @@ pub mod Lending
 pub mod Layout
 pub mod Sizes
 pub mod Seeds
+pub mod Counts
 pub mod Page
 pub mod Chip
 pub mod Flips

@@ -116,6 +116,15 @@ kind_text Clean = codes "clean"
 kind_text Bitflips = codes "bitflips"
 kind_text Uncorrectable = codes "uncorrectable"
 
+-- what a page that was read is called, and its counts
+abbrev pub page_text : PageKind → PageRead → List ℕ
+page_text kind read =
+    codes "page " ++ kind_text kind ++ codes " corrected " ++ decimal read.corrected ++ codes " greatest " ++ decimal read.greatest ++ codes " failed " ++ decimal read.failed
+
+abbrev pub counts_text : (corrected failed bad : ℕ) → List ℕ
+counts_text corrected failed bad =
+    codes "counts corrected " ++ decimal corrected ++ codes " failed " ++ decimal failed ++ codes " bad " ++ decimal bad
+
 abbrev pub reply_text : Reply → List ℕ
 reply_text Done = codes "ok"
 reply_text OutOfRange = codes "out of range"
@@ -128,10 +137,8 @@ reply_text (TableFailed which) = codes "table failed " ++ which_text which
 reply_text Reserved = codes "reserved"
 reply_text (Copies n) = codes "copies " ++ decimal n
 reply_text (State n) = state_text n
-reply_text (Counts corrected failed bad) =
-    codes "counts corrected " ++ decimal corrected ++ codes " failed " ++ decimal failed ++ codes " bad " ++ decimal bad
-reply_text (Page kind read image) =
-    codes "page " ++ kind_text kind ++ codes " corrected " ++ decimal read.corrected ++ codes " greatest " ++ decimal read.greatest ++ codes " failed " ++ decimal read.failed
+reply_text (Counts corrected failed bad) = counts_text corrected failed bad
+reply_text (Page kind read image) = page_text kind read
 
 -- the rows after an answer's line
 abbrev pub reply_rows : Reply → List ℕ
@@ -171,6 +178,10 @@ fairness_text Missing = codes "missing"
 fairness_text Whole = codes "whole"
 fairness_text Foul = codes "foul"
 
+abbrev pub cause_text : Bool → List ℕ
+cause_text true = codes "cut"
+cause_text false = codes "fault"
+
 abbrev pub chip_name : ℕ → ℕ → List ℕ
 chip_name c k = decimal c ++ 46 ∷ decimal k
 
@@ -182,8 +193,8 @@ note_text c (Attached k origin version copies quiet states) =
     line (spaced (codes "attach" ∷ chip_name c k ∷ origin_text origin ∷ codes "version" ∷ decimal version ∷ codes "copies" ∷ decimal copies
     ∷ codes "quiet" ∷ yes_or_no quiet ∷ codes "bad" ∷ joined_by_commas (bad_entries 0 states) ∷ []))
 note_text c (Torn k number event cut fairness) =
-    line (spaced (codes "torn" ∷ chip_name c k ∷ codes "event" ∷ decimal number ∷ (event_text event
-    ++ (if cut then codes "cut" else codes "fault") ∷ fairness_text fairness ∷ [])))
+    line (spaced (codes "torn" ∷ chip_name c k ∷ codes "event" ∷ decimal number ∷ spaced (event_text event)
+    ∷ cause_text cut ∷ fairness_text fairness ∷ []))
 
 abbrev pub ending_text : Ending → List ℕ
 ending_text AllWritten = []

@@ -72,7 +72,7 @@ pub record CoursesAreFaithful {W : Type 0} (model : FaultModel W) (boot : Boot) 
   pub one_thread : AreOneThread model boot.partitions starts (map (λ (b : ChipBoot). b ∷ []) lives) ((course_after model boot starts attaches turns).notes ∷ [])
   pub in_order : HaveOneNumberEach boot.sessions → AreInOrder boot starts (course_after model boot starts attaches turns).notes
   pub complete : HaveOneNumberEach boot.sessions → is_over (course_after model boot starts attaches turns) ≡ true
-    → (course_after model boot starts attaches turns).dark ≡ false → AreComplete boot starts (course_after model boot starts attaches turns).notes
+      → (course_after model boot starts attaches turns).dark ≡ false → AreComplete boot starts (course_after model boot starts attaches turns).notes
 
 -- over all boots, each from the states that the one before it left
 pub record RunsAreFaithful {W : Type 0} (model : FaultModel W) (partitions : Partitions) (starts : List (ChipState W)) (boots : List Boot) (courses : List (Course W)) : Type 0 where
