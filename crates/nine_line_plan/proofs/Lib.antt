@@ -1,0 +1,4 @@
+pub mod Image
+pub mod WriteScript
+pub mod Turns
+pub mod CourseOfPlan
