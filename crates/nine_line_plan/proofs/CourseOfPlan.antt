@@ -38,7 +38,7 @@ passed : (sizes : Command → Geometry) (command : Command) (commands : List Com
     → without_finished sizes 0 (command ∷ commands) replies outcomes ≡ without_finished sizes 0 commands [] (outcomes ++ outcome ∷ [])
 passed sizes command commands replies outcomes outcome e = rw e refl
 
-abbrev commands_of : List ℕ → List Command
+abbrev pub commands_of : List ℕ → List Command
 commands_of payload = write_command payload ∷ dump_command ∷ []
 
 module _ (payload : List ℕ) where
@@ -96,18 +96,18 @@ chain f c0 c1 c2 c3 c4 c5 c6 c7 c8 e1 e2 e3 e4 e5 e6 e7 e8 =
     ∙ e8
 
 module _ (payload : List ℕ) (is_there : 1 ≤ length payload) (fits : length payload ≤ 2048) (are_bytes : IsBytes payload) where
-  session_begins : without_finished (sizes payload) 0 (commands_of payload) [] [] ≡ session_new payload
+  pub session_begins : without_finished (sizes payload) 0 (commands_of payload) [] [] ≡ session_new payload
   session_begins = kept (sizes payload) (write_command payload) (dump_command ∷ []) [] [] (IsBad 0 0) (first_step payload is_there fits)
 
-  session_goes_on : without_finished (sizes payload) 0 (commands_of payload) (State 0 ∷ []) [] ≡ session_asked payload
+  pub session_goes_on : without_finished (sizes payload) 0 (commands_of payload) (State 0 ∷ []) [] ≡ session_asked payload
   session_goes_on =
       kept (sizes payload) (write_command payload) (dump_command ∷ []) (State 0 ∷ []) [] (RawWrite 0 0 (image_of payload)) (second_step payload is_there fits)
 
-  write_is_over : without_finished (sizes payload) 0 (commands_of payload) (State 0 ∷ Done ∷ []) [] ≡ session_written payload
+  pub write_is_over : without_finished (sizes payload) 0 (commands_of payload) (State 0 ∷ Done ∷ []) [] ≡ session_written payload
   write_is_over =
       passed (sizes payload) (write_command payload) (dump_command ∷ []) (State 0 ∷ Done ∷ []) [] (Written 1 0 0 Whole) (third_step payload is_there fits)
 
-  dump_is_over : without_finished (sizes payload) 0 (dump_command ∷ []) (raw_reply (image_of payload) ∷ []) (Written 1 0 0 Whole ∷ []) ≡ session_over payload
+  pub dump_is_over : without_finished (sizes payload) 0 (dump_command ∷ []) (raw_reply (image_of payload) ∷ []) (Written 1 0 0 Whole ∷ []) ≡ session_over payload
   dump_is_over =
       ap (λ body. session_with [] [] (Written 1 0 0 Whole ∷ Dumped 1 0 0 0 body ∷ [])) (take-image_of payload fits)
 
