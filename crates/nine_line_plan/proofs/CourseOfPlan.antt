@@ -1,6 +1,6 @@
 -- The course of the nine-line plan: its eight turns, its notes and its end.
 use Rattle.std.proofs.Common.{◌≡◌, ℕ, zero, suc, ◌+◌, ◌-◌, ◌≤◌, true, false, List, [], ◌∷◌, ◌++◌, length, refl, ap, sym, ◌∙◌, arith}
-use Rattle.std.specs.Prelude.{None, replicate, fold}
+use Rattle.std.specs.Prelude.{None, map, replicate, fold}
 use Rattle.std.proofs.Math.ListN.{replicate-append-replicate}
 use Rattle.hex.specs.Hex.{IsBytes}
 use Rattle.nand_model.specs.Chip.{SimFaults, sim_faults}
@@ -8,7 +8,9 @@ use Rattle.nand_model.specs.Operation.{raw_reply}
 use Rattle.nand_model.specs.Path.{Data, Good}
 use Rattle.run_model.specs.Command.{Do, Over, next_step}
 use Rattle.run_model.specs.Course.{Course, SessionRun, attach_steps, course_after, is_over, op_of_next, start_of_boot, turn_step, without_finished}
-use Rattle.report_model.specs.Headline.{replay_turns}
+use Rattle.run_model.specs.Run.{AreBoots}
+use Rattle.report_model.specs.Plan.{boot_part}
+use Rattle.report_model.specs.Headline.{all_replay_turns, for_controller, replay_turns}
 use Rattle.nand_model.specs.declared.geometry.Geometry.{Geometry}
 use Rattle.nand_model.specs.declared.words.Command.{Command}
 use Rattle.nand_model.specs.declared.words.Ending.TheVariants.{Whole}
@@ -21,7 +23,7 @@ use Rattle.nand_model.specs.declared.words.Outcome.{Outcome}
 use Rattle.nand_model.specs.declared.words.Outcome.TheVariants.{NandWrite as Written, NandDump as Dumped}
 use Rattle.nand_model.specs.declared.words.Reply.{Reply}
 use Rattle.nand_model.specs.declared.words.Reply.TheVariants.{Done, State}
-use Rattle.nine_line_plan.specs.NineLines.{IsNineLinePlan, boot_of, course_of, course_of_rounds, dump_command, image_of, notes_of, outcomes_of, part_of_boot, starts, write_command}
+use Rattle.nine_line_plan.specs.NineLines.{IsNineLinePlan, boot_of, chip, course_of, course_of_rounds, dump_command, image_of, notes_of, outcomes_of, part_of_boot, plan_of, starts, write_command}
 use Rattle.nine_line_plan.proofs.Image.{IsBytes-image_of, image_of-marker, length-image_of, take-image_of}
 use Rattle.nine_line_plan.proofs.WriteScript.{first_step, second_step, third_step}
 use Rattle.nine_line_plan.proofs.Turns.{attach, begin, chip_with, course_at, new, page_programmed, page_read, pending_with, read_answered, session_with, sizes, state_answered, write_answered}
@@ -183,3 +185,9 @@ module _ (bytes payload : List ℕ) (h : IsNineLinePlan bytes payload) where
   -- so have the courses of more rounds
   pub course_of_rounds-same : (rounds : ℕ) → 8 ≤ rounds → course_of_rounds rounds payload ≡ course_of payload
   course_of_rounds-same rounds enough = course_of_rounds-end rounds enough ∙ sym course_of-end
+
+  -- the plan's one boot is a whole boot of its controller, with the turns of a replay of eight rounds or more
+  pub are_boots : (rounds : ℕ) → 8 ≤ rounds
+      → AreBoots sim_faults starts (map (boot_part (plan_of payload) 0 (chip ∷ [])) (plan_of payload).boots)
+      (for_controller [] 0 (all_replay_turns (plan_of payload) rounds)) (course_of_rounds rounds payload ∷ [])
+  are_boots rounds enough = (record { attaches = 8; steps = refl; over = ap (λ c. is_over c) (course_of_rounds-end rounds enough) }, tt)

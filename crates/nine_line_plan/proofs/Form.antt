@@ -1,11 +1,12 @@
 -- Which bytes are a nine-line plan, and which data they hold, as a reader of the form finds it.
-use Rattle.std.proofs.Common.{◌≡◌, ℕ, ◌+◌, ◌-◌, ◌*◌, ◌≤◌, List, ◌++◌, length, take, drop, Ok, refl, ap, sym, subst, ◌∙◌, arith}
+use Rattle.std.proofs.Common.{◌≡◌, ℕ, ◌+◌, ◌-◌, ◌*◌, ◌≤◌, List, ◌++◌, length, take, drop, Ok, Err, refl, ap, sym, subst, ◌∙◌, arith}
 use Rattle.std.specs.Prelude.{slice_range}
-use Rattle.std.proofs.lemmas.List.{append_assoc, length-append, take-append-drop, take_at, drop_at}
+use Rattle.std.proofs.lemmas.List.{append_assoc, append_cancel_left, append_cancel_right, length-append, take-append-drop, take_at, drop_at}
 use Rattle.std.proofs.lemmas.List.Folds.{drop_split}
 use Rattle.hex.specs.Hex.{IsBytes, decode_of, encode_lower, lower_digits}
 use Rattle.hex.proofs.HexLemmas.{decode_of-encode_lower, decode_of-ok, decode_of-same, length-encode_with}
-use Rattle.nine_line_plan.specs.NineLines.{IsNineLinePlan, plan_text, text_after, text_before}
+use Rattle.hex.specs.declared.error.FromHexError.{FromHexError}
+use Rattle.nine_line_plan.specs.NineLines.{IsNineLinePlan, IsOfTheForm, plan_text, text_after, text_before}
 
 -- what lies between the first a items and the last b
 abbrev pub middle_of : ℕ → ℕ → List ℕ → List ℕ
@@ -103,3 +104,55 @@ plan_text-same bytes payload other first second are_bytes others_are_bytes =
 
 pub IsNineLinePlan-same : (bytes payload other : List ℕ) → IsNineLinePlan bytes payload → IsNineLinePlan bytes other → payload ≡ other
 IsNineLinePlan-same bytes payload other h k = plan_text-same bytes payload other h.text k.text h.are_bytes k.are_bytes
+
+-- data of 1 to 2,048 bytes has a plan
+pub IsNineLinePlan-plan_text : (payload : List ℕ) → 1 ≤ length payload → length payload ≤ 2048 → IsBytes payload → IsNineLinePlan (plan_text payload) payload
+IsNineLinePlan-plan_text payload is_there fits are_bytes = record { text = refl; is_there = is_there; fits = fits; are_bytes = are_bytes }
+
+-- the digits of this data between the two ends are its plan
+pub plan_from_digits : (bytes digits payload : List ℕ) → bytes ≡ text_before ++ digits ++ text_after → digits ≡ encode_lower payload
+    → 1 ≤ length payload → length payload ≤ 2048 → IsBytes payload → IsNineLinePlan bytes payload
+plan_from_digits bytes digits payload ends lower is_there fits are_bytes =
+    record { text = ends ∙ ap (λ m. text_before ++ m ++ text_after) lower; is_there = is_there; fits = fits; are_bytes = are_bytes }
+
+-- what stands between the two ends of a plan: the digits of its data
+pub record IsDigitsOf (digits payload : List ℕ) : Type 0 where
+  pub lower : digits ≡ encode_lower payload
+  pub decodes : decode_of digits ≡ Ok payload
+  pub twice : length digits ≡ 2 * length payload
+
+pub digits_of_plan : (bytes digits payload : List ℕ) → bytes ≡ text_before ++ digits ++ text_after → IsNineLinePlan bytes payload → IsDigitsOf digits payload
+digits_of_plan bytes digits payload ends h =
+    let lower : digits ≡ encode_lower payload =
+    append_cancel_left text_before digits (encode_lower payload)
+    (append_cancel_right (text_before ++ digits) (text_before ++ encode_lower payload) text_after (sym ends ∙ h.text)) in
+    record {
+      lower = lower;
+      decodes = ap decode_of lower ∙ decode_of-encode_lower payload h.are_bytes;
+      twice = ap length lower ∙ length-encode_with lower_digits payload;
+    }
+
+-- the bytes of a plan begin and end as they should
+pub ends_of_plan : (bytes : List ℕ) → IsOfTheForm bytes → (digits : List ℕ) × (bytes ≡ text_before ++ digits ++ text_after)
+ends_of_plan bytes (payload, h) = (encode_lower payload, h.text)
+
+-- a plan has 2 to 4,096 digits
+pub digit_count_of_plan : (bytes digits : List ℕ) → bytes ≡ text_before ++ digits ++ text_after → IsOfTheForm bytes
+    → (2 ≤ length digits) × (length digits ≤ 4096)
+digit_count_of_plan bytes digits ends (payload, h) =
+    let twice = (digits_of_plan bytes digits payload ends h).twice in
+    let some : 1 ≤ length payload = h.is_there in
+    let few : length payload ≤ 2048 = h.fits in (omega (arith, twice), omega (arith, twice))
+
+-- digits that do not decode, or not from lower case, are those of no plan
+pub not_a_plan_by_decoding : (bytes digits : List ℕ) (error : FromHexError) → bytes ≡ text_before ++ digits ++ text_after → decode_of digits ≡ Err error
+    → IsOfTheForm bytes → ⊥
+not_a_plan_by_decoding bytes digits error ends refused (payload, h) =
+    let decodes = (digits_of_plan bytes digits payload ends h).decodes in
+    let both : Ok payload ≡ Err error = sym decodes ∙ refused in cc both
+
+pub not_a_plan_by_case : (bytes digits payload : List ℕ) → bytes ≡ text_before ++ digits ++ text_after → decode_of digits ≡ Ok payload
+    → (encode_lower payload ≡ digits → ⊥) → IsOfTheForm bytes → ⊥
+not_a_plan_by_case bytes digits payload ends decodes other (written, h) =
+    let found = digits_of_plan bytes digits written ends h in
+    other (ap encode_lower (decode_of-same digits payload written decodes found.decodes) ∙ sym found.lower)

@@ -15,9 +15,9 @@ use Rattle.nand_model.specs.declared.words.Op.TheVariants.{IsBad, RawRead, RawWr
 use Rattle.nand_model.specs.declared.words.Origin.TheVariants.{Markers}
 use Rattle.nand_model.specs.declared.words.Outcome.TheVariants.{NandWrite as Written, NandDump as Dumped}
 use Rattle.nand_model.specs.declared.words.Reply.TheVariants.{Done, State}
-use Rattle.nine_line_plan.specs.NineLines.{IsNineLinePlan, body_of, dump_command, image_of, notes_of, outcomes_of, plan_of, report_of, write_command}
+use Rattle.nine_line_plan.specs.NineLines.{IsNineLinePlan, body_of, course_of, dump_command, image_of, notes_of, outcomes_of, plan_of, report_of, write_command}
 use Rattle.nine_line_plan.proofs.Turns.{sizes}
-use Rattle.nine_line_plan.proofs.CourseOfPlan.{commands_of, dump_is_over, session_begins, session_goes_on, session_over, write_is_over}
+use Rattle.nine_line_plan.proofs.CourseOfPlan.{commands_of, course_of-notes, dump_is_over, session_begins, session_goes_on, session_over, write_is_over}
 
 zero_text : decimal 0 ≡ 48 ∷ []
 zero_text = decimal_digit 0 (omega arith)
@@ -61,8 +61,8 @@ write_line payload = rw (zero_text, one_text) refl
 dump_lines : (body : List ℕ) → outcome_text dump_command (Dumped 1 0 0 0 body) ≡ line (codes "nanddump mtd0: pages 1, bad 0, corrected 0, failed 0") ++ rows_text body
 dump_lines body = rw (zero_text, one_text) refl
 
-device_lines-zero : line (codes "device mtd" ++ decimal 0 ++ codes " corrected " ++ decimal 0 ++ codes " failed " ++ decimal 0) ≡ line (codes "device mtd0 corrected 0 failed 0")
-device_lines-zero = rw zero_text refl
+device_line-zero : line (codes "device mtd" ++ decimal 0 ++ codes " corrected " ++ decimal 0 ++ codes " failed " ++ decimal 0) ≡ line (codes "device mtd0 corrected 0 failed 0")
+device_line-zero = rw zero_text refl
 
 -- the texts of seven items behind a first text
 seven_texts : {X : Type 0} (f : X → List ℕ) (x1 x2 x3 x4 x5 x6 x7 : X) (c t1 t2 t3 t4 t5 t6 t7 rows : List ℕ)
@@ -79,6 +79,9 @@ two_texts s w w' d rows d' ew ed = rw (ew, ed) (simp (append_assoc, append-nil))
 regroup : (b c r s w d q v e : List ℕ) → b ++ (c ++ r) ++ (s ++ w ++ d ++ q) ++ (v ++ [] ++ []) ++ e ++ [] ≡ b ++ c ++ r ++ s ++ w ++ d ++ q ++ v ++ e
 regroup b c r s w d q v e = simp (append_assoc, append-nil)
 
+regroup_notes : (b c n s q v e : List ℕ) → b ++ (c ++ n ++ []) ++ (s ++ q) ++ (v ++ [] ++ []) ++ e ++ [] ≡ b ++ c ++ n ++ s ++ q ++ (v ++ e)
+regroup_notes b c n s q v e = simp (append_assoc, append-nil)
+
 abbrev controller_text : List ℕ → List ℕ
 controller_text payload =
     line (codes "controller 0")
@@ -91,10 +94,9 @@ controller_text payload =
     ++ line (codes "a 0 page raw corrected 0 greatest 0 failed 0")
     ++ rows_text (image_of payload)
 
-controller_lines-text : (payload : List ℕ) → controller_lines 0 (notes_of payload ∷ []) ≡ controller_text payload
-controller_lines-text payload =
-    ap (λ c. c ++ flat_map (note_text 0) (notes_of payload) ++ []) controller_line
-    ∙ seven_texts (note_text 0)
+notes_lines-text : (payload : List ℕ) → line (codes "controller 0") ++ flat_map (note_text 0) (notes_of payload) ++ [] ≡ controller_text payload
+notes_lines-text payload =
+    seven_texts (note_text 0)
     (Attached 0 Markers 0 0 true (replicate 8 0)) (Began 0 (IsBad 0 0)) (Answered 0 (State 0)) (Began 0 (RawWrite 0 0 (image_of payload))) (Answered 0 Done)
     (Began 0 (RawRead 0 0)) (Answered 0 (raw_reply (image_of payload)))
     (line (codes "controller 0")) _ _ _ _ _ _ (line (codes "a 0 page raw corrected 0 greatest 0 failed 0")) (rows_text (image_of payload))
@@ -134,17 +136,44 @@ module _ (payload : List ℕ) (is_there : 1 ≤ length payload) (fits : length p
       ∙ two_texts (line (codes "session 0")) (outcome_text (write_command payload) (Written 1 0 0 Whole)) _ (outcome_text dump_command (Dumped 1 0 0 0 (body_of payload)))
       (rows_text (body_of payload)) (line (codes "nanddump mtd0: pages 1, bad 0, corrected 0, failed 0")) (write_line payload) (dump_lines (body_of payload))
 
+-- the parts of the report of the plan's notes
+report_text-parts : (bytes payload : List ℕ) → IsNineLinePlan bytes payload
+    → report_text (plan_of payload) ((notes_of payload ∷ []) ∷ [])
+    ≡ line (codes "boot 0") ++ (line (codes "controller 0") ++ flat_map (note_text 0) (notes_of payload) ++ []) ++ session_lines_text payload
+    ++ (line (codes "device mtd0 corrected 0 failed 0") ++ [] ++ []) ++ line (codes "end boot 0") ++ []
+report_text-parts bytes payload h =
+    let controllers : List ℕ = controller_lines 0 (notes_of payload ∷ []) in
+    let sessions : List ℕ = session_lines (plan_of payload) 0 (session_plan payload h.is_there h.fits h.are_bytes ∷ []) (notes_of payload ∷ []) in
+    let devices : List ℕ = line (codes "device mtd" ++ decimal 0 ++ codes " corrected " ++ decimal 0 ++ codes " failed " ++ decimal 0) in
+    ap (λ b. b ++ controllers ++ sessions ++ (devices ++ [] ++ []) ++ line (codes "end boot " ++ decimal 0) ++ []) boot_line
+    ∙ ap (λ c. line (codes "boot 0") ++ (c ++ flat_map (note_text 0) (notes_of payload) ++ []) ++ sessions ++ (devices ++ [] ++ []) ++ line (codes "end boot " ++ decimal 0) ++ []) controller_line
+    ∙ ap (λ s. line (codes "boot 0") ++ (line (codes "controller 0") ++ flat_map (note_text 0) (notes_of payload) ++ []) ++ s ++ (devices ++ [] ++ []) ++ line (codes "end boot " ++ decimal 0) ++ [])
+    (session_lines-text payload h.is_there h.fits h.are_bytes)
+    ∙ ap (λ d. line (codes "boot 0") ++ (line (codes "controller 0") ++ flat_map (note_text 0) (notes_of payload) ++ []) ++ session_lines_text payload ++ (d ++ [] ++ []) ++ line (codes "end boot " ++ decimal 0) ++ [])
+    device_line-zero
+    ∙ ap (λ e. line (codes "boot 0") ++ (line (codes "controller 0") ++ flat_map (note_text 0) (notes_of payload) ++ []) ++ session_lines_text payload
+    ++ (line (codes "device mtd0 corrected 0 failed 0") ++ [] ++ []) ++ e ++ []) end_line
+
+-- the report of the plan's notes, with the lines of the notes as one part
+pub report_text-printed : (bytes payload : List ℕ) → IsNineLinePlan bytes payload
+    → report_text (plan_of payload) ((notes_of payload ∷ []) ∷ [])
+    ≡ line (codes "boot 0") ++ line (codes "controller 0")
+    ++ flat_map (note_text 0) (notes_of payload)
+    ++ (line (codes "session 0") ++ line (codes "nandwrite mtd0: pages 1, skipped 0, failed 0") ++ line (codes "nanddump mtd0: pages 1, bad 0, corrected 0, failed 0"))
+    ++ rows_text (body_of payload)
+    ++ (line (codes "device mtd0 corrected 0 failed 0") ++ line (codes "end boot 0"))
+report_text-printed bytes payload h =
+    report_text-parts bytes payload h
+    ∙ regroup_notes (line (codes "boot 0")) (line (codes "controller 0")) (flat_map (note_text 0) (notes_of payload))
+    (line (codes "session 0") ++ line (codes "nandwrite mtd0: pages 1, skipped 0, failed 0") ++ line (codes "nanddump mtd0: pages 1, bad 0, corrected 0, failed 0"))
+    (rows_text (body_of payload)) (line (codes "device mtd0 corrected 0 failed 0")) (line (codes "end boot 0"))
+
 -- the report of the plan's notes is the explicit text
 pub report_of-text : (bytes payload : List ℕ) → IsNineLinePlan bytes payload → report_text (plan_of payload) ((notes_of payload ∷ []) ∷ []) ≡ report_of payload
 report_of-text bytes payload h =
-    let sessions : List ℕ = session_lines (plan_of payload) 0 (session_plan payload h.is_there h.fits h.are_bytes ∷ []) (notes_of payload ∷ []) in
-    let devices : List ℕ = line (codes "device mtd" ++ decimal 0 ++ codes " corrected " ++ decimal 0 ++ codes " failed " ++ decimal 0) in
-    ap (λ b. b ++ controller_lines 0 (notes_of payload ∷ []) ++ sessions ++ (devices ++ [] ++ []) ++ line (codes "end boot " ++ decimal 0) ++ []) boot_line
-    ∙ ap (λ c. line (codes "boot 0") ++ c ++ sessions ++ (devices ++ [] ++ []) ++ line (codes "end boot " ++ decimal 0) ++ []) (controller_lines-text payload)
-    ∙ ap (λ s. line (codes "boot 0") ++ controller_text payload ++ s ++ (devices ++ [] ++ []) ++ line (codes "end boot " ++ decimal 0) ++ [])
-    (session_lines-text payload h.is_there h.fits h.are_bytes)
-    ∙ ap (λ d. line (codes "boot 0") ++ controller_text payload ++ session_lines_text payload ++ (d ++ [] ++ []) ++ line (codes "end boot " ++ decimal 0) ++ []) device_lines-zero
-    ∙ ap (λ e. line (codes "boot 0") ++ controller_text payload ++ session_lines_text payload ++ (line (codes "device mtd0 corrected 0 failed 0") ++ [] ++ []) ++ e ++ []) end_line
+    report_text-parts bytes payload h
+    ∙ ap (λ c. line (codes "boot 0") ++ c ++ session_lines_text payload ++ (line (codes "device mtd0 corrected 0 failed 0") ++ [] ++ []) ++ line (codes "end boot 0") ++ [])
+    (notes_lines-text payload)
     ∙ regroup (line (codes "boot 0"))
     (line (codes "controller 0")
     ++ line (codes "attach 0.0 markers version 0 copies 0 quiet yes bad -")
@@ -159,3 +188,9 @@ report_of-text bytes payload h =
     (line (codes "nandwrite mtd0: pages 1, skipped 0, failed 0"))
     (line (codes "nanddump mtd0: pages 1, bad 0, corrected 0, failed 0"))
     (rows_text (body_of payload)) (line (codes "device mtd0 corrected 0 failed 0")) (line (codes "end boot 0"))
+
+-- so is the report of the course's notes
+pub course_of-report : (bytes payload : List ℕ) → IsNineLinePlan bytes payload
+    → report_text (plan_of payload) (((course_of payload).notes ∷ []) ∷ []) ≡ report_of payload
+course_of-report bytes payload h =
+    ap (λ notes. report_text (plan_of payload) ((notes ∷ []) ∷ [])) (course_of-notes bytes payload h) ∙ report_of-text bytes payload h
