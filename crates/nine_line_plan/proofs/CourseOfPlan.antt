@@ -23,7 +23,7 @@ use Rattle.nand_model.specs.declared.words.Outcome.{Outcome}
 use Rattle.nand_model.specs.declared.words.Outcome.TheVariants.{NandWrite as Written, NandDump as Dumped}
 use Rattle.nand_model.specs.declared.words.Reply.{Reply}
 use Rattle.nand_model.specs.declared.words.Reply.TheVariants.{Done, State}
-use Rattle.nine_line_plan.specs.NineLines.{IsNineLinePlan, boot_of, chip, course_of, course_of_rounds, dump_command, image_of, notes_of, outcomes_of, part_of_boot, plan_of, starts, write_command}
+use Rattle.nine_line_plan.specs.NineLines.{IsNineLinePlan, boot_of, chip, course_of, course_of_rounds, dump_command, image_of, notes_of, outcomes_of, part_of_boot, plan_of, plan_text, starts, write_command}
 use Rattle.nine_line_plan.proofs.Image.{IsBytes-image_of, image_of-marker, length-image_of, take-image_of}
 use Rattle.nine_line_plan.proofs.WriteScript.{first_step, second_step, third_step}
 use Rattle.nine_line_plan.proofs.Turns.{attach, begin, chip_with, course_at, new, page_programmed, page_read, pending_with, read_answered, session_with, sizes, state_answered, write_answered}
@@ -154,6 +154,7 @@ idle_at_end payload (suc more) = idle_at_end payload more
 module _ (bytes payload : List ℕ) (h : IsNineLinePlan bytes payload) where
   -- eight rounds and more bring the course to its end
   pub course_of_rounds-end : (rounds : ℕ) → 8 ≤ rounds → course_of_rounds rounds payload ≡ course_over payload
+  unfolding course_of_rounds
   course_of_rounds-end rounds enough =
       let f = turn_step sim_faults (part_of_boot payload) (sizes payload) in
       let split : replicate rounds 0 ≡ replicate 8 0 ++ replicate (rounds - 8) 0 =
@@ -190,4 +191,14 @@ module _ (bytes payload : List ℕ) (h : IsNineLinePlan bytes payload) where
   pub are_boots : (rounds : ℕ) → 8 ≤ rounds
       → AreBoots sim_faults starts (map (boot_part (plan_of payload) 0 (chip ∷ [])) (plan_of payload).boots)
       (for_controller [] 0 (all_replay_turns (plan_of payload) rounds)) (course_of_rounds rounds payload ∷ [])
+  unfolding course_of_rounds
   are_boots rounds enough = (record { attaches = 8; steps = refl; over = ap (λ c. is_over c) (course_of_rounds-end rounds enough) }, tt)
+
+module _ (payload : List ℕ) (is_there : 1 ≤ length payload) (fits : length payload ≤ 2048) (are_bytes : IsBytes payload) where
+  -- data of 1 to 2,048 bytes has a plan
+  pub has_plan : IsNineLinePlan (plan_text payload) payload
+  has_plan = record { text = refl; is_there = is_there; fits = fits; are_bytes = are_bytes }
+
+  -- the notes of its course
+  pub notes_of_course : (course_of payload).notes ≡ notes_of payload
+  notes_of_course = course_of-notes (plan_text payload) payload has_plan

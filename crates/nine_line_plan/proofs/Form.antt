@@ -105,10 +105,6 @@ plan_text-same bytes payload other first second are_bytes others_are_bytes =
 pub IsNineLinePlan-same : (bytes payload other : List ℕ) → IsNineLinePlan bytes payload → IsNineLinePlan bytes other → payload ≡ other
 IsNineLinePlan-same bytes payload other h k = plan_text-same bytes payload other h.text k.text h.are_bytes k.are_bytes
 
--- data of 1 to 2,048 bytes has a plan
-pub IsNineLinePlan-plan_text : (payload : List ℕ) → 1 ≤ length payload → length payload ≤ 2048 → IsBytes payload → IsNineLinePlan (plan_text payload) payload
-IsNineLinePlan-plan_text payload is_there fits are_bytes = record { text = refl; is_there = is_there; fits = fits; are_bytes = are_bytes }
-
 -- the digits of this data between the two ends are its plan
 pub plan_from_digits : (bytes digits payload : List ℕ) → bytes ≡ text_before ++ digits ++ text_after → digits ≡ encode_lower payload
     → 1 ≤ length payload → length payload ≤ 2048 → IsBytes payload → IsNineLinePlan bytes payload

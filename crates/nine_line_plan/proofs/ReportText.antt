@@ -15,9 +15,9 @@ use Rattle.nand_model.specs.declared.words.Op.TheVariants.{IsBad, RawRead, RawWr
 use Rattle.nand_model.specs.declared.words.Origin.TheVariants.{Markers}
 use Rattle.nand_model.specs.declared.words.Outcome.TheVariants.{NandWrite as Written, NandDump as Dumped}
 use Rattle.nand_model.specs.declared.words.Reply.TheVariants.{Done, State}
-use Rattle.nine_line_plan.specs.NineLines.{IsNineLinePlan, body_of, course_of, dump_command, image_of, notes_of, outcomes_of, plan_of, report_of, write_command}
+use Rattle.nine_line_plan.specs.NineLines.{IsNineLinePlan, body_of, course_of, dump_command, image_of, notes_of, outcomes_of, plan_of, plan_text, report_of, write_command}
 use Rattle.nine_line_plan.proofs.Turns.{sizes}
-use Rattle.nine_line_plan.proofs.CourseOfPlan.{commands_of, course_of-notes, dump_is_over, session_begins, session_goes_on, session_over, write_is_over}
+use Rattle.nine_line_plan.proofs.CourseOfPlan.{commands_of, course_of-notes, dump_is_over, has_plan, session_begins, session_goes_on, session_over, write_is_over}
 
 zero_text : decimal 0 ≡ 48 ∷ []
 zero_text = decimal_digit 0 (omega arith)
@@ -194,3 +194,8 @@ pub course_of-report : (bytes payload : List ℕ) → IsNineLinePlan bytes paylo
     → report_text (plan_of payload) (((course_of payload).notes ∷ []) ∷ []) ≡ report_of payload
 course_of-report bytes payload h =
     ap (λ notes. report_text (plan_of payload) ((notes ∷ []) ∷ [])) (course_of-notes bytes payload h) ∙ report_of-text bytes payload h
+
+module _ (payload : List ℕ) (is_there : 1 ≤ length payload) (fits : length payload ≤ 2048) (are_bytes : IsBytes payload) where
+  -- the report of the course of data of 1 to 2,048 bytes
+  pub report_of_course : report_text (plan_of payload) (((course_of payload).notes ∷ []) ∷ []) ≡ report_of payload
+  report_of_course = course_of-report (plan_text payload) payload (has_plan payload is_there fits are_bytes)
