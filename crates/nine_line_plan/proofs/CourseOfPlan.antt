@@ -183,7 +183,7 @@ module _ (bytes payload : List ℕ) (h : IsNineLinePlan bytes payload) where
   pub course_of-sessions : (course_of payload).sessions ≡ record { number = 0; commands = []; replies = []; outcomes = outcomes_of payload } ∷ []
   course_of-sessions = ap (λ (c : Course SimFaults). c.sessions) course_of-end
 
-  -- so have the courses of more rounds
+  -- more rounds change nothing
   pub course_of_rounds-same : (rounds : ℕ) → 8 ≤ rounds → course_of_rounds rounds payload ≡ course_of payload
   course_of_rounds-same rounds enough = course_of_rounds-end rounds enough ∙ sym course_of-end
 

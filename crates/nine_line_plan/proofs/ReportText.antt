@@ -7,7 +7,7 @@ use Rattle.hex.specs.Hex.{IsBytes}
 use Rattle.nand_model.specs.Operation.{raw_reply}
 use Rattle.run_model.specs.Course.{SessionRun, without_finished}
 use Rattle.run_model.specs.History.{session_after, Exchange, Asked, Replied}
-use Rattle.report_model.specs.Report.{controller_lines, cut_line, line, note_text, outcome_lines, outcome_text, report_text, rows_text, session_lines}
+use Rattle.report_model.specs.Report.{cut_line, line, note_text, outcome_lines, outcome_text, report_text, rows_text, session_lines}
 use Rattle.report_model.specs.Plan.{SessionPlan}
 use Rattle.nand_model.specs.declared.words.Ending.TheVariants.{Whole}
 use Rattle.nand_model.specs.declared.words.Note.TheVariants.{Answered, Attached, Began}
@@ -142,17 +142,17 @@ report_text-parts : (bytes payload : List ℕ) → IsNineLinePlan bytes payload
     ≡ line (codes "boot 0") ++ (line (codes "controller 0") ++ flat_map (note_text 0) (notes_of payload) ++ []) ++ session_lines_text payload
     ++ (line (codes "device mtd0 corrected 0 failed 0") ++ [] ++ []) ++ line (codes "end boot 0") ++ []
 report_text-parts bytes payload h =
-    let controllers : List ℕ = controller_lines 0 (notes_of payload ∷ []) in
+    let notes : List ℕ = flat_map (note_text 0) (notes_of payload) in
     let sessions : List ℕ = session_lines (plan_of payload) 0 (session_plan payload h.is_there h.fits h.are_bytes ∷ []) (notes_of payload ∷ []) in
     let devices : List ℕ = line (codes "device mtd" ++ decimal 0 ++ codes " corrected " ++ decimal 0 ++ codes " failed " ++ decimal 0) in
-    ap (λ b. b ++ controllers ++ sessions ++ (devices ++ [] ++ []) ++ line (codes "end boot " ++ decimal 0) ++ []) boot_line
-    ∙ ap (λ c. line (codes "boot 0") ++ (c ++ flat_map (note_text 0) (notes_of payload) ++ []) ++ sessions ++ (devices ++ [] ++ []) ++ line (codes "end boot " ++ decimal 0) ++ []) controller_line
-    ∙ ap (λ s. line (codes "boot 0") ++ (line (codes "controller 0") ++ flat_map (note_text 0) (notes_of payload) ++ []) ++ s ++ (devices ++ [] ++ []) ++ line (codes "end boot " ++ decimal 0) ++ [])
-    (session_lines-text payload h.is_there h.fits h.are_bytes)
-    ∙ ap (λ d. line (codes "boot 0") ++ (line (codes "controller 0") ++ flat_map (note_text 0) (notes_of payload) ++ []) ++ session_lines_text payload ++ (d ++ [] ++ []) ++ line (codes "end boot " ++ decimal 0) ++ [])
-    device_line-zero
-    ∙ ap (λ e. line (codes "boot 0") ++ (line (codes "controller 0") ++ flat_map (note_text 0) (notes_of payload) ++ []) ++ session_lines_text payload
-    ++ (line (codes "device mtd0 corrected 0 failed 0") ++ [] ++ []) ++ e ++ []) end_line
+    let end : List ℕ = line (codes "end boot " ++ decimal 0) in
+    let boot : List ℕ = line (codes "boot 0") in
+    let controller : List ℕ = line (codes "controller 0") ++ notes ++ [] in
+    ap (λ b. b ++ (line (codes "controller " ++ decimal 0) ++ notes ++ []) ++ sessions ++ (devices ++ [] ++ []) ++ end ++ []) boot_line
+    ∙ ap (λ c. boot ++ (c ++ notes ++ []) ++ sessions ++ (devices ++ [] ++ []) ++ end ++ []) controller_line
+    ∙ ap (λ s. boot ++ controller ++ s ++ (devices ++ [] ++ []) ++ end ++ []) (session_lines-text payload h.is_there h.fits h.are_bytes)
+    ∙ ap (λ d. boot ++ controller ++ session_lines_text payload ++ (d ++ [] ++ []) ++ end ++ []) device_line-zero
+    ∙ ap (λ e. boot ++ controller ++ session_lines_text payload ++ (line (codes "device mtd0 corrected 0 failed 0") ++ [] ++ []) ++ e ++ []) end_line
 
 -- the report of the plan's notes, with the lines of the notes as one part
 pub report_text-printed : (bytes payload : List ℕ) → IsNineLinePlan bytes payload
