@@ -5,12 +5,12 @@
 --     for each session             session S, the lines of its finished commands, and where some are left: cut after K
 --     for each device              device mtdJ corrected N failed N
 --                                  end boot B
-use Rattle.std.specs.Prelude.{◌≡◌, ℕ, zero, suc, ◌+◌, ◌*◌, ◌/◌, Bool, true, false, ◌==◌, if◌then◌else◌, List, [], ◌∷◌, ◌++◌, length, map, take, drop, flat_map, sum_by, slice_index_or, replicate, bytes_eq, codes, decimal, refl}
+use Rattle.std.specs.Prelude.{◌≡◌, ℕ, zero, suc, ◌+◌, ◌*◌, ◌/◌, ◌%◌, ◌^◌, Bool, true, false, ◌==◌, if◌then◌else◌, List, [], ◌∷◌, ◌++◌, length, map, take, drop, flat_map, sum_by, slice_index, slice_index_or, replicate, bytes_eq, codes, decimal, refl}
 use Rattle.hex.specs.Hex.{encode_lower}
 use Rattle.std.specs.Int.{to_be_bytes, w32}
 use Rattle.nand_model.specs.Sizes.{numbers_from}
 use Rattle.nand_model.specs.Operation.{Partitions}
-use Rattle.run_model.specs.Course.{SessionRun, without_finished, geometry_for}
+use Rattle.run_model.specs.Course.{SessionRun, without_finished, with_reply, geometry_for}
 use Rattle.run_model.specs.History.{Exchange, Asked, Replied, exchanges_of, session_after}
 use Rattle.nand_model.specs.declared.geometry.Geometry.{Geometry}
 use Rattle.nand_model.specs.declared.words.Which.{Which}
