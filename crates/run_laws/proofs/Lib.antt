@@ -16,3 +16,4 @@ pub mod Alone
 pub mod Replies
 pub mod Turns
 pub mod AttachTurns
+pub mod Progress

@@ -44,6 +44,7 @@ pub record SessionLaw (partitions : Partitions) (sizes : Command → Geometry) (
   pub to : (op : Op) → open_op ≡ Some op → (k : ℕ) × (asked_at k ≡ Some (n, op))
   pub follow : (commands : List Command) → HaveOneNumberEach begun → Contains begun (n, commands) → IsFollowed sizes n commands past open_op sessions
   pub not_own : ((commands : List Command) → Contains begun (n, commands) → ⊥) → exchanges_of n notes ≡ []
+  pub asker : (op : Op) → open_op ≡ Some op → (s : SessionRun) × (find (λ (t : SessionRun). t.number == n) sessions ≡ Some s)
   pub is_own : (s : SessionRun) → find (λ (t : SessionRun). t.number == n) sessions ≡ Some s → (commands : List Command) × Contains begun (n, commands)
 
 pub number_stays : (sizes : Command → Geometry) (number : ℕ) (commands : List Command) (replies : List Reply) (outcomes : List Outcome) → (without_finished sizes number commands replies outcomes).number ≡ number
@@ -147,6 +148,7 @@ module _ (partitions : Partitions) (sizes : Command → Geometry) (begun : List 
     to = a.to;
     follow = a.follow;
     not_own = λ none. exchanges-append n notes new ∙ ap (λ zs. exchanges_of n notes ++ zs) e ∙ append-nil _ ∙ a.not_own none;
+    asker = a.asker;
     is_own = a.is_own;
   }
 
@@ -174,6 +176,7 @@ module _ (partitions : Partitions) (sizes : Command → Geometry) (begun : List 
       next = λ other g. ap (λ (s : SessionRun). next_op_of sizes s.commands s.replies) (same_Some f.run asker (sym f.found ∙ found)) ∙ next ∙ g;
     };
     not_own = λ none. let own = a.is_own asker found in absurd (none own.0 own.1);
+    asker = λ other h. (asker, found);
     is_own = a.is_own;
   }
     where
@@ -195,6 +198,7 @@ module _ (partitions : Partitions) (sizes : Command → Geometry) (begun : List 
     to = λ other h. let t = a.to other h in (t.0, others t.0 (λ e. none-some _ (sym was ∙ ap asked_at e ∙ t.1)) ∙ t.1);
     follow = a.follow;
     not_own = λ none. exchanges-append n notes (Began m op ∷ []) ∙ ap (λ b. exchanges_of n notes ++ ((if b then Asked op ∷ [] else []) ++ [])) (ne_eqb m n d) ∙ append-nil _ ∙ a.not_own none;
+    asker = a.asker;
     is_own = a.is_own;
   }
     where
@@ -223,6 +227,7 @@ module _ (partitions : Partitions) (sizes : Command → Geometry) (begun : List 
       next = λ other g. absurd (none-some other g);
     };
     not_own = λ none. absurd (not_empty a.past (Asked op) (sym (a.are ∙ ap (λ o. a.past ++ asked o) (a.from k op was).1) ∙ a.not_own none));
+    asker = λ other h. absurd (none-some other h);
     is_own = λ s h. let t = found_before sizes n n reply sessions s h in a.is_own t.0 t.1;
   }
     where
@@ -244,6 +249,7 @@ module _ (partitions : Partitions) (sizes : Command → Geometry) (begun : List 
     to = λ other h. let t = a.to other h in (t.0, others t.0 (λ e. d (some_pair_parts m n op other (sym was ∙ ap asked_at e ∙ t.1)).0) ∙ t.1);
     follow = λ commands u h. let f = a.follow commands u h in record { run = f.run; found = found_beside sizes m n reply sessions d ∙ f.found; follows = f.follows; after = f.after; next = f.next };
     not_own = λ none. exchanges-append n notes (Answered m reply ∷ []) ∙ ap (λ b. exchanges_of n notes ++ ((if b then Replied reply ∷ [] else []) ++ [])) (ne_eqb m n d) ∙ append-nil _ ∙ a.not_own none;
+    asker = λ other h. let s = a.asker other h in (s.0, found_beside sizes m n reply sessions d ∙ s.1);
     is_own = λ s h. let t = found_before sizes m n reply sessions s h in a.is_own t.0 t.1;
   }
     where

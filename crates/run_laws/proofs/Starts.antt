@@ -108,6 +108,7 @@ module _ {W : Type 0} (model : FaultModel W) (boot : Boot) (starts : List (ChipS
       next = λ op g. absurd (none-some op g);
     };
     not_own = λ none. refl;
+    asker = λ op h. absurd (none-some op h);
     is_own = λ s h. own_at_start (sizes_of boot starts) n boot.sessions s h;
   }
 
