@@ -1,6 +1,6 @@
 -- A course that is not over goes on: some session's turn is not idle.
 use Rattle.std.proofs.Common.{◌≡◌, ◌⊎◌, ◌<◌, ◌≤◌, get_or, inl, inr, ℕ, zero, suc, ◌+◌, Bool, true, false, not, ◌&&◌, ◌||◌, cond, List, [], ◌∷◌, ◌++◌, length, map, Option, Some, None, refl, ap, sym, ◌∙◌, subst, arith}
-use Rattle.std.specs.Prelude.{slice_get, find, position, fold, is_none, is_some, if◌then◌else◌, ◌==◌, Contains, ⊤}
+use Rattle.std.specs.Prelude.{slice_get, find, position, fold, is_none, is_some, if◌then◌else◌, ◌==◌, Contains}
 use Rattle.std.specs.List.{list_all}
 use Rattle.std.proofs.lemmas.Bool.{false≢true, eq-eqb, eqb-true, or_parts}
 use Rattle.std.proofs.lemmas.Option.{none-some, same_Some, slice_get_within, get_or_from_slice_get, slice_get_cases}
@@ -12,13 +12,14 @@ use Rattle.nand_model.specs.declared.words.Note.{Note}
 use Rattle.nand_model.specs.declared.words.Op.{Op}
 use Rattle.nand_model.specs.declared.words.Reply.{Reply}
 use Rattle.nand_model.specs.Chip.{ChipState, FaultModel, PageEvent}
-use Rattle.nand_model.specs.Operation.{Partitions, Known, Finished, device_of}
+use Rattle.nand_model.specs.Operation.{Known, Finished, device_of}
 use Rattle.nand_model.specs.ChipRun.{ChipRun, Pending, finished_by, next_chip_event}
 use Rattle.run_model.specs.Command.{Script, End, Ask, Next, Do, Over, after_replies, next_in, next_step, script_of, command_device}
-use Rattle.run_model.specs.Course.{Boot, Course, SessionRun, without_finished, with_reply, replied, next_op_of, op_of_next, next_op, session_run, chip_of, finish, with_answer, tear_at, with_flips_before, event_done, event_on, event_or_answer, chip_step, began, begin_on, begin_at, begin_step, session_step, turn_unless, turn_step, attach_first, attach_step, attach_steps, course_after, start_of_boot, sizes_of, is_idle, is_over, is_finished, is_free, is_free_at, can_begin, unattached, pending_chip, is_pending_of}
-use Rattle.run_model.specs.History.{notes_of_chip}
+use Rattle.run_model.specs.Course.{Boot, Course, SessionRun, without_finished, with_reply, replied, next_op_of, op_of_next, next_op, session_run, chip_of, finish, with_answer, tear_at, with_flips_before, event_done, event_on, event_or_answer, chip_step, began, begin_on, begin_at, begin_step, session_step, turn_unless, turn_step, attach_first, attach_step, attach_steps, course_after, start_of_boot, sizes_of, is_idle, is_finished, is_free, is_free_at, can_begin, unattached, pending_chip, is_pending_of}
+use Rattle.run_model.specs.History.{notes_of_chip, IsThere}
 use Rattle.run_model.specs.Run.{HaveOneNumberEach}
-use Rattle.run_laws.specs.Turns.{AsksOnly, IsPlaced, ArePlaced, SomeTurnIsBusy}
+use Rattle.run_laws.specs.Turns.{AsksOnly, HaveChips, SomeTurnIsBusy}
+use Rattle.run_laws.proofs.Devices.{own_device}
 use Rattle.run_laws.proofs.Places.{position_is, position_none}
 use Rattle.run_laws.proofs.Sessions.{number_stays}
 use Rattle.run_laws.proofs.Courses.{AtPlace, asked_on, asked_by, LawOf, by_log, IsLive, Holds}
@@ -158,6 +159,10 @@ and_false : (b : Bool) → (b && false) ≡ false
 and_false true = refl
 and_false false = refl
 
+chip_there : (count : ℕ) (o : Option ℕ) → IsThere count o → (k : ℕ) × (o ≡ Some k) × (k < count)
+chip_there count None h = absurd h
+chip_there count (Some k) h = (k, refl, h)
+
 -- the operations of a script stay those of its device
 asks_after : (dev : ℕ) (replies : List Reply) (script : Script) → AsksOnly dev script → AsksOnly dev (after_replies replies script)
 asks_after dev [] script h = h
@@ -173,23 +178,26 @@ device_of_next dev (End outcome) h op e = absurd (none-some op (ap op_of_next e)
 device_of_next dev (Ask asked more) h op e = ap device_of (sym (same_Some _ _ (ap op_of_next e))) ∙ h.0
 
 module _ {W : Type 0} (boot : Boot) (starts : List (ChipState W)) where
+  abbrev HasChip : Command → Type 0
+  HasChip command = IsThere (length starts) (chip_of boot.partitions (command_device command))
+
   -- nothing is left of a session, or its next operation is of a chip that is there
   abbrev CanGoOn : SessionRun → Type 0
   CanGoOn s = (is_finished s.commands ≡ true)
       ⊎ ((op : Op) × (k : ℕ) × (next_op_of (sizes_of boot starts) s.commands s.replies ≡ Some op) × (chip_of boot.partitions (device_of op) ≡ Some k) × (k < length starts))
 
   record IsReady (s : SessionRun) : Type 0 where
-    placed : (i : ℕ) (command : Command) → slice_get s.commands i ≡ Some command → IsPlaced boot starts command
+    chips : (i : ℕ) (command : Command) → slice_get s.commands i ≡ Some command → HasChip command
     goes_on : CanGoOn s
 
-  ready : (n : ℕ) (commands : List Command) (replies : List Reply) (outcomes : List Outcome) → ((i : ℕ) (command : Command) → slice_get commands i ≡ Some command → IsPlaced boot starts command)
+  ready : (n : ℕ) (commands : List Command) (replies : List Reply) (outcomes : List Outcome) → ((i : ℕ) (command : Command) → slice_get commands i ≡ Some command → HasChip command)
       → IsReady (without_finished (sizes_of boot starts) n commands replies outcomes)
-  ready n [] replies outcomes h = record { placed = λ i command e. absurd (none-some command e); goes_on = inl refl }
+  ready n [] replies outcomes h = record { chips = λ i command e. absurd (none-some command e); goes_on = inl refl }
   ready n (command ∷ commands) replies outcomes h =
       by_next (next_step (sizes_of boot starts command) command replies) refl (λ outs. ready n commands [] outs (λ i. h (suc i)))
     where
-      first : IsPlaced boot starts command
-      first = h 0 command refl
+      first : (k : ℕ) × (chip_of boot.partitions (command_device command) ≡ Some k) × (k < length starts)
+      first = chip_there (length starts) (chip_of boot.partitions (command_device command)) (h 0 command refl)
 
       by_next : (x : Next) → next_step (sizes_of boot starts command) command replies ≡ x → ((outs : List Outcome) → IsReady (without_finished (sizes_of boot starts) n commands [] outs))
           → IsReady (without_finished (sizes_of boot starts) n (command ∷ commands) replies outcomes)
@@ -198,8 +206,8 @@ module _ {W : Type 0} (boot : Boot) (starts : List (ChipState W)) where
           same : without_finished (sizes_of boot starts) n (command ∷ commands) replies outcomes ≡ without_finished (sizes_of boot starts) n commands [] (outcomes ++ outcome ∷ [])
           same = rw e refl
       by_next (Do op) e later = subst IsReady (sym same) (record {
-        placed = h;
-        goes_on = inr (op, first.chip, ap op_of_next e, ap (chip_of boot.partitions) device ∙ first.is_chip, first.is_there);
+        chips = h;
+        goes_on = inr (op, first.0, ap op_of_next e, ap (chip_of boot.partitions) device ∙ first.1, first.2);
       })
         where
           same : without_finished (sizes_of boot starts) n (command ∷ commands) replies outcomes ≡ record { number = n; commands = command ∷ commands; replies = replies; outcomes = outcomes }
@@ -207,22 +215,22 @@ module _ {W : Type 0} (boot : Boot) (starts : List (ChipState W)) where
 
           device : device_of op ≡ command_device command
           device = device_of_next (command_device command) (after_replies replies (script_of (sizes_of boot starts command) command))
-              (asks_after (command_device command) replies (script_of (sizes_of boot starts command) command) first.own_device) op e
+              (asks_after (command_device command) replies (script_of (sizes_of boot starts command) command) (own_device (sizes_of boot starts command) command)) op e
 
   -- sessions of one number are alike, and each is ready
   record AreReady (sessions : List SessionRun) : Type 0 where
     alike : (i j : ℕ) (s t : SessionRun) → slice_get sessions i ≡ Some s → slice_get sessions j ≡ Some t → s.number ≡ t.number → s ≡ t
     each : (i : ℕ) (s : SessionRun) → slice_get sessions i ≡ Some s → IsReady s
 
-  start_is_ready : HaveOneNumberEach boot.sessions → ArePlaced boot starts → AreReady (start_of_boot boot starts).sessions
-  start_is_ready once placed = record {
+  start_is_ready : HaveOneNumberEach boot.sessions → HaveChips boot starts → AreReady (start_of_boot boot starts).sessions
+  start_is_ready once chips = record {
     alike = λ i j s t e f same.
         let x = mapped_at begin boot.sessions i s e in
         let y = mapped_at begin boot.sessions j t f in
         sym x.2 ∙ alike_at x.0 y.0 (contains_at boot.sessions i x.0 x.1) (contains_at boot.sessions j y.0 y.1) (sym (numbered x.0) ∙ ap (λ (z : SessionRun). z.number) x.2 ∙ same ∙ sym (ap (λ (z : SessionRun). z.number) y.2) ∙ numbered y.0) ∙ y.2;
     each = λ i s e.
         let x = mapped_at begin boot.sessions i s e in
-        subst IsReady x.2 (ready x.0.0 x.0.1 [] [] (λ j command g. placed x.0.0 x.0.1 command (contains_at boot.sessions i x.0 x.1) (contains_at x.0.1 j command g)));
+        subst IsReady x.2 (ready x.0.0 x.0.1 [] [] (λ j command g. chips x.0.0 x.0.1 command (contains_at boot.sessions i x.0 x.1) (contains_at x.0.1 j command g)));
   }
     where
       begin : ℕ × List Command → SessionRun
@@ -258,7 +266,7 @@ module _ {W : Type 0} (boot : Boot) (starts : List (ChipState W)) where
       numbered s = numbered_by (s.number == session) s
 
       readied : (b : Bool) (s : SessionRun) → IsReady s → IsReady (if b then with_reply (sizes_of boot starts) reply s else s)
-      readied true s r = ready s.number s.commands (s.replies ++ reply ∷ []) s.outcomes r.placed
+      readied true s r = ready s.number s.commands (s.replies ++ reply ∷ []) s.outcomes r.chips
       readied false s r = r
 
 module _ {W : Type 0} (model : FaultModel W) (boot : Boot) (starts : List (ChipState W)) (course : Course W) where
@@ -281,9 +289,13 @@ module _ {W : Type 0} (model : FaultModel W) (boot : Boot) (starts : List (ChipS
   pending_is_busy k c live all at (Some pending) e h =
       let law = live.sessions pending.session in
       let asker = law.asker pending.op (law.from k pending.op (ap asked_on at ∙ ap asked_by e)).1 in
-      let own = law.is_own asker.0 asker.1 in
-      (pending.session, own.0, own.1, busy_by pending.session live.lit all
-      (ap (λ b. b && not (can_begin boot.partitions course (next_op (sizes_of boot starts) (session_run course pending.session)))) (is_there (pending_chip course pending.session) refl)))
+      let own = law.is_own asker.0 asker.1 in (
+        pending.session,
+        own.0,
+        own.1,
+        busy_by pending.session live.lit all
+            (ap (λ b. b && not (can_begin boot.partitions course (next_op (sizes_of boot starts) (session_run course pending.session)))) (is_there (pending_chip course pending.session) refl)),
+      )
     where
       is_there : (o : Option ℕ) → pending_chip course pending.session ≡ o → is_none o ≡ false
       is_there None g = absurd (false≢true (sym (position_none (λ (z : ChipRun W). is_pending_of pending.session z.pending) course.chips g k c at)
@@ -303,9 +315,13 @@ module _ {W : Type 0} (model : FaultModel W) (boot : Boot) (starts : List (ChipS
   next_is_busy i s live sessions all idle at left =
       let f = found_there (λ (t : SessionRun). t.number == s.number) course.sessions i s at (eq-eqb _ _ refl) in
       let same : f.0 ≡ s = sessions.alike f.2.0 i f.0 s f.2.1 at (eqb-true _ _ f.3) in
-      let own = (live.sessions s.number).is_own f.0 f.1 in
-      (s.number, own.0, own.1, busy_by s.number live.lit all
-      (ap (λ b. is_none (pending_chip course s.number) && not b) (begins (f.1 ∙ ap (λ t. Some t) same) (sessions.each i s at).goes_on) ∙ and_false (is_none (pending_chip course s.number))))
+      let own = (live.sessions s.number).is_own f.0 f.1 in (
+        s.number,
+        own.0,
+        own.1,
+        busy_by s.number live.lit all
+            (ap (λ b. is_none (pending_chip course s.number) && not b) (begins (f.1 ∙ ap (λ t. Some t) same) (sessions.each i s at).goes_on) ∙ and_false (is_none (pending_chip course s.number))),
+      )
     where
       by_chip : (k : ℕ) → (c : ChipRun W) × (slice_get course.chips k ≡ Some c) → is_free (slice_get course.chips k) ≡ true
       by_chip k c = ap is_free c.1 ∙ not_some c.0.pending (idle k c.0 c.1)
@@ -348,6 +364,6 @@ module _ {W : Type 0} (model : FaultModel W) (boot : Boot) (starts : List (ChipS
   is_busy (inr cut) sessions over all = absurd (false≢true (sym (or_parts course.dark _ over).0 ∙ cut.dark))
 
 pub go_on : {W : Type 0} (model : FaultModel W) (boot : Boot) (starts : List (ChipState W)) (attaches : ℕ) (turns : List ℕ)
-    → HaveOneNumberEach boot.sessions → ArePlaced boot starts → SomeTurnIsBusy boot starts (course_after model boot starts attaches turns)
-go_on model boot starts attaches turns once placed = is_busy model boot starts (course_after model boot starts attaches turns) (course_holds model boot starts attaches turns)
-    (course_keeps model boot starts (AreReady boot starts) (reply_is_ready boot starts) attaches turns (start_is_ready boot starts once placed))
+    → HaveOneNumberEach boot.sessions → HaveChips boot starts → SomeTurnIsBusy boot starts (course_after model boot starts attaches turns)
+go_on model boot starts attaches turns once chips = is_busy model boot starts (course_after model boot starts attaches turns) (course_holds model boot starts attaches turns)
+    (course_keeps model boot starts (AreReady boot starts) (reply_is_ready boot starts) attaches turns (start_is_ready boot starts once chips))

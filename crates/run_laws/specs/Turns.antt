@@ -1,9 +1,10 @@
 -- What a turn does to a course, and which turns of a list do anything.
-use Rattle.std.specs.Prelude.{◌≡◌, ℕ, ◌+◌, ◌<◌, true, false, if◌then◌else◌, List, [], ◌∷◌, ◌++◌, length, Some, None, Contains, ⊤}
+use Rattle.std.specs.Prelude.{◌≡◌, ℕ, ◌+◌, true, false, if◌then◌else◌, List, [], ◌∷◌, ◌++◌, length, Some, None, Contains, ⊤}
 use Rattle.nand_model.specs.Chip.{FaultModel, ChipState}
 use Rattle.nand_model.specs.Operation.{device_of}
-use Rattle.run_model.specs.Command.{Script, End, Ask, script_of, command_device}
+use Rattle.run_model.specs.Command.{Script, End, Ask, command_device}
 use Rattle.run_model.specs.Course.{Boot, Course, chip_of, is_idle, is_over, sizes_of, unattached, attach_step, turn_step, turns_taken}
+use Rattle.run_model.specs.History.{IsThere}
 use Rattle.nand_model.specs.declared.geometry.Geometry.{Geometry}
 use Rattle.nand_model.specs.declared.words.Command.{Command}
 use Rattle.nand_model.specs.declared.words.Note.{Note}
@@ -46,18 +47,11 @@ abbrev pub AsksOnly : ℕ → Script → Type 0
 AsksOnly dev (End outcome) = ⊤
 AsksOnly dev (Ask op go_on) = (device_of op ≡ dev) × ((reply : Reply) → AsksOnly dev (go_on reply))
 
--- a command asks for operations of its device alone, and the chip of that device is there
-pub record IsPlaced {W : Type 0} (boot : Boot) (starts : List (ChipState W)) (command : Command) : Type 0 where
-  pub own_device : AsksOnly (command_device command) (script_of (sizes_of boot starts command) command)
-  pub chip : ℕ
-  pub is_chip : chip_of boot.partitions (command_device command) ≡ Some chip
-  pub is_there : chip < length starts
-
--- all commands of a boot are so
-abbrev pub ArePlaced : {W : Type 0} → Boot → List (ChipState W) → Type 0
-ArePlaced boot starts =
+-- each command of a boot is of a device whose chip is there
+abbrev pub HaveChips : {W : Type 0} → Boot → List (ChipState W) → Type 0
+HaveChips boot starts =
     (session : ℕ) (commands : List Command) (command : Command) →
-    Contains boot.sessions (session, commands) → Contains commands command → IsPlaced boot starts command
+    Contains boot.sessions (session, commands) → Contains commands command → IsThere (length starts) (chip_of boot.partitions (command_device command))
 
 -- where a course is not over and all chips are attached, the turn of some session of the boot is not idle
 abbrev pub SomeTurnIsBusy : {W : Type 0} → Boot → List (ChipState W) → Course W → Type 0
