@@ -1,4 +1,4 @@
-use Rattle.std.proofs.Common.{◌≡◌, ◌<◌, ◌≤◌, ◌*◌, ◌+◌, ◌/◌, ◌%◌, ◌-◌, ◌^◌, ℕ, ap, ◌∙◌, arith, subst, sym}
+use Rattle.std.proofs.Common.{◌*◌, ◌%◌, ◌^◌, ap, ◌∙◌, arith}
 use Rattle.u256.proofs.ShiftLemmas.{in_range, shl_small, shl_small-high, shl_large, low_bits-lt}
 use Rattle.u256.proofs.number.U256ShlU32.shl.Goals as goal
 

@@ -1,4 +1,4 @@
-use Rattle.std.proofs.Common.{◌≡◌, ◌<◌, ◌≤◌, ◌*◌, ◌+◌, ◌/◌, ◌%◌, ◌-◌, ◌^◌, ℕ, ap, ◌∙◌, arith, subst, sym}
+use Rattle.std.proofs.Common.{◌/◌, ◌-◌, ◌^◌, ap, ◌∙◌, arith}
 use Rattle.u256.proofs.ShiftLemmas.{in_range, shr_small, shr_small-low, shr_large, quotient-lt, joined-lt}
 use Rattle.u256.proofs.number.U256ShrU32.shr.Goals as goal
 
