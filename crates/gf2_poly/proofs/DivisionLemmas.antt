@@ -7,10 +7,7 @@ use Rattle.std.proofs.Math.Nat.{pow-suc, pow-le-pow_right}
 use Rattle.code_model.specs.Binary.{product, reduced, remainder, HasDegree}
 use Rattle.code_model.proofs.BinaryLemmas.{product-digit, remainder-digit, remainder-unique, remainder-lt, quotient}
 use Rattle.gf2_poly.specs.Division.{IsRemainder}
-use Rattle.gf2_poly.proofs.DegreeLemmas.{plus_power, product-lt}
-
-pub below_twice : (d n : ℕ) → n < 2 ^ (d + 1) → n < 2 * 2 ^ d
-below_twice d n h = let e = plus_power d in omega arith
+use Rattle.gf2_poly.proofs.DegreeLemmas.{plus_power, below_twice, degree_unique, product-lt}
 
 pub top_from_bit : (w n : ℕ) → n / 2 ^ w % 2 ≡ 1 → 2 ^ w ≤ n
 top_from_bit w n e = elim (cases_lt n (2 ^ w)) [
@@ -25,16 +22,6 @@ below_from_bit w n h ne = elim (cases_lt n (2 ^ w)) [
     let low = le-div 1 n (2 ^ w) (pow_pos w) (omega arith) in
     let high = div_below n (2 ^ w) 2 (pow_pos w) h in
     omega arith))
-]
-
--- a polynomial has one degree
-pub degree_unique : (d e a : ℕ) → HasDegree d a → HasDegree e a → d ≡ e
-degree_unique d e a h g = elim (cases_lt d e) [
-  | inl l ↦ absurd (let w : 2 ^ (d + 1) ≤ 2 ^ e = pow-le-pow_right (lit< tt) (omega arith) in let a1 = h.1 in let a0 = g.0 in omega arith)
-  | inr r ↦ elim (cases_lt e d) [
-    | inl l ↦ absurd (let w : 2 ^ (e + 1) ≤ 2 ^ d = pow-le-pow_right (lit< tt) (omega arith) in let a1 = g.1 in let a0 = h.0 in omega arith)
-    | inr s ↦ omega arith
-  ]
 ]
 
 -- the low n + 1 bits, by bit n

@@ -1,5 +1,4 @@
-pub mod SquareLemmas
-pub mod RootLemmas
+pub mod CoefficientLemmas
 pub mod DegreeLemmas
 pub mod DivisionLemmas
 pub mod TableLemmas

@@ -5,8 +5,6 @@ ghost use Rattle.code_model.specs.Binary.{HasDegree};
 ghost use Rattle.code_model.specs.Generator.{minimal_of, generator_of};
 ghost use Rattle.gf2_poly.specs.Minimal.{minimal_coefficients};
 
-use u256::U256;
-
 use crate::poly::Poly;
 use crate::tables::{GENERATORS, MINIMALS};
 
@@ -18,7 +16,7 @@ pub fn minimal(j: u32) -> Poly
     ensures coefficients { (k : ℕ) → slice_index (minimal_coefficients 13 0x201b j) k ≡ bit_at result k }
     ensures degree { HasDegree 13 result }
 {
-    Poly::of(U256::from_halves(0, u128::from(MINIMALS[(j / 2) as usize])))
+    Poly::from_halves(0, u128::from(MINIMALS[(j / 2) as usize]))
 }
 
 /// The generator of the code for t errors, from 1 to 16: the product of the minimal polynomials of the powers 1, 3 and so on to 2 t - 1, as in lib/bch. Its degree is 13 t.
@@ -28,5 +26,5 @@ pub fn generator(t: u32) -> Poly
     ensures degree { HasDegree (13 * t) result }
 {
     let halves = GENERATORS[(t - 1) as usize];
-    Poly::of(U256::from_halves(halves[0], halves[1]))
+    Poly::from_halves(halves[0], halves[1])
 }

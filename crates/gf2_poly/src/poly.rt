@@ -10,7 +10,7 @@ use std::marker::Model;
 use u256::U256;
 
 /// A polynomial over two elements of degree up to 255. As a number, bit k is the coefficient of x^k.
-#[derive(Clone, Copy)]
+#[derive(Clone, Copy, PartialEq, Eq, Debug)]
 pub struct Poly {
     bits: U256,
 }
@@ -28,11 +28,13 @@ impl Model for Poly {
 }
 
 impl Poly {
-    /// The polynomial with these coefficients, that of x^k in bit k.
-    pub fn of(bits: U256) -> Poly
-        ensures { result ≡ bits }
+    /// The polynomial with these coefficients, that of x^k in bit k: `high` from x^128 on, `low` below.
+    pub fn from_halves(high: u128, low: u128) -> Poly
+        ensures { result ≡ high * 2 ^ 128 + low }
     {
-        Poly { bits: bits ^ U256::from_halves(0, 0) }
+        Poly {
+            bits: U256::from_halves(high, low),
+        }
     }
 
     /// The coefficients, that of x^k in bit k.

@@ -6,7 +6,7 @@ use std::marker::Model;
 use std::ops::{BitXor, Shl, Shr};
 
 /// A number below 2^256.
-#[derive(Clone, Copy)]
+#[derive(Clone, Copy, PartialEq, Eq, Debug)]
 pub struct U256 {
     high: u128,
     low: u128,
