@@ -19,9 +19,9 @@ pub below_from_bit : (w n : ℕ) → n < 2 * 2 ^ w → (n / 2 ^ w % 2 ≡ 1 → 
 below_from_bit w n h ne = elim (cases_lt n (2 ^ w)) [
   | inl l ↦ l
   | inr g ↦ absurd (ne (
-    let low = le-div 1 n (2 ^ w) (pow_pos w) (omega arith) in
-    let high = div_below n (2 ^ w) 2 (pow_pos w) h in
-    omega arith))
+      let low = le-div 1 n (2 ^ w) (pow_pos w) (omega arith) in
+      let high = div_below n (2 ^ w) 2 (pow_pos w) h in
+      omega arith))
 ]
 
 -- the low n + 1 bits, by bit n

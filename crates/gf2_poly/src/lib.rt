@@ -5,6 +5,8 @@ mod generators;
 mod laws;
 mod poly;
 mod tables;
+#[cfg(test)]
+mod tests;
 
 pub use generators::{generator, minimal};
 pub use laws::{generator_degree, generator_roots, minimal_coefficients_are_bits};

@@ -6,7 +6,6 @@ ghost use Rattle.gf2_poly.specs.Division.{IsRemainder};
 ghost use Rattle.gf2_poly.specs.Degree.{DegreeSumAtMost};
 
 use std::marker::Model;
-
 use u256::U256;
 
 /// A polynomial over two elements of degree up to 255. As a number, bit k is the coefficient of x^k.
@@ -125,5 +124,9 @@ fn less(number: U256, by: U256, degree: u32) -> U256
     ensures value { result ≡ reduced degree by number }
     ensures small { result < 2 ^ degree }
 {
-    if number.bit(degree) { number ^ by } else { number }
+    if number.bit(degree) {
+        number ^ by
+    } else {
+        number
+    }
 }
