@@ -1,5 +1,5 @@
 // The top call.
-ghost use Rattle.std.specs.Prelude.{◌≡◌, ◌≤◌, ◌++◌, ◌⊎◌, ℕ, List, true, false, Some, None, map, string_bytes, take, length, IfSome};
+ghost use Rattle.std.specs.Prelude.{◌≡◌, ◌<◌, ◌≤◌, ◌++◌, ◌⊎◌, ℕ, List, true, false, Some, None, map, string_bytes, take, length, IfSome};
 ghost use Rattle.std.specs.Io.KnownBytes.{IsAtEnd, append_known};
 ghost use Rattle.nine_line_plan.specs.NineLines.{IsOfTheForm};
 ghost use Rattle.lab_outside.specs.Outside.{HasRisen, TookPrefix};
