@@ -1,7 +1,7 @@
 -- The scripts of the commands that can be run, in the form in which a tool keeps them.
-use Rattle.std.proofs.Common.{◌≡◌, ℕ, zero, suc, ◌+◌, ◌-◌, ◌*◌, ◌/◌, ◌%◌, ◌<◌, ◌≤◌, Bool, true, false, List, [], ◌∷◌, ◌++◌, ◌^◌, length, replicate, Option, subst, min, refl, sym, ap, ◌∙◌, arith, inl, inr, add-zero}
+use Rattle.std.proofs.Common.{◌≡◌, ℕ, suc, ◌+◌, ◌-◌, ◌*◌, ◌/◌, ◌%◌, ◌<◌, ◌≤◌, Bool, true, false, List, [], ◌∷◌, ◌++◌, ◌^◌, length, replicate, Option, subst, min, refl, sym, ap, ◌∙◌, arith, inl, inr, add-zero}
 use Rattle.std.specs.Prelude.{◌==◌}
-use Rattle.std.proofs.Math.Nat.{zero-div, zero-mod, sub-zero, mul-le-mul_left, mul-le-mul_right, div-lt_iff_lt-mul, mul_assoc, div_self, div-eq_of_lt, add-div_right, mod-lt}
+use Rattle.std.proofs.Math.Nat.{zero-div, zero-mod, sub-zero, mul-le-mul_left, div-lt_iff_lt-mul, mul_assoc, div_self, div-eq_of_lt, add-div_right, mod-lt}
 use Rattle.std.proofs.lemmas.List.{take_all}
 use Rattle.std.proofs.lemmas.Bool.Decides.{eqb_tells}
 use Rattle.nand_model.proofs.Bounds.{bounds}
@@ -16,7 +16,7 @@ use Rattle.nand_model.specs.declared.words.Outcome.TheVariants.{IsBad as AskedBa
 use Rattle.run_model.specs.Command.{Script, Ask, End, next_in, next_step, after_replies, script_of, cost_of, erase_blocks, write_pages, write_blocks, blocks_touched, block_size, unit_count}
 use Rattle.tool_steps.specs.Stage.{ErasesAll, WritesOneUnit, DumpsOnePage, CanRun}
 use Rattle.tool_steps.specs.Steps.{is_over, handed, after_last, HasHad}
-use Rattle.tool_steps.specs.Work.{raw_write, raw_dump, unwritten, later_blocks, program_unit, page_dumped}
+use Rattle.tool_steps.specs.Work.{raw_write, unwritten, program_unit, page_dumped}
 
 pub pages_positive : (g : Geometry) → 1 ≤ g.pages_per_block
 pages_positive g = elim (bounds g).block [ inl e ↦ rw e (omega arith) | inr e ↦ rw e (omega arith) ]

@@ -1,5 +1,5 @@
 -- A command is added to the last session of a boot.
-use Rattle.std.proofs.Common.{◌≡◌, ℕ, zero, suc, ◌+◌, ◌-◌, ◌<◌, ◌≤◌, List, [], ◌∷◌, ◌++◌, length, map, set, get_or, refl, sym, ap, ◌∙◌, arith}
+use Rattle.std.proofs.Common.{◌≡◌, ℕ, zero, suc, ◌-◌, ◌<◌, List, [], ◌∷◌, ◌++◌, length, map, set, get_or, refl, ap, ◌∙◌, arith}
 use Rattle.nand_model.specs.Operation.{Partitions}
 use Rattle.nand_model.specs.declared.words.Command.{Command}
 use Rattle.run_model.specs.Course.{change_at}

@@ -1,5 +1,5 @@
 -- A controller's part of a boot, as it is put together.
-use Rattle.std.specs.Prelude.{ℕ, ◌-◌, List, [], ◌∷◌, ◌++◌, length, map, slice_get, Option, option_map, option_and_then, None}
+use Rattle.std.specs.Prelude.{ℕ, ◌-◌, List, [], ◌∷◌, ◌++◌, length, slice_get, Option, option_map, option_and_then, None}
 use Rattle.nand_model.specs.Operation.{Partitions}
 use Rattle.nand_model.specs.declared.words.Command.{Command}
 use Rattle.run_model.specs.Course.{Boot, change_at}

@@ -1,5 +1,5 @@
 -- The script that is left of a command, from where it stands.
-use Rattle.std.specs.Prelude.{ℕ, suc, ◌+◌, ◌-◌, ◌*◌, length, Bool, true, false, List, [], ◌∷◌, ◌++◌, replicate}
+use Rattle.std.specs.Prelude.{ℕ, suc, ◌+◌, ◌-◌, ◌*◌, length, true, false, List, [], ◌∷◌, ◌++◌, replicate}
 use Rattle.nand_model.specs.declared.geometry.Geometry.{Geometry}
 use Rattle.nand_model.specs.declared.words.Op.TheVariants.{RawRead, RawWrite, Erase, IsBad}
 use Rattle.nand_model.specs.declared.words.Reply.{Reply}

@@ -1,6 +1,5 @@
 use Rattle.std.specs.Prelude.{option_copied}
 use Rattle.std.proofs.lemmas.Result.{on_ok_weaker}
-use Rattle.tool_steps.specs.Work.{left_of}
 use Rattle.tool_steps.proofs.Scripts.{had_more}
 use Rattle.tool_steps.proofs.tool.Tool.next.Goals as goal
 
