@@ -1,3 +1,4 @@
 mod RowSteps
 mod Joined
 mod Entries
+mod Notes
