@@ -16,3 +16,5 @@ pub mod Alone
 pub mod Replies
 pub mod Turns
 pub mod AttachTurns
+pub mod Devices
+pub mod Progress
