@@ -177,7 +177,8 @@ module _ (m f : ℕ) (p : IsPrimitive m f) where
       degree_not_zero zero h = absurd (omega arith)
       degree_not_zero (suc n) h = omega arith
 
-  roots_bits : (j : ℕ) → Every (λ c. c < 2) (locator (times m f) (conjugates m f m (power m f 2 j)))
+  -- the coefficients of a minimal polynomial are 0 and 1
+  pub roots_bits : (j : ℕ) → Every (λ c. c < 2) (locator (times m f) (conjugates m f m (power m f 2 j)))
   roots_bits j =
       let k = predecessor in
       let a = power m f 2 j in

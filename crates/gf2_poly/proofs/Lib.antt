@@ -1,0 +1,4 @@
+pub mod CoefficientLemmas
+pub mod DegreeLemmas
+pub mod DivisionLemmas
+pub mod TableLemmas

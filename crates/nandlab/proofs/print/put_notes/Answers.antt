@@ -1,0 +1,4 @@
+use Rattle.nandlab.proofs.print.put_notes.Goals as goal
+
+pub returns : goal.returns
+returns c = ?
