@@ -18,3 +18,4 @@ pub mod Turns
 pub mod AttachTurns
 pub mod Devices
 pub mod Progress
+pub mod Troubles

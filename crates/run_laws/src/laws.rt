@@ -3,7 +3,7 @@ ghost use Rattle.nand_model.specs.Chip.{ChipState, FaultModel};
 ghost use Rattle.nand_model.specs.Operation.{Partitions};
 ghost use Rattle.run_model.specs.Command.{command_device, script_of};
 ghost use Rattle.run_model.specs.Course.{Boot, Course, course_after};
-ghost use Rattle.run_model.specs.Laws.{RepliesDependOnTheChip};
+ghost use Rattle.run_model.specs.Laws.{RepliesDependOnTheChip, TroublesAreFew};
 ghost use Rattle.run_model.specs.Run.{AreBoots, CoursesAreFaithful, RunsAreFaithful, HaveOneNumberEach};
 ghost use Rattle.nand_model.specs.declared.geometry.Geometry.{Geometry};
 ghost use Rattle.nand_model.specs.declared.words.Command.{Command};
@@ -50,8 +50,13 @@ pub fn commands_ask_one_device()
     ensures { (g : Geometry) (command : Command) → AsksOnly (command_device command) (script_of g command) }
 {}
 
-/// A boot goes on: while a course is not over and all its chips are attached, the turn of some session of the boot is not idle. So a
-/// round of all sessions does at least one step. Each session has one number, and the chip of each command's device is there.
+/// At most one written page of each block of a nandwrite is answered program failed or bad block, for every list of replies.
+pub fn troubles_are_few()
+    ensures { (g : Geometry) → TroublesAreFew g }
+{}
+
+/// A boot goes on: while a course is not over and all its chips are attached, the turn of some session of the boot is not idle, where
+/// each session has one number and the chip of each command's device is there.
 pub fn courses_go_on<W>()
     ensures { (model : FaultModel W) (boot : Boot) (starts : List (ChipState W)) (attaches : ℕ) (turns : List ℕ) →
         HaveOneNumberEach boot.sessions → HaveChips boot starts → SomeTurnIsBusy boot starts (course_after model boot starts attaches turns) }

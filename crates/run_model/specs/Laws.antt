@@ -1,4 +1,4 @@
--- Theorems about these definitions, each as a statement that a function's contract can carry. A statement counts as proved only where a contract cites it; those of this file wait for the stages that need them, but for `RepliesDependOnTheChip`.
+-- Theorems about these definitions, each as a statement that a function's contract can carry. A statement counts as proved only where a contract cites it; those of this file wait for the stages that need them, but for `RepliesDependOnTheChip` and `TroublesAreFew`.
 use Rattle.std.specs.Prelude.{◌≡◌, ℕ, ◌+◌, ◌-◌, ◌*◌, ◌/◌, ◌<◌, ◌≤◌, Bool, ◌==◌, List, [], ◌∷◌, length, map, fold, slice_get, Option, Some, None, IsTrue, All, ⊤}
 use Rattle.nand_model.specs.Page.{page_image, IsWhole}
 use Rattle.nand_model.specs.Table.{copy_in, table_page, written_code, state_read}
@@ -56,7 +56,7 @@ troubles [] script = 0
 troubles (r ∷ replies) (End outcome) = 0
 troubles (r ∷ replies) (Ask op go_on) = trouble_of op r + troubles replies (go_on r)
 
--- (Not proved yet.) Each block to which a nandwrite comes gives it at most one trouble, so that its cost with the number of its blocks is a bound for every list of replies
+-- Each block to which a nandwrite comes gives it at most one trouble, so that its cost with the number of its blocks is a bound for every list of replies
 abbrev pub TroublesAreFew : Geometry → Type 0
 TroublesAreFew g =
     (dev blocks : ℕ) (mark raw oob pad : Bool) (off : ℕ) (bytes : List ℕ) (replies : List Reply) →
