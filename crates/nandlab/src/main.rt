@@ -7,6 +7,8 @@ mod print;
 mod report;
 mod run;
 mod status;
+#[cfg(test)]
+mod tests;
 mod top;
 
 use lab_outside::{StdSink, StdSource};
