@@ -2,3 +2,6 @@ mod RowSteps
 mod Joined
 mod Entries
 mod Notes
+mod FirstPage
+mod PlanNotes
+mod PlanReport

@@ -1,9 +1,13 @@
 // The run of the nine-line plan.
-ghost use Rattle.std.specs.Prelude.{◌≡◌, ◌≤◌, ◌<◌, ◌+◌, ◌-◌, ◌++◌, ◌∷◌, [], ◌==◌, ℕ, length, map, if◌then◌else◌, IfOk, OnOk, replicate, slice_index};
+ghost use Rattle.std.specs.Prelude.{◌≡◌, ◌≤◌, ◌<◌, ◌+◌, ◌++◌, ◌∷◌, [], ◌==◌, true, length, map, take, replicate, if◌then◌else◌, IfOk, OnOk};
 ghost use Rattle.nand_model.specs.Chip.{new_chip};
-ghost use Rattle.nand_model.specs.Sizes.{numbers_from, first_page, raw_len};
-ghost use Rattle.nand_model.specs.Attach.{marker_table};
-ghost use Rattle.nand_model.specs.declared.words.Note.TheVariants.{Began, Answered};
+ghost use Rattle.nand_model.specs.Sizes.{numbers_from, first_page, page_count, raw_len};
+ghost use Rattle.nand_model.specs.Attach.{marker_byte, marker_table};
+ghost use Rattle.nand_model.specs.Operation.{raw_reply};
+ghost use Rattle.nand_model.specs.declared.words.Note.TheVariants.{Attached, Began, Answered};
+ghost use Rattle.nand_model.specs.declared.words.Op.TheVariants.{RawRead, RawWrite};
+ghost use Rattle.nand_model.specs.declared.words.Origin.TheVariants.{Markers};
+ghost use Rattle.nand_model.specs.declared.words.Reply.TheVariants.{Done};
 ghost use Rattle.nine_line_plan.specs.NineLines.{geometry as the_geometry, course_of, body_of, image_of};
 ghost use Rattle.chip_sim.specs.State.{sim_state, sim_room};
 
@@ -44,18 +48,36 @@ fn plan_chip(alloc: Global) -> Result<SimChip, AllocError>
     Ok(chip)
 }
 
-// The state of each block by the marker byte of its first page: 0 where it is 0xFF, else 3.
-fn marker_states<F: Flash>(alloc: Global, flash: &F) -> Result<Bytes, AllocError>
-    ensures { IfOk result (λ states. states ≡ marker_table (F.state flash.now).geometry
-        (map (λ block. ((F.state flash.now).pages (first_page (F.state flash.now).geometry block)).cells) (numbers_from 0 (F.state flash.now).geometry.blocks))) }
+// The cells of a page.
+fn page_cells(alloc: Global, chip: &SimChip, page: u32) -> Result<Bytes, AllocError>
+    requires { page < page_count (sim_state chip.now).geometry }
+    ensures cells { IfOk result (λ cells. cells ≡ ((sim_state chip.now).pages page).cells) }
+    ensures whole { IfOk result (λ cells. length cells ≡ raw_len (sim_state chip.now).geometry) }
 {
-    let g = flash.geometry();
-    let mut page = Bytes::filled(alloc, 0xff, g.raw_len() as usize)?;
+    let g = chip.geometry();
+    let mut cells = Bytes::filled(alloc, 0, g.raw_len() as usize)?;
+    chip.read_page(page, cells.as_mut_slice());
+    Ok(cells)
+}
+
+// The state of a block by the marker byte of its first page: 0 where it is 0xFF, else 3.
+fn marker_state(cells: &[u8]) -> u8
+    requires { length cells.now ≡ 2112 }
+    ensures { result ≡ (if marker_byte the_geometry cells.now == 0xff then 0 else 3) }
+{
+    if cells[2048] == 0xff { 0 } else { 3 }
+}
+
+// The state of each block of the plan's chip by its marker byte.
+fn marker_states(alloc: Global, chip: &SimChip) -> Result<Bytes, AllocError>
+    requires { (sim_state chip.now).geometry ≡ the_geometry }
+    ensures { IfOk result (λ states. states ≡ marker_table the_geometry
+        (map (λ block. ((sim_state chip.now).pages (first_page the_geometry block)).cells) (numbers_from 0 8))) }
+{
     let mut states = Bytes::filled(alloc, 0, 0)?;
-    for block in 0..g.blocks {
-        flash.read_page(block * g.pages_per_block, page.as_mut_slice());
-        let marker = page.as_slice()[g.page as usize];
-        let state = if marker == 0xff { 0 } else { 3 };
+    for block in 0..8u32 {
+        let cells = page_cells(alloc, chip, block * 64)?;
+        let state = marker_state(cells.as_slice());
         states.push_slice(&[state])?;
     }
     Ok(states)
@@ -84,17 +106,15 @@ fn exchange(notes: &mut History, op: Op, reply: Reply)
     notes.push(Note::Answered { session: 0, reply });
 }
 
-/// Attaches a new chip, writes the data to its first page, and reads the page back.
-pub fn run_plan(alloc: Global, payload: &[u8]) -> Result<Run, AllocError>
-    requires some { 1 ≤ length payload.now }
-    requires fits { length payload.now ≤ 2048 }
-    ensures notes { IfOk result (λ run. run.notes.notes ≡ (course_of payload.now).notes) }
-    ensures dumped { IfOk result (λ run. run.dumped ≡ body_of payload.now) }
+// The note of the attach, and room for those of three operations.
+fn attach(alloc: Global, chip: &SimChip) -> Result<History, AllocError>
+    requires { sim_state chip.now ≡ new_chip the_geometry [] [] }
+    ensures notes { IfOk result (λ notes. notes.notes ≡ Attached 0 Markers 0 0 true (replicate 8 0) ∷ []) }
+    ensures room { IfOk result (λ notes. 6 ≤ notes.room) }
 {
-    let mut chip = plan_chip(alloc)?;
     let mut notes = History::new(alloc);
     notes.reserve(7)?;
-    let states = marker_states(alloc, &chip)?;
+    let states = marker_states(alloc, chip)?;
     notes.push(Note::Attached {
         chip: 0,
         origin: Origin::Markers,
@@ -103,37 +123,91 @@ pub fn run_plan(alloc: Global, payload: &[u8]) -> Result<Run, AllocError>
         quiet: true,
         states,
     });
-    exchange(&mut notes, Op::IsBad { dev: 0, block: 0 }, Reply::State(0));
-    let image = raw_image(alloc, payload)?;
-    let written = match chip.program_page(0, image.as_slice()) {
+    Ok(notes)
+}
+
+// Programs the first page of the new chip, and answers.
+fn program_first(chip: &mut SimChip, image: &[u8]) -> Reply
+    requires state { sim_state chip.old ≡ new_chip the_geometry [] [] }
+    requires room { 1 ≤ sim_room chip.old }
+    requires whole { length image.now ≡ 2112 }
+    ensures reply { result ≡ Done }
+    ensures sizes { (sim_state chip.new).geometry ≡ the_geometry }
+    ensures cells { ((sim_state chip.new).pages 0).cells ≡ image.now }
+{
+    match chip.program_page(0, image) {
         Ok(()) => Reply::Done,
         Err(_) => Reply::ProgramFailed,
+    }
+}
+
+// Writes the data to the first page of the new chip.
+fn write_first(
+    alloc: Global,
+    chip: &mut SimChip,
+    notes: &mut History,
+    payload: &[u8],
+) -> Result<(), AllocError>
+    requires state { sim_state chip.old ≡ new_chip the_geometry [] [] }
+    requires room { 1 ≤ sim_room chip.old }
+    requires notes_room { 2 ≤ notes.old.room }
+    requires fits { length payload.now ≤ 2048 }
+    ensures notes { OnOk result (notes.new.notes ≡ notes.old.notes ++ Began 0 (RawWrite 0 0 (image_of payload.now)) ∷ Answered 0 Done ∷ []) }
+    ensures notes_room { OnOk result (notes.old.room ≡ notes.new.room + 2) }
+    ensures sizes { OnOk result ((sim_state chip.new).geometry ≡ the_geometry) }
+    ensures cells { OnOk result (((sim_state chip.new).pages 0).cells ≡ image_of payload.now) }
+{
+    let image = raw_image(alloc, payload)?;
+    let reply = program_first(chip, image.as_slice());
+    let op = Op::RawWrite {
+        dev: 0,
+        page: 0,
+        image,
     };
-    exchange(
-        &mut notes,
-        Op::RawWrite {
-            dev: 0,
-            page: 0,
-            image,
-        },
-        written,
-    );
-    let mut cells = Bytes::filled(alloc, 0, 2112)?;
-    chip.read_page(0, cells.as_mut_slice());
-    let dumped = Bytes::from_slice(alloc, &cells.as_slice()[..2048])?;
+    exchange(notes, op, reply);
+    Ok(())
+}
+
+// The body of a page with these cells.
+fn body_in(alloc: Global, cells: &[u8]) -> Result<Bytes, AllocError>
+    requires { length cells.now ≡ 2112 }
+    ensures { IfOk result (λ body. body ≡ take 2048 cells.now) }
+{
+    Bytes::from_slice(alloc, &cells[..2048])
+}
+
+// Reads the first page, and gives its body.
+fn dump_first(alloc: Global, chip: &SimChip, notes: &mut History) -> Result<Bytes, AllocError>
+    requires sizes { (sim_state chip.now).geometry ≡ the_geometry }
+    requires notes_room { 2 ≤ notes.old.room }
+    ensures notes { OnOk result (notes.new.notes ≡ notes.old.notes
+        ++ Began 0 (RawRead 0 0) ∷ Answered 0 (raw_reply ((sim_state chip.now).pages 0).cells) ∷ []) }
+    ensures body { IfOk result (λ body. body ≡ take 2048 ((sim_state chip.now).pages 0).cells) }
+{
+    let image = page_cells(alloc, chip, 0)?;
+    let body = body_in(alloc, image.as_slice())?;
+    let kind = PageKind::Raw;
     let read = PageRead {
         corrected: 0,
         greatest: 0,
         failed: 0,
     };
-    exchange(
-        &mut notes,
-        Op::RawRead { dev: 0, page: 0 },
-        Reply::Page {
-            kind: PageKind::Raw,
-            read,
-            image: cells,
-        },
-    );
+    let op = Op::RawRead { dev: 0, page: 0 };
+    exchange(notes, op, Reply::Page { kind, read, image });
+    Ok(body)
+}
+
+/// Attaches a new chip, writes the data to its first page, and reads the page back.
+pub fn run_plan(alloc: Global, payload: &[u8]) -> Result<Run, AllocError>
+    requires some { 1 ≤ length payload.now }
+    requires fits { length payload.now ≤ 2048 }
+    ensures notes { IfOk result (λ run. run.notes.notes ≡ (course_of payload.now).notes) }
+    ensures dumped { IfOk result (λ run. run.dumped ≡ body_of payload.now) }
+{
+    let mut chip = plan_chip(alloc)?;
+    let mut notes = attach(alloc, &chip)?;
+    exchange(&mut notes, Op::IsBad { dev: 0, block: 0 }, Reply::State(0));
+    write_first(alloc, &mut chip, &mut notes, payload)?;
+    let dumped = dump_first(alloc, &chip, &mut notes)?;
     Ok(Run { notes, dumped })
 }
