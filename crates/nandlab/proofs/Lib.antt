@@ -5,3 +5,5 @@ mod Notes
 mod FirstPage
 mod PlanNotes
 mod PlanReport
+mod Reading
+mod Holding

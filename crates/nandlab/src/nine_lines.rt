@@ -1,8 +1,8 @@
 // The reader of the nine-line plan.
-ghost use Rattle.std.specs.Prelude.{◌≡◌, ◌++◌, ◌≤◌, ◌-◌, length, take, drop, IfOk, IfSome, IfNone, IsSome, IsTrue, ◌↔◌};
+ghost use Rattle.std.specs.Prelude.{◌≡◌, ℕ, List, ◌++◌, ◌≤◌, ◌-◌, length, take, drop, IfOk, IfSome, IfNone, IsSome, IsTrue, ◌↔◌};
 ghost use Rattle.hex.specs.Hex.{decode_of, encode_lower};
 ghost use Rattle.nine_line_plan.specs.NineLines.{IsNineLinePlan, IsOfTheForm, text_before, text_after};
-ghost use Rattle.nandlab.specs.Reading.{StandsBetween};
+ghost use Rattle.nandlab.specs.Reading.{StandsBetween, IsLowerCaseOf};
 
 use hex::FromHexError;
 use nand_model::Bytes;
@@ -27,7 +27,8 @@ fn between(bytes: &[u8]) -> Option<&[u8]>
 
 // The data of lower-case hexadecimal digits.
 fn decoded(alloc: Global, digits: &[u8]) -> Result<Option<Vec<u8>>, AllocError>
-    ensures some { IfOk result (λ found. IfSome found (λ payload. digits.now ≡ encode_lower payload.items)) }
+    ensures some { IfOk result (λ found. IfSome found (λ payload. IsLowerCaseOf digits.now payload.items)) }
+    ensures none { IfOk result (λ found. IfNone found ((payload : List ℕ) → IsLowerCaseOf digits.now payload → ⊥)) }
 {
     match hex::decode(alloc, digits) {
         Ok(payload) => {
@@ -38,8 +39,10 @@ fn decoded(alloc: Global, digits: &[u8]) -> Result<Option<Vec<u8>>, AllocError>
                 Ok(None)
             }
         }
-        Err(FromHexError::OutOfMemory) => Err(AllocError),
-        Err(_) => Ok(None),
+        Err(error) => match error {
+            FromHexError::OutOfMemory => Err(AllocError),
+            _ => Ok(None),
+        },
     }
 }
 

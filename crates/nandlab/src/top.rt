@@ -2,7 +2,8 @@
 ghost use Rattle.std.specs.Prelude.{◌≡◌, ◌<◌, ◌≤◌, ◌++◌, ◌⊎◌, ℕ, List, true, false, Some, None, map, string_bytes, take, length, IfSome};
 ghost use Rattle.std.specs.Io.KnownBytes.{IsAtEnd, append_known};
 ghost use Rattle.nine_line_plan.specs.NineLines.{IsOfTheForm};
-ghost use Rattle.lab_outside.specs.Outside.{HasRisen, TookPrefix};
+ghost use Rattle.lab_outside.specs.Outside.{TookPrefix};
+ghost use Rattle.nand_model.specs.Counts.{HasRisen};
 ghost use Rattle.nandlab.specs.Answer.{accepts, most_bytes, Holds};
 
 use crate::answer::answer_plan;
