@@ -7,9 +7,10 @@ use Rattle.std.proofs.lemmas.Bool.Decides.{nat_tests}
 use Rattle.code_model.specs.Binary.{product, remainder}
 use Rattle.code_model.specs.Poly.{Every}
 use Rattle.code_model.specs.Word.{number_from, AreBits, distance}
-use Rattle.code_model.specs.Code.{Code, word_bits, parity_bits, generator, IsBchCode, IsCodeWord, Decodes, is_code_word, words_at, found_or, nearest_from, nearest}
+use Rattle.code_model.specs.Code.{Code, code_512, code_1024, word_bits, parity_bits, generator, IsBchCode, IsCodeWord, Decodes, is_code_word, words_at, found_or, nearest_from, nearest}
 use Rattle.code_model.proofs.BinaryLemmas.{remainder-multiple, quotient}
 use Rattle.code_model.proofs.ValueLemmas.{bound}
+use Rattle.code_model.proofs.Instances.{primitive_13, primitive_14}
 use Rattle.code_model.proofs.RootLemmas.{generator-roots, generator-degree}
 use Rattle.code_model.proofs.DistanceLemmas.{distance_comm, distance_triangle, words_at-distance, words_at-complete}
 use lib.Bits.{xor_zero_r}
@@ -94,7 +95,7 @@ nearest_from-none code (suc n) d w c q s r e t a b =
     ]
 
 module _ (code : Code) (bch : IsBchCode code) where
-  is_code_word-sound : (c : List ℕ) → is_code_word code c ≡ true → IsCodeWord code c
+  pub is_code_word-sound : (c : List ℕ) → is_code_word code c ≡ true → IsCodeWord code c
   unfolding is_code_word
   is_code_word-sound c t =
       let g = generator code in
@@ -110,7 +111,7 @@ module _ (code : Code) (bch : IsBchCode code) where
         multiple = (q.0, q.1 ∙ ap (bit_xor (product q.0 g)) none ∙ xor_zero_r (product q.0 g));
       }
 
-  is_code_word-complete : (c : List ℕ) → IsCodeWord code c → is_code_word code c ≡ true
+  pub is_code_word-complete : (c : List ℕ) → IsCodeWord code c → is_code_word code c ≡ true
   unfolding is_code_word
   is_code_word-complete c w =
       let g = generator code in
@@ -163,3 +164,10 @@ module _ (code : Code) (bch : IsBchCode code) where
   -- and a decoder has no other answer
   pub decodes-nearest : (w : List ℕ) (answer : Option (List ℕ × ℕ)) → AreBits w → length w ≡ word_bits code → Decodes code w answer → answer ≡ nearest code w
   decodes-nearest w answer s e decodes = decodes-same w answer (nearest code w) e decodes (nearest-decodes w s e)
+
+-- ---- the codes in use
+pub code_512-bch : (t : ℕ) → t ≤ 16 → IsBchCode (code_512 t)
+code_512-bch t h = record { primitive = primitive_13; short = omega arith }
+
+pub code_1024-bch : (t : ℕ) → t ≤ 16 → IsBchCode (code_1024 t)
+code_1024-bch t h = record { primitive = primitive_14; short = omega arith }

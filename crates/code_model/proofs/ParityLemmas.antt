@@ -23,16 +23,16 @@ xor_apart a b k h =
 remains : (n p : ℕ) → n < p → n % p ≡ n
 remains n p h = let e : 0 * p + n ≡ n = omega arith in ap (λ x. x % p) (sym e) ∙ mod-mul-add 0 p n h
 
+pub length-parity_of : (code : Code) (body : List ℕ) → length (parity_of code body) ≡ parity_len code
+unfolding parity_of
+length-parity_of code body = length-bytes_of (parity_len code) _
+
 module _ (code : Code) (bch : IsBchCode code) where
   parity_number-lt : (body : List ℕ) → parity_number code body < 2 ^ parity_bits code
   unfolding parity_number
   parity_number-lt body =
       let degree = generator-degree code.degree code.modulus bch.primitive code.strength in
       remainder-lt (parity_bits code) (generator code) _ degree.0 degree.1
-
-  pub length-parity_of : (body : List ℕ) → length (parity_of code body) ≡ parity_len code
-  unfolding parity_of
-  length-parity_of body = length-bytes_of (parity_len code) _
 
   -- the number that parity bytes write
   parity-number : (body : List ℕ) → number_from 0 (bits_of (parity_of code body)) ≡ parity_number code body * 2 ^ (8 * parity_len code - parity_bits code)
@@ -49,14 +49,14 @@ module _ (code : Code) (bch : IsBchCode code) where
   parity_cut body =
       let bits = parity_bits code in
       let bytes = parity_of code body in
-      let len : length (bits_of bytes) ≡ 8 * parity_len code = length-bits_of bytes ∙ ap (λ n. 8 * n) (length-parity_of body) in
+      let len : length (bits_of bytes) ≡ 8 * parity_len code = length-bits_of bytes ∙ ap (λ n. 8 * n) (length-parity_of code body) in
       number_from-cut bits (parity_number code body) (bits_of bytes) (AreBits-bits_of bytes) (omega arith)
       (parity-number body ∙ ap (λ n. parity_number code body * 2 ^ (n - bits)) (sym len))
 
   parity_long : (body : List ℕ) → length (take (parity_bits code) (bits_of (parity_of code body))) ≡ parity_bits code
   parity_long body =
       let bytes = parity_of code body in
-      let len : length (bits_of bytes) ≡ 8 * parity_len code = length-bits_of bytes ∙ ap (λ n. 8 * n) (length-parity_of body) in
+      let len : length (bits_of bytes) ≡ 8 * parity_len code = length-bits_of bytes ∙ ap (λ n. 8 * n) (length-parity_of code body) in
       length-take-le (parity_bits code) (bits_of bytes) (omega arith)
 
   -- the number of a body followed by parity bits
@@ -114,7 +114,7 @@ module _ (code : Code) (bch : IsBchCode code) where
       let bits = parity_bits code in
       let bytes = parity_of code body in
       let len : length (drop bits (bits_of bytes)) ≡ 8 * parity_len code - bits =
-      length-drop bits (bits_of bytes) ∙ ap (λ n. n - bits) (length-bits_of bytes ∙ ap (λ n. 8 * n) (length-parity_of body)) in
+      length-drop bits (bits_of bytes) ∙ ap (λ n. n - bits) (length-bits_of bytes ∙ ap (λ n. 8 * n) (length-parity_of code body)) in
       zeros_from_number (drop bits (bits_of bytes)) (AreBits-drop bits (bits_of bytes) (AreBits-bits_of bytes)) (parity_cut body).1
       ∙ ap (λ n. replicate n 0) len
 

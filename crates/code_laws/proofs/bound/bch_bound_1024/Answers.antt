@@ -1,0 +1,6 @@
+use Rattle.code_model.specs.Code.{code_1024}
+use Rattle.code_model.proofs.NearestLemmas.{near_code_words-equal, code_1024-bch}
+use Rattle.code_laws.proofs.bound.bch_bound_1024.Goals as goal
+
+pub returns : goal.returns
+returns c t w v u small long first near second near' = near_code_words-equal (code_1024 t) (code_1024-bch t small) w v u long first second near near'
