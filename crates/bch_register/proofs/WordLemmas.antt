@@ -1,49 +1,17 @@
--- Words of bits as numbers.
+-- Words of bits as numbers, as far as bytes were taken in or written.
 use Rattle.std.proofs.Common.{◌≡◌, ℕ, zero, suc, ◌+◌, ◌-◌, ◌*◌, ◌/◌, ◌%◌, ◌^◌, ◌<◌, ◌≤◌, List, [], ◌∷◌, ◌++◌, length, get_or, take, drop, refl, sym, ap, ap₂, ◌∙◌, subst, arith, append_assoc, length-drop, lit<}
 use Rattle.std.proofs.lemmas.List.{take_more, take-append-drop, same_lists, length-take-le, get_or_default}
-use Rattle.std.proofs.lemmas.Nat.{pow-add, div-mul-add}
-use Rattle.std.proofs.Math.Nat.{pow-suc, pow-le-pow_right}
+use Rattle.std.proofs.lemmas.Nat.{div-mul-add}
+use Rattle.std.proofs.Math.Nat.{pow-le-pow_right}
 use Rattle.code_model.specs.Bits.{byte_bits, bits_of, bytes_of}
 use Rattle.code_model.specs.Word.{number_from, AreBits}
+use Rattle.code_model.proofs.ByteLemmas.{number_from-append, number_from-shift, number_from-lt, number_from-byte, length-bits_of, AreBits-bits_of, AreBits-take, AreBits-drop, length-bytes_of, pow_256}
 
--- ---- the number of a word
-pub number_from-append : (a : ℕ) (xs ys : List ℕ) → number_from a (xs ++ ys) ≡ number_from (number_from a xs) ys
-unfolding number_from
-number_from-append a [] ys = refl
-number_from-append a (x ∷ xs) ys = number_from-append (2 * a + x) xs ys
-
-pub number_from-split : (a : ℕ) (xs : List ℕ) → number_from a xs ≡ a * 2 ^ length xs + number_from 0 xs
-unfolding number_from
-number_from-split a [] = omega arith
-number_from-split a (x ∷ xs) =
-    let n = 2 ^ length xs in
-    let e : 2 ^ suc (length xs) ≡ n * 2 = pow-suc 2 (length xs) in
-    let t : (2 * a + x) * n + number_from 0 xs ≡ a * (n * 2) + (x * n + number_from 0 xs) = omega arith in
-    let z : 2 * 0 + x ≡ x = omega arith in
-    number_from-split (2 * a + x) xs ∙ t
-    ∙ ap₂ (λ p r. a * p + r) (sym e) (sym (ap (λ i. number_from i xs) z ∙ number_from-split x xs))
-
-pub number_from-lt : (xs : List ℕ) → AreBits xs → number_from 0 xs < 2 ^ length xs
-unfolding number_from
-number_from-lt [] s = omega arith
-number_from-lt (x ∷ xs) s =
-    let n = 2 ^ length xs in
-    let e : 2 ^ suc (length xs) ≡ n * 2 = pow-suc 2 (length xs) in
-    let z : 2 * 0 + x ≡ x = omega arith in
-    let whole : number_from (2 * 0 + x) xs ≡ x * n + number_from 0 xs = ap (λ i. number_from i xs) z ∙ number_from-split x xs in
-    let rest = number_from-lt xs s.1 in
-    let m : x * n ≤ 1 * n = Rattle.std.proofs.Math.Nat.mul-le-mul_right n (let h = s.0 in omega arith) in
-    omega arith
-
--- ---- the bits of bytes
-pub bits_of-append : (xs ys : List ℕ) → bits_of (xs ++ ys) ≡ bits_of xs ++ bits_of ys
+-- ---- bytes taken in
+bits_of-append : (xs ys : List ℕ) → bits_of (xs ++ ys) ≡ bits_of xs ++ bits_of ys
 unfolding bits_of
 bits_of-append [] ys = refl
 bits_of-append (x ∷ xs) ys = ap (λ bs. byte_bits x ++ bs) (bits_of-append xs ys) ∙ sym (append_assoc (byte_bits x) (bits_of xs) (bits_of ys))
-
-pub number_from-byte : (a byte : ℕ) → byte < 2 ^ 8 → number_from a (byte_bits byte) ≡ a * 256 + byte
-unfolding number_from
-number_from-byte a byte h = omega arith
 
 -- one more byte
 pub number_of-more : (bytes : List ℕ) (k : ℕ) → k < length bytes → get_or bytes k 0 < 2 ^ 8
@@ -51,20 +19,12 @@ pub number_of-more : (bytes : List ℕ) (k : ℕ) → k < length bytes → get_o
 unfolding bits_of
 number_of-more bytes k h s =
     let b = get_or bytes k 0 in
+    let n = number_from 0 (bits_of (take k bytes)) in
+    let whole : b % 256 ≡ b = omega arith in
     ap (λ bs. number_from 0 (bits_of bs)) (take_more bytes k 0 h)
     ∙ ap (number_from 0) (bits_of-append (take k bytes) (b ∷ []))
     ∙ number_from-append 0 (bits_of (take k bytes)) (byte_bits b)
-    ∙ number_from-byte (number_from 0 (bits_of (take k bytes))) b s
-
-pub length-bits_of : (bytes : List ℕ) → length (bits_of bytes) ≡ 8 * length bytes
-unfolding bits_of
-length-bits_of [] = refl
-length-bits_of (b ∷ bytes) = let e = length-bits_of bytes in omega arith
-
-pub AreBits-bits_of : (bytes : List ℕ) → AreBits (bits_of bytes)
-unfolding bits_of
-AreBits-bits_of [] = tt
-AreBits-bits_of (b ∷ bytes) = (omega arith, (omega arith, (omega arith, (omega arith, (omega arith, (omega arith, (omega arith, (omega arith, AreBits-bits_of bytes))))))))
+    ∙ number_from-byte n b ∙ ap (λ x. n * 256 + x) whole
 
 -- the number of fewer than 32 bytes has room for one more
 pub number_of-room : (bytes : List ℕ) (k : ℕ) → k < length bytes → length bytes ≤ 32 → number_from 0 (bits_of (take k bytes)) < 2 ^ 248
@@ -76,30 +36,20 @@ number_of-room bytes k h w =
     omega arith
 
 -- ---- the first bits of a word
-AreBits-take : (n : ℕ) (bs : List ℕ) → AreBits bs → AreBits (take n bs)
-AreBits-take zero bs s = tt
-AreBits-take (suc n) [] s = tt
-AreBits-take (suc n) (b ∷ bs) s = (s.0, AreBits-take n bs s.1)
-
-AreBits-drop : (n : ℕ) (bs : List ℕ) → AreBits bs → AreBits (drop n bs)
-AreBits-drop zero bs s = s
-AreBits-drop (suc n) [] s = tt
-AreBits-drop (suc n) (b ∷ bs) s = AreBits-drop n bs s.1
-
-pub number_from-take : (d : ℕ) (bs : List ℕ) → AreBits bs → d ≤ length bs → number_from 0 (take d bs) ≡ number_from 0 bs / 2 ^ (length bs - d)
+number_from-take : (d : ℕ) (bs : List ℕ) → AreBits bs → d ≤ length bs → number_from 0 (take d bs) ≡ number_from 0 bs / 2 ^ (length bs - d)
 number_from-take d bs s h =
     let rest = drop d bs in
     let n = number_from 0 (take d bs) in
     let long : length rest ≡ length bs - d = length-drop d bs in
     let small = number_from-lt rest (AreBits-drop d bs s) in
     let whole : number_from 0 bs ≡ n * 2 ^ length rest + number_from 0 rest =
-    (ap (number_from 0) (sym (take-append-drop d bs)) ∙ number_from-append 0 (take d bs) rest ∙ number_from-split n rest) in
+    (ap (number_from 0) (sym (take-append-drop d bs)) ∙ number_from-append 0 (take d bs) rest ∙ number_from-shift n rest) in
     sym (ap₂ (λ x k. x / 2 ^ k) whole (sym long) ∙ div-mul-add n (2 ^ length rest) (number_from 0 rest) small)
 
 pub number_from-word : (d : ℕ) (bs ps : List ℕ) → AreBits ps → d ≤ length ps → number_from 0 (bs ++ take d ps) ≡ number_from 0 bs * 2 ^ d + number_from 0 ps / 2 ^ (length ps - d)
 number_from-word d bs ps s h =
     let n = number_from 0 bs in
-    number_from-append 0 bs (take d ps) ∙ number_from-split n (take d ps)
+    number_from-append 0 bs (take d ps) ∙ number_from-shift n (take d ps)
     ∙ ap₂ (λ k p. n * 2 ^ k + p) (length-take-le d ps h) (number_from-take d ps s h)
 
 pub number_from_take-lt : (d : ℕ) (ps : List ℕ) → AreBits ps → d ≤ length ps → number_from 0 ps / 2 ^ (length ps - d) < 2 ^ d
@@ -108,21 +58,10 @@ number_from_take-lt d ps s h =
     (subst (λ (k : ℕ). number_from 0 (take d ps) < 2 ^ k) (length-take-le d ps h) (number_from-lt (take d ps) (AreBits-take d ps s)))
 
 -- ---- the bytes of a number
-pub pow-byte : (k : ℕ) → 256 ^ k ≡ 2 ^ (8 * k)
-pow-byte zero = refl
-pow-byte (suc k) =
-    let e : 8 * suc k ≡ 8 * k + 8 = omega arith in
-    pow-suc 256 k ∙ ap (λ x. x * 256) (pow-byte k) ∙ sym (pow-add 2 (8 * k) 8) ∙ ap (λ i. 2 ^ i) (sym e)
-
-pub length-bytes_of : (n number : ℕ) → length (bytes_of n number) ≡ n
-unfolding bytes_of
-length-bytes_of zero number = refl
-length-bytes_of (suc n) number = ap suc (length-bytes_of n number)
-
-pub get_or-bytes_of : (n number k d : ℕ) → k < n → get_or (bytes_of n number) k d ≡ number / 2 ^ (8 * (n - 1 - k)) % 256
+get_or-bytes_of : (n number k d : ℕ) → k < n → get_or (bytes_of n number) k d ≡ number / 2 ^ (8 * (n - 1 - k)) % 256
 unfolding bytes_of
 get_or-bytes_of zero number k d h = absurd (omega arith)
-get_or-bytes_of (suc n) number zero d h = let e : n ≡ suc n - 1 - 0 = omega arith in ap (λ x. number / x % 256) (pow-byte n) ∙ ap (λ i. number / 2 ^ (8 * i) % 256) e
+get_or-bytes_of (suc n) number zero d h = let e : n ≡ suc n - 1 - 0 = omega arith in ap (λ x. number / x % 256) (pow_256 n) ∙ ap (λ i. number / 2 ^ (8 * i) % 256) e
 get_or-bytes_of (suc n) number (suc k) d h = let e : n - 1 - k ≡ suc n - 1 - suc k = omega arith in get_or-bytes_of n number k d (omega arith) ∙ ap (λ i. number / 2 ^ (8 * i) % 256) e
 
 -- a list of these bytes

@@ -1,9 +1,9 @@
 -- Degrees by bits, and division coefficient by coefficient.
-use Rattle.std.proofs.Common.{◌≡◌, ◌≢◌, ℕ, zero, suc, ◌+◌, ◌-◌, ◌*◌, ◌/◌, ◌%◌, ◌^◌, ◌<◌, ◌≤◌, refl, sym, ap, ap₂, ◌∙◌, subst, arith, inl, inr, lit<}
+use Rattle.std.proofs.Common.{◌≡◌, ℕ, suc, ◌+◌, ◌-◌, ◌*◌, ◌/◌, ◌%◌, ◌^◌, ◌<◌, ◌≤◌, sym, ap, ◌∙◌, subst, arith, inl, inr, lit<}
 use Rattle.std.specs.Prelude.{bit_xor}
 use Rattle.std.proofs.lemmas.Bool.{cases_lt}
 use Rattle.std.proofs.lemmas.Nat.{pow_pos, div_below, le-div, shr-shr, shr_below, mod-pow-add, mod_below}
-use Rattle.std.proofs.Math.Nat.{pow-suc, pow-le-pow_right}
+use Rattle.std.proofs.Math.Nat.{pow-le-pow_right}
 use Rattle.code_model.specs.Binary.{product, reduced, remainder, HasDegree}
 use Rattle.code_model.proofs.BinaryLemmas.{product-digit, remainder-digit, remainder-unique, remainder-lt, quotient}
 use Rattle.gf2_poly.specs.Division.{IsRemainder}

@@ -5,7 +5,8 @@ use Rattle.code_model.specs.Bits.{bits_of}
 use Rattle.code_model.specs.Word.{number_from}
 use Rattle.code_model.proofs.BinaryLemmas.{remainder-lt}
 use Rattle.bch_register.proofs.RegisterLemmas.{remainder-joined, below_twice}
-use Rattle.bch_register.proofs.WordLemmas.{number_from-word, number_from_take-lt, length-bits_of, AreBits-bits_of}
+use Rattle.code_model.proofs.ByteLemmas.{length-bits_of, AreBits-bits_of}
+use Rattle.bch_register.proofs.WordLemmas.{number_from-word, number_from_take-lt}
 use Rattle.bch_register.proofs.word.remainder_of_word.Goals as goal
 
 pub returns-clause-value : goal.returns-clause-value

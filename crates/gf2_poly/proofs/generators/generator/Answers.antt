@@ -1,4 +1,4 @@
-use Rattle.std.proofs.Common.{◌≡◌, ◌<◌, ◌≤◌, ◌*◌, ◌+◌, ◌-◌, ◌^◌, ℕ, suc, [], arith, ap, sym, subst, ◌∙◌, get_or}
+use Rattle.std.proofs.Common.{◌≡◌, ◌<◌, ◌*◌, ◌+◌, ◌-◌, ◌^◌, ℕ, suc, [], arith, ap, sym, subst, ◌∙◌, get_or}
 use Rattle.code_model.specs.Binary.{HasDegree}
 use Rattle.code_model.specs.Generator.{generator_of}
 use Rattle.code_model.proofs.Instances.{primitive_13}

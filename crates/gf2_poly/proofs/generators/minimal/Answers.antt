@@ -1,4 +1,4 @@
-use Rattle.std.proofs.Common.{◌≡◌, ◌<◌, ◌≤◌, ◌*◌, ◌+◌, ◌/◌, ◌^◌, ℕ, arith, ap, sym, subst, ◌∙◌, get_or}
+use Rattle.std.proofs.Common.{◌≡◌, ◌<◌, ◌*◌, ◌+◌, ◌/◌, ℕ, arith, ap, sym, subst, ◌∙◌, get_or}
 use Rattle.std.specs.Int.{bit_at}
 use Rattle.code_model.specs.Binary.{HasDegree}
 use Rattle.code_model.specs.Generator.{minimal_of}

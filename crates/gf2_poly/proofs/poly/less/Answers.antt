@@ -1,5 +1,4 @@
-use Rattle.std.proofs.Common.{◌≡◌, ◌<◌, ◌≤◌, ◌*◌, ◌+◌, ◌^◌, ℕ, arith, sym, ◌∙◌, subst}
-use Rattle.code_model.specs.Binary.{reduced}
+use Rattle.std.proofs.Common.{◌<◌, ◌^◌, ℕ, sym, ◌∙◌, subst}
 use Rattle.code_model.proofs.BinaryLemmas.{reduced-large, reduced-small, reduced-lt}
 use Rattle.gf2_poly.proofs.DegreeLemmas.{below_twice}
 use Rattle.gf2_poly.proofs.DivisionLemmas.{top_from_bit, below_from_bit}

@@ -1,5 +1,4 @@
-use Rattle.std.proofs.Common.{◌≡◌, ◌<◌, ◌≤◌, ◌^◌, ℕ, arith, subst}
-use Rattle.std.specs.Int.{bit_at}
+use Rattle.std.proofs.Common.{◌<◌, ◌^◌, ℕ, arith, subst}
 use Rattle.std.proofs.lemmas.Bool.Decides.{nat_tests}
 use Rattle.std.proofs.lemmas.Nat.Bits.{bit_at_above}
 use Rattle.gf2_poly.proofs.poly.Poly.coefficient.Goals as goal

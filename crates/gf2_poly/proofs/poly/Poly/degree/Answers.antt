@@ -1,4 +1,4 @@
-use Rattle.std.proofs.Common.{◌≡◌, ◌<◌, ◌≤◌, ◌%◌, ◌/◌, ◌+◌, ◌^◌, ℕ, arith, subst, sym, Some, None}
+use Rattle.std.proofs.Common.{◌≡◌, ◌<◌, ◌%◌, ◌+◌, ◌^◌, ℕ, arith, subst, sym, Some, None}
 use Rattle.std.specs.Prelude.{MatchOption, Option}
 use Rattle.code_model.specs.Binary.{HasDegree}
 use Rattle.gf2_poly.proofs.DivisionLemmas.{degree_with_bit, same_without_bit}

@@ -1,4 +1,4 @@
-use Rattle.std.proofs.Common.{◌≡◌, ◌<◌, ◌≤◌, ◌%◌, ◌/◌, ◌+◌, ◌*◌, ◌-◌, ◌^◌, ℕ, suc, arith, subst, sym, ap, ap₂, ◌∙◌, lit<}
+use Rattle.std.proofs.Common.{◌≡◌, ◌<◌, ◌%◌, ◌/◌, ◌+◌, ◌*◌, ◌-◌, ◌^◌, ℕ, suc, arith, subst, sym, ap, ap₂, ◌∙◌}
 use Rattle.std.specs.Prelude.{bit_xor}
 use lib.Bits.{xor_zero_r}
 use Rattle.code_model.specs.Binary.{product}
