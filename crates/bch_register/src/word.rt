@@ -1,9 +1,9 @@
 // Bodies and words divided by a generator of any degree below 256.
 ghost use Rattle.std.specs.Prelude.{◌≡◌, ◌<◌, ◌≤◌, ◌*◌, ◌+◌, ◌-◌, ◌/◌, ◌^◌, ◌++◌, ℕ, length, take};
 ghost use Rattle.code_model.specs.Binary.{remainder, HasDegree};
-ghost use Rattle.code_model.specs.Bits.{bits_of, bytes_of};
+ghost use Rattle.code_model.specs.Bits.{bits_of};
 ghost use Rattle.code_model.specs.Word.{number_from};
-ghost use Rattle.bch_register.specs.Division.{with_top};
+ghost use Rattle.bch_register.specs.Division.{with_top, parity_number_of, parity_bytes_of};
 
 use crate::register::divide;
 use u256::U256;
@@ -21,8 +21,7 @@ fn aligned(generator: U256, degree: u32) -> U256
 pub fn parity_number(body: &[u8], generator: U256, degree: u32) -> U256
     requires degree { (0 < degree) × (degree < 256) }
     requires generator { HasDegree degree generator }
-    ensures value { result
-        ≡ remainder degree generator (number_from 0 (bits_of body.now) * 2 ^ degree) }
+    ensures value { result ≡ parity_number_of degree generator body.now }
     ensures small { result < 2 ^ degree }
 {
     divide(body, aligned(generator, degree)) >> (256 - degree)
@@ -40,7 +39,7 @@ fn number_of(bytes: &[u8]) -> U256
     number
 }
 
-/// The remainder of a word by the generator: that of the body's bits and then the parity's, without the padding in the parity's last byte. It is 0 exactly for a code word.
+/// The remainder of a word by the generator: that of the body's bits and then the parity's, without the padding in the parity's last byte.
 pub fn remainder_of_word(body: &[u8], parity: &[u8], generator: U256, degree: u32) -> U256
     requires degree { (0 < degree) × (degree < 256) }
     requires generator { HasDegree degree generator }
@@ -53,15 +52,12 @@ pub fn remainder_of_word(body: &[u8], parity: &[u8], generator: U256, degree: u3
     parity_number(body, generator, degree) ^ (number_of(parity) >> padding)
 }
 
-/// Writes a body's parity, the highest coefficient first, with 0 in the padding bits of the last byte.
+/// Writes a body's parity into (degree + 7) / 8 bytes, the highest coefficient first, with 0 in the padding bits of the last byte.
 pub fn put_parity(body: &[u8], generator: U256, degree: u32, out: &mut [u8])
     requires degree { (0 < degree) × (degree < 256) }
     requires generator { HasDegree degree generator }
     requires room { length out.old ≡ (degree + 7) / 8 }
-    ensures { out.new
-        ≡ bytes_of ((degree + 7) / 8)
-        (remainder degree generator (number_from 0 (bits_of body.now) * 2 ^ degree)
-        * 2 ^ (8 * ((degree + 7) / 8) - degree)) }
+    ensures { out.new ≡ parity_bytes_of degree generator body.now }
 {
     let len = out.len() as u32;
     let number = parity_number(body, generator, degree) << (8 * len - degree);

@@ -1,10 +1,10 @@
-// The minimal polynomials of the powers 1, 3, 5 and so on to 31 of x, and the generators for 1 to 16 errors, each in two halves of 128 bits.
-
+// The minimal polynomials of the powers 1, 3, 5 and so on to 31 of x.
 pub(crate) static MINIMALS: [u16; 16] = [
     0x201b, 0x26b1, 0x2993, 0x274f, 0x31e1, 0x23a3, 0x3079, 0x22bf, 0x2fff, 0x3a29, 0x39d3, 0x3827,
     0x355d, 0x3315, 0x3f45, 0x3d4d,
 ];
 
+// The generators for 1 to 16 errors, each in two halves of 128 bits: the coefficients from x^128 on, and those below.
 pub(crate) static GENERATORS: [[u128; 2]; 16] = [
     [0x0, 0x201b],
     [0x0, 0x4d5154b],

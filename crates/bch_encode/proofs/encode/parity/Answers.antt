@@ -3,14 +3,10 @@ use Rattle.std.proofs.Common.{◌≡◌, ◌≤◌, ◌+◌, ◌*◌, ◌^◌, �
 use Rattle.code_model.specs.Binary.{remainder}
 use Rattle.code_model.specs.Bits.{bits_of, bytes_of}
 use Rattle.code_model.specs.Word.{number_from, AreBits}
-use Rattle.code_model.specs.Code.{code_512, parity_of, parity_number, IsBchCode, IsCodeWord}
-use Rattle.code_model.proofs.Instances.{primitive_13}
+use Rattle.code_model.specs.Code.{code_512, parity_of, parity_number, IsCodeWord}
+use Rattle.code_model.proofs.NearestLemmas.{code_512-bch}
 use Rattle.code_model.proofs.ParityLemmas.{parity-completes, parity-only, parity-padding}
 use Rattle.bch_encode.proofs.encode.parity.Goals as goal
-
--- a code over steps of 512 bytes with words shorter than 2^13
-bch_512 : (t : ℕ) → t ≤ 16 → IsBchCode (code_512 t)
-bch_512 t h = record { primitive = primitive_13; short = omega arith }
 
 -- the bits behind others
 AreBits-behind : (xs ys : List ℕ) → AreBits (xs ++ ys) → AreBits ys
@@ -31,16 +27,16 @@ returns-clause-completes c =
     let t = c.args.t in
     let step = c.args.step.now in
     let P : List ℕ → Type 0 = λ out. IsCodeWord (code_512 t) (bits_of step ++ take (13 * t) (bits_of out)) in
-    subst P (sym (returns-clause-parity c)) (parity-completes (code_512 t) (bch_512 t c.requires.strength.1) step (omega arith))
+    subst P (sym (returns-clause-parity c)) (parity-completes (code_512 t) (code_512-bch t c.requires.strength.1) step (omega arith))
 
 pub returns-clause-only : goal.returns-clause-only
 returns-clause-only c = λ bits long word.
     let t = c.args.t in
     let step = c.args.step.now in
-    parity-only (code_512 t) (bch_512 t c.requires.strength.1) step bits long (AreBits-behind (bits_of step) bits word.bits) word
+    parity-only (code_512 t) (code_512-bch t c.requires.strength.1) step bits long (AreBits-behind (bits_of step) bits word.bits) word
     ∙ ap (λ out. take (13 * t) (bits_of out)) (sym (returns-clause-parity c))
 
 pub returns-clause-padding : goal.returns-clause-padding
 returns-clause-padding c =
     let t = c.args.t in
-    ap (λ out. drop (13 * t) (bits_of out)) (returns-clause-parity c) ∙ parity-padding (code_512 t) (bch_512 t c.requires.strength.1) c.args.step.now
+    ap (λ out. drop (13 * t) (bits_of out)) (returns-clause-parity c) ∙ parity-padding (code_512 t) (code_512-bch t c.requires.strength.1) c.args.step.now

@@ -1,0 +1,4 @@
+mod Programming
+mod Erasing
+mod Placing
+mod SlotLemmas

@@ -1,0 +1,34 @@
+use Rattle.std.proofs.Common.{◌≡◌, ◌∙◌, ◌+◌, ◌*◌, ℕ, ap, sym, subst, length, All, []}
+use Rattle.std.specs.Vec.{with_items}
+use Rattle.std.proofs.lemmas.List.{with_items_is}
+use Rattle.nand_model.specs.Sizes.{raw_len}
+use Rattle.chip_sim.specs.Slots.{IsWholeSlot}
+use Rattle.chip_sim.proofs.Placing.{pages_per_block-some}
+use Rattle.chip_sim.proofs.SlotLemmas.{erase-pages, cleared-whole}
+use Rattle.chip_sim.proofs.chip.SimChipFlash.erase_block.Goals as goal
+
+pub invariant_of-self : goal.invariant_of-self
+invariant_of-self c =
+    let s = c.args.self.now in
+    let new = c.clear_slots.new.slots in
+    let pages : ℕ = s.geometry.pages_per_block in
+    let first : ℕ = c.args.block * s.geometry.pages_per_block in
+    let same = with_items_is s.slots new (c.clear_slots.auto.slots ∙ c.deref_mut.ensures.len) in
+    let count : length c.clear_slots.new.slots ≡ length c.args.self.now.slots.items = c.clear_slots.auto.slots ∙ ap length c.deref_mut.ensures.value in
+    record {
+      all_there = ap length same ∙ count ∙ s.all_there;
+      whole = subst (All (IsWholeSlot (raw_len s.geometry))) (sym same) (cleared-whole (raw_len s.geometry) first (first + pages) s.slots.items new count (λ page. rw (← c.deref_mut.ensures.value) (c.clear_slots.ensures page)) s.whole);
+      blank = s.blank;
+    }
+
+pub returns-clause-state : goal.returns-clause-state
+returns-clause-state c =
+    let s = c.args.self.now in
+    let new = c.clear_slots.new.slots in
+    let same = with_items_is s.slots new (c.clear_slots.auto.slots ∙ c.deref_mut.ensures.len) in
+    λ i. record {
+      geometry = s.geometry;
+      pages = λ page. erase-pages s.geometry s.slots.items (with_items s.slots new).items c.args.block page (pages_per_block-some s.geometry) (rw (same, ← c.deref_mut.ensures.value) (c.clear_slots.ensures page)) i;
+      fault_state = record { raw = raw_len s.geometry; weak = [] };
+      faults = 0;
+    }

@@ -1,0 +1,87 @@
+// Simulated chips with pages of 2,048 bytes and a spare of 64, through the trait.
+ghost use Rattle.std.specs.Prelude.{◌≡◌, ◌≤◌, ◌<◌, length};
+ghost use Rattle.nand_iface.specs.Flash.{FitsPage};
+ghost use Rattle.chip_sim.specs.State.{sim_state};
+
+use super::*;
+use nand_iface::{erase_one_block, program_one_page};
+use std::test::Fail;
+
+// Programs two images into a page, and reads it.
+fn program_twice<F: Flash>(
+    flash: &mut F,
+    page: u32,
+    first: &[u8],
+    second: &[u8],
+    out: &mut [u8],
+) -> Result<(), ProgramFailed>
+    requires place { FitsPage (F.state flash.old).geometry page first.now }
+    requires second { length second.now ≡ length first.now }
+    requires out { length out.old ≡ length first.now }
+    requires room { 2 ≤ F.room flash.old }
+    ensures geometry { (F.state flash.new).geometry ≡ (F.state flash.old).geometry }
+{
+    program_one_page(flash, page, first)?;
+    program_one_page(flash, page, second)?;
+    flash.read_page(page, out);
+    Ok(())
+}
+
+// Erases a block, and reads a page.
+fn erase_and_read<F: Flash>(
+    flash: &mut F,
+    block: u32,
+    page: u32,
+    out: &mut [u8],
+) -> Result<(), EraseFailed>
+    requires block { block < (F.state flash.old).geometry.blocks }
+    requires place { FitsPage (F.state flash.old).geometry page out.old }
+    ensures geometry { (F.state flash.new).geometry ≡ (F.state flash.old).geometry }
+{
+    erase_one_block(flash, block)?;
+    flash.read_page(page, out);
+    Ok(())
+}
+
+#[test]
+fn programs_and_erases(rt: HostRuntime) -> Result<(), Fail> {
+    let alloc = rt.alloc();
+    let g = Geometry::new(2048, 64, 64, 8, 1, 0, 0)?;
+    let mut chip = SimChip::new(alloc, g, &BlockList::new(alloc))?;
+    let first = vec![in alloc; 0xf0u8; 2112]?;
+    let second = vec![in alloc; 0x3cu8; 2112]?;
+    let mut out = vec![in alloc; 0u8; 2112]?;
+    chip.reserve(2)?;
+    program_twice(&mut chip, 70, &first, &second, &mut out)?;
+    assert_eq!(rt; out[2111], 0x30);
+    chip.read_page(71, &mut out);
+    assert_eq!(rt; out[0], 0xff);
+    erase_and_read(&mut chip, 1, 70, &mut out)?;
+    assert_eq!(rt; out[2111], 0xff);
+    Ok(())
+}
+
+// Spare byte 0 of a page.
+fn marker(chip: &SimChip, page: u32, out: &mut [u8]) -> u8
+    requires place { FitsPage (sim_state chip.now).geometry page out.old }
+    requires spare { 2048 < length out.old }
+{
+    chip.read_page(page, out);
+    out[2048]
+}
+
+#[test]
+fn shows_factory_bad_blocks(rt: HostRuntime) -> Result<(), Fail> {
+    let alloc = rt.alloc();
+    let g = Geometry::new(2048, 64, 64, 1024, 4, 1, 0)?;
+    let mut bad = BlockList::new(alloc);
+    bad.push(3)?;
+    bad.push(1000)?;
+    let chip = SimChip::new(alloc, g, &bad)?;
+    let mut out = vec![in alloc; 0u8; 2112]?;
+    assert_eq!(rt; marker(&chip, 0, &mut out), 0xff);
+    assert_eq!(rt; marker(&chip, 3 * 64, &mut out), 0);
+    assert_eq!(rt; out[2047], 0xff);
+    assert_eq!(rt; marker(&chip, 1000 * 64, &mut out), 0);
+    Ok(())
+}

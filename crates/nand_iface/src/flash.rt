@@ -1,0 +1,74 @@
+// A chip as the layers above it see it.
+ghost use Rattle.std.specs.Prelude.{◌≡◌, ◌≤◌, ◌<◌, ◌+◌, ℕ, OnOk, is_none, is_ok};
+ghost use Rattle.std.specs.Coded.{Coded};
+ghost use Rattle.nand_model.specs.Chip.{ChipState, FaultModel, ProgramCall, EraseCall, Complete, ProgramEvent, EraseEvent, happens, failure_of};
+ghost use Rattle.nand_iface.specs.Flash.{FitsPage, HasWholePages};
+
+use nand_model::Geometry;
+use std::alloc::AllocError;
+
+/// A program failed, and its page is torn.
+#[derive(Clone, Copy, Debug, PartialEq, Eq)]
+pub struct ProgramFailed;
+
+/// An erase failed, and the pages of its block are torn.
+#[derive(Clone, Copy, Debug, PartialEq, Eq)]
+pub struct EraseFailed;
+
+/// A NAND flash chip, by page reads, page programs and block erases.
+///
+/// Pages are counted from 0 over the whole chip, blocks from 0. A page is read and programmed with its spare area, in slices of `raw_len` bytes.
+/// Contracts see a chip as its `state`: the cells of each page and what befell them, the data from which it follows which call fails, and a count of faults.
+pub trait Flash: Drop {
+    /// The data of an implementation's own, by which calls fail.
+    ghost FaultState: { Type 0 };
+
+    /// By this code a proof tells the values of that data apart.
+    ghost fault_code: { Coded FaultState };
+
+    /// Which call fails, with which done bits, and what each call makes of the data.
+    ghost fault_model: { FaultModel FaultState };
+
+    /// The state of the chip.
+    ghost state: { Self → ChipState FaultState };
+
+    /// How many pages may still be programmed before memory has to be asked for.
+    ghost room: { Self → ℕ };
+
+    /// The sizes of the chip, which no call changes.
+    fn geometry(&self) -> Geometry
+        ensures sizes { result ≡ (state self.now).geometry }
+        ensures whole_pages { HasWholePages (state self.now) };
+
+    /// Makes the room at least `pages`, and changes nothing else. Where memory runs out, the room is no less than before.
+    fn reserve(&mut self, pages: u32) -> Result<(), AllocError>
+        ensures room { OnOk result (pages ≤ room self.new) }
+        ensures no_less { room self.old ≤ room self.new }
+        ensures state { state self.new ≡ state self.old };
+
+    /// Reads a page: `out` becomes its cells.
+    fn read_page(&self, page: u32, out: &mut [u8])
+        requires { FitsPage (state self.now).geometry page out.old }
+        ensures { out.new ≡ ((state self.now).pages page).cells };
+
+    /// Programs a page: its cells become `old AND image`. It takes at most one page of the room.
+    ///
+    /// `ProgramFailed` comes exactly where the chip's fault model fails this call. The count of faults then rises, and the page is torn.
+    fn program_page(&mut self, page: u32, image: &[u8]) -> Result<(), ProgramFailed>
+        requires place { FitsPage (state self.old).geometry page image.now }
+        requires room { 0 < room self.old }
+        ensures state { state self.new ≡ happens fault_model (state self.old) (Complete (ProgramEvent page image.now)) }
+        ensures ok { is_ok result ≡ is_none (failure_of fault_model (state self.old) (ProgramCall page)) }
+        ensures faults { (state self.old).faults ≤ (state self.new).faults }
+        ensures room { room self.old ≤ room self.new + 1 };
+
+    /// Erases a block: the cells of its pages become 0xFF throughout. It takes no room.
+    ///
+    /// `EraseFailed` comes exactly where the chip's fault model fails this call. The count of faults then rises, and the pages of the block are torn.
+    fn erase_block(&mut self, block: u32) -> Result<(), EraseFailed>
+        requires { block < (state self.old).geometry.blocks }
+        ensures state { state self.new ≡ happens fault_model (state self.old) (Complete (EraseEvent block)) }
+        ensures ok { is_ok result ≡ is_none (failure_of fault_model (state self.old) (EraseCall block)) }
+        ensures faults { (state self.old).faults ≤ (state self.new).faults }
+        ensures room { room self.old ≤ room self.new };
+}

@@ -1,0 +1,41 @@
+// What the clauses of a flash chip come to, page by page, proved from them alone for every chip.
+ghost use Rattle.std.specs.Prelude.{◌≡◌, ◌≢◌, ◌<◌, ◌≤◌, ◌+◌, ◌/◌, ◌++◌, ◌∷◌, [], ℕ, List, replicate, OnOk, OnErr};
+ghost use Rattle.nand_model.specs.Chip.{ChipState, ChipEvent, Complete, ProgramEvent, EraseEvent, after_trace, programmed};
+ghost use Rattle.nand_model.specs.Sizes.{raw_len};
+ghost use Rattle.nand_iface.specs.Flash.{FitsPage, HasRisen};
+
+use crate::{EraseFailed, Flash, ProgramFailed};
+
+/// Programs a page as `Flash::program_page` does. Its clauses say what a caller sees of the pages, and that the state is still the fold of its trace.
+pub fn program_one_page<F: Flash>(
+    flash: &mut F,
+    page: u32,
+    image: &[u8],
+) -> Result<(), ProgramFailed>
+    requires place { FitsPage (F.state flash.old).geometry page image.now }
+    requires room { 0 < F.room flash.old }
+    ensures written { OnOk result (((F.state flash.new).pages page).cells ≡ programmed ((F.state flash.old).pages page).cells image.now) }
+    ensures others { (p : ℕ) → p ≢ page → (F.state flash.new).pages p ≡ (F.state flash.old).pages p }
+    ensures failed { OnErr result (HasRisen (F.state flash.old).faults (F.state flash.new).faults) }
+    ensures geometry { (F.state flash.new).geometry ≡ (F.state flash.old).geometry }
+    ensures room { F.room flash.old ≤ F.room flash.new + 1 }
+    ensures trace { (start : ChipState F.FaultState) (events : List ChipEvent) → F.state flash.old ≡ after_trace F.fault_model start events
+        → F.state flash.new ≡ after_trace F.fault_model start (events ++ Complete (ProgramEvent page image.now) ∷ []) }
+{
+    flash.program_page(page, image)
+}
+
+/// Erases a block as `Flash::erase_block` does. Its clauses say what a caller sees of the pages, and that the state is still the fold of its trace.
+pub fn erase_one_block<F: Flash>(flash: &mut F, block: u32) -> Result<(), EraseFailed>
+    requires { block < (F.state flash.old).geometry.blocks }
+    ensures erased { OnOk result ((p : ℕ) → p / (F.state flash.old).geometry.pages_per_block ≡ block
+        → ((F.state flash.new).pages p).cells ≡ replicate (raw_len (F.state flash.old).geometry) 0xff) }
+    ensures others { (p : ℕ) → p / (F.state flash.old).geometry.pages_per_block ≢ block → (F.state flash.new).pages p ≡ (F.state flash.old).pages p }
+    ensures failed { OnErr result (HasRisen (F.state flash.old).faults (F.state flash.new).faults) }
+    ensures geometry { (F.state flash.new).geometry ≡ (F.state flash.old).geometry }
+    ensures room { F.room flash.old ≤ F.room flash.new }
+    ensures trace { (start : ChipState F.FaultState) (events : List ChipEvent) → F.state flash.old ≡ after_trace F.fault_model start events
+        → F.state flash.new ≡ after_trace F.fault_model start (events ++ Complete (EraseEvent block) ∷ []) }
+{
+    flash.erase_block(block)
+}

@@ -1,0 +1,11 @@
+//! What the layers above a chip know of it: the trait of a flash chip, and the list of notes that a controller keeps.
+#![tactic(auto)]
+
+mod flash;
+mod history;
+mod laws;
+
+pub use flash::{EraseFailed, Flash, ProgramFailed};
+pub use history::History;
+pub use laws::{erase_one_block, program_one_page};
+pub use nand_model::{Event, Fairness, Note, Op, Origin, PageKind, PageRead, Reply, Stats, Which};

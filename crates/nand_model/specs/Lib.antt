@@ -1,0 +1,14 @@
+pub mod Lending
+pub mod Layout
+pub mod Sizes
+pub mod Seeds
+pub mod Counts
+pub mod Page
+pub mod Chip
+pub mod Flips
+pub mod Table
+pub mod Path
+pub mod Attach
+pub mod Quiet
+pub mod Operation
+pub mod ChipRun

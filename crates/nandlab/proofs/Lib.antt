@@ -1,0 +1,3 @@
+mod RowSteps
+mod Joined
+mod Entries

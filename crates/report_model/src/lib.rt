@@ -1,0 +1,2 @@
+//! Definitions of plans, of the report's text, and of what a report says: the headline.
+#![tactic(auto)]

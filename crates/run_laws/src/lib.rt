@@ -1,0 +1,8 @@
+//! Laws of whole runs of a controller: every interleaving of its sessions is a history of one thread.
+#![tactic(auto)]
+
+mod laws;
+
+pub use laws::{
+    attach_steps_are_events, chips_stand_alone, every_interleaving, every_run, turns_are_steps,
+};

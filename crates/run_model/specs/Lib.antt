@@ -1,0 +1,8 @@
+pub mod Command
+pub mod Course
+pub mod History
+pub mod Log
+pub mod Marking
+pub mod ReadBack
+pub mod Run
+pub mod Laws

@@ -1,0 +1,110 @@
+-- What is read back from a page that was programmed once.
+use Rattle.std.specs.Prelude.{◌≡◌, ℕ, ◌-◌, length, All, ◌/◌, ◌<◌, ◌≤◌, max, Bool, true, false, ◌==◌, if◌then◌else◌, List, [], ◌∷◌, ◌++◌, map, fold, sum, Option, Some, None, is_none, nat_le, ⊤}
+use Rattle.code_model.specs.Word.{distance}
+use Rattle.nand_model.specs.Sizes.{step_count, numbers_from, parity_start}
+use Rattle.nand_model.specs.Page.{decoded, step_body, step_word, page_image}
+use Rattle.nand_model.specs.Chip.{ChipState, FaultModel, ChipEvent, Complete, PowerCut, Flipped, ReadEvent, ProgramEvent, EraseEvent, ProgramCall, EraseCall, failure_of, happens, after_trace, new_chip, sim_faults}
+use Rattle.nand_model.specs.Quiet.{word_flips}
+use Rattle.run_model.specs.History.{OperationTrace, ChipBoot, events_in, trace_of}
+use Rattle.nand_model.specs.declared.geometry.Geometry.{Geometry}
+use Rattle.nand_model.specs.declared.words.PageKind.TheVariants.{Bitflips, Clean}
+use Rattle.nand_model.specs.declared.words.Weak.{Weak}
+use Rattle.nand_model.specs.declared.words.Op.{Op}
+use Rattle.nand_model.specs.declared.words.Op.TheVariants.{Read}
+use Rattle.nand_model.specs.declared.words.Reply.{Reply}
+use Rattle.nand_model.specs.declared.words.Reply.TheVariants.{Page}
+
+-- what a page has been through since it was made or last erased well: nothing, one good program, or anything else
+pub data Past : Type 0 where
+  Erased : Past
+  Programmed : (image : List ℕ) → Past
+  Unknown : Past
+
+abbrev pub after_program : Past → List ℕ → Bool → Past
+after_program Erased image true = Programmed image
+after_program Erased image false = Unknown
+after_program (Programmed old) image good = Unknown
+after_program Unknown image good = Unknown
+
+module _ {W : Type 0} (model : FaultModel W) where
+  -- the past of a page after an event of its chip
+  abbrev pub past_after : ChipState W → ℕ → Past → ChipEvent → Past
+  past_after s page past (Complete (ReadEvent p)) = past
+  past_after s page past (Complete (ProgramEvent p image)) =
+      if p == page then after_program past image (is_none (failure_of model s (ProgramCall p))) else past
+  past_after s page past (Complete (EraseEvent block)) =
+      if page / s.geometry.pages_per_block == block then (if is_none (failure_of model s (EraseCall block)) then Erased else Unknown) else past
+  past_after s page past (PowerCut (ReadEvent p) done) = past
+  past_after s page past (PowerCut (ProgramEvent p image) done) = if p == page then Unknown else past
+  past_after s page past (PowerCut (EraseEvent block) done) = if page / s.geometry.pages_per_block == block then Unknown else past
+  past_after s page past (Flipped p bit) = past
+
+  -- the past of a page after a trace
+  abbrev pub past_of : ChipState W → ℕ → Past → List ChipEvent → Past
+  past_of s page past [] = past
+  past_of s page past (e ∷ trace) = past_of (happens model s e) page (past_after s page past e) trace
+
+-- in how many bits of a step's word the cells stand different from the image
+abbrev pub wrong_bits : Geometry → List ℕ → List ℕ → ℕ → ℕ
+wrong_bits g image cells s = distance (step_word g cells s) (step_word g image s)
+
+-- a read gives the written body and parity bits, and counts exactly the bits that stand different
+pub record ReadsBack (g : Geometry) (image cells : List ℕ) : Type 0 where
+  pub bodies : (s : ℕ) → s < step_count g → step_body g (decoded g cells).image s ≡ step_body g image s
+  pub words : (s : ℕ) → s < step_count g → step_word g (decoded g cells).image s ≡ step_word g image s
+  pub corrected : (decoded g cells).corrected ≡ sum (map (wrong_bits g image cells) (numbers_from 0 (step_count g)))
+  pub greatest : (decoded g cells).greatest ≡ fold max 0 (map (wrong_bits g image cells) (numbers_from 0 (step_count g)))
+  pub failed : (decoded g cells).failed ≡ 0
+
+-- each step's word has had at most as many flips as the code corrects
+abbrev pub HasFewFlips : Geometry → List ℕ → Type 0
+HasFewFlips g flips = (s : ℕ) → s < step_count g → word_flips g flips s ≤ g.t
+
+-- body and free bytes that fill their places in a page
+pub record FillsPage (g : Geometry) (body free : List ℕ) : Type 0 where
+  pub body_length : length body ≡ g.page
+  pub free_length : length free ≡ parity_start g - 2
+  pub body_bytes : All (λ byte. byte < 256) body
+  pub free_bytes : All (λ byte. byte < 256) free
+
+-- From a new chip, after any trace: a page that one program has filled, with few flips, is read back.
+abbrev pub ProgrammedPagesReadBack : Geometry → List ℕ → List Weak → Type 0
+ProgrammedPagesReadBack g bad weak =
+    (trace : List ChipEvent) (page : ℕ) (body free : List ℕ) → FillsPage g body free →
+    past_of sim_faults (new_chip g bad weak) page Erased trace ≡ Programmed (page_image g body free) →
+    HasFewFlips g ((after_trace sim_faults (new_chip g bad weak) trace).pages page).flips →
+    ReadsBack g (page_image g body free) ((after_trace sim_faults (new_chip g bad weak) trace).pages page).cells
+
+-- the answer to a read of such a page: the written body and parity bits, all else as the cells have it, and the exact counts; a read that is not answered says nothing, and no other answer is right
+abbrev pub IsReadBack : Geometry → List ℕ → List ℕ → Option Reply → Type 0
+IsReadBack g image cells (Some (Page kind read got)) =
+    ReadsBack g image cells × (got ≡ (decoded g cells).image) × (read.corrected ≡ (decoded g cells).corrected)
+    × (read.greatest ≡ (decoded g cells).greatest) × (read.failed ≡ 0)
+    × (kind ≡ (if nat_le g.threshold read.greatest then Bitflips else Clean))
+IsReadBack g image cells None = ⊤
+IsReadBack g image cells (Some _) = ⊥
+
+-- the operation is a read that decodes
+abbrev pub is_read : Op → Bool
+is_read (Read dev page) = true
+is_read _ = false
+
+-- an answered read, after all that befell its chip before: if one program filled its page, with few flips, it gives that page back with exact counts
+abbrev pub OperationReadsBack : {W : Type 0} → FaultModel W → ChipState W → List ChipEvent → OperationTrace → Type 0
+OperationReadsBack {W} model fresh before operation =
+    (flips rest : List ChipEvent) (page : ℕ) (body free : List ℕ) → FillsPage fresh.geometry body free →
+    is_read operation.op ≡ true → events_in operation.trace ≡ flips ++ Complete (ReadEvent page) ∷ rest →
+    past_of model fresh page Erased (before ++ flips) ≡ Programmed (page_image fresh.geometry body free) →
+    HasFewFlips fresh.geometry ((after_trace model fresh (before ++ flips)).pages page).flips →
+    IsReadBack fresh.geometry (page_image fresh.geometry body free) ((after_trace model fresh (before ++ flips)).pages page).cells operation.reply
+
+abbrev pub OperationsReadBack : {W : Type 0} → FaultModel W → ChipState W → List ChipEvent → List OperationTrace → Type 0
+OperationsReadBack model fresh before [] = ⊤
+OperationsReadBack model fresh before (operation ∷ later) =
+    OperationReadsBack model fresh before operation × OperationsReadBack model fresh (before ++ events_in operation.trace) later
+
+-- all answered reads of a chip, over all boots
+abbrev pub ReadsBackAlong : {W : Type 0} → FaultModel W → ChipState W → List ChipEvent → List ChipBoot → Type 0
+ReadsBackAlong model fresh before [] = ⊤
+ReadsBackAlong model fresh before (b ∷ bs) =
+    OperationsReadBack model fresh (before ++ events_in b.attach) b.operations × ReadsBackAlong model fresh (before ++ trace_of b) bs

@@ -1,0 +1,125 @@
+-- Runs of several boots of one controller: each boot starts from the states that the one before it left.
+use Rattle.std.specs.Prelude.{◌≡◌, ◌≢◌, ◌==◌, ℕ, Bool, true, IsTrue, false, not, count_by, ◌≤◌, ◌&&◌, List, [], ◌∷◌, ◌++◌, length, map, take, slice_get, Option, Some, None, ⊤, Contains}
+use Rattle.std.specs.List.{list_all, list_any, AllZip}
+use Rattle.nand_model.specs.Sizes.{first_page, raw_len}
+use Rattle.nand_model.specs.Chip.{ChipState, FaultModel}
+use Rattle.nand_model.specs.Table.{Copy, copy_in}
+use Rattle.nand_model.specs.Attach.{has_tables, Places, candidates, chosen, used_copy, found, table_blocks, place_of}
+use Rattle.nand_model.specs.Operation.{Partitions}
+use Rattle.nand_model.specs.ChipRun.{ChipRun}
+use Rattle.run_model.specs.Course.{Boot, Course, SessionRun, IsWholeCourse, course_after, end_states, sizes_of, without_finished, is_finished, is_over}
+use Rattle.run_model.specs.History.{ChipBoot, AreOneThread, FollowsCommands, exchanges_of, session_after}
+use Rattle.run_model.specs.Log.{Log, AreOfLog, AreOfLogs}
+use Rattle.run_model.specs.Marking.{ShowsMarks}
+use Rattle.nand_model.specs.declared.geometry.Geometry.{Geometry}
+use Rattle.nand_model.specs.declared.words.Which.{Which}
+use Rattle.nand_model.specs.declared.words.Which.TheVariants.{Primary, Mirror}
+use Rattle.nand_model.specs.declared.words.Command.{Command}
+use Rattle.nand_model.specs.declared.words.Origin.{Origin}
+use Rattle.nand_model.specs.declared.words.Fairness.TheVariants.{Foul}
+use Rattle.nand_model.specs.declared.words.Note.{Note}
+use Rattle.nand_model.specs.declared.words.Note.TheVariants.{Attached, Torn}
+
+-- the boots of a run, each with its turns and its course
+abbrev pub AreBoots : {W : Type 0} → FaultModel W → List (ChipState W) → List Boot → List (List ℕ) → List (Course W) → Type 0
+AreBoots model starts [] [] [] = ⊤
+AreBoots model starts (boot ∷ boots) (turns ∷ more) (course ∷ courses) =
+    IsWholeCourse model boot starts turns course × AreBoots model (end_states course) boots more courses
+AreBoots model starts _ _ _ = ⊥
+
+-- no torn event of chip k in these notes was foul
+abbrev pub is_fair_note : ℕ → Note → Bool
+is_fair_note k (Torn chip number event cut Foul) = not (chip == k)
+is_fair_note k _ = true
+
+abbrev pub is_fair : ℕ → List Note → Bool
+is_fair k notes = list_all (is_fair_note k) notes
+
+-- each attach of chip k so far was quiet, one that a cut ended too
+abbrev pub quiet_at : {W : Type 0} → ℕ → Course W → Bool
+quiet_at {W} k course = go (slice_get course.chips k)
+  where
+    go : Option (ChipRun W) → Bool
+    go None = true
+    go (Some c) = c.quiet
+
+-- a session of a boot at its start
+abbrev pub session_at_start : {W : Type 0} → Boot → List (ChipState W) → ℕ → List Command → SessionRun
+session_at_start boot starts session commands = without_finished (sizes_of boot starts) session commands [] []
+
+-- the operations of each session of a boot are those of its commands, in order and each once, as far as the notes go
+abbrev pub AreInOrder : {W : Type 0} → Boot → List (ChipState W) → List Note → Type 0
+AreInOrder boot starts notes =
+    (session : ℕ) (commands : List Command) → Contains boot.sessions (session, commands) →
+    FollowsCommands (sizes_of boot starts) (session_at_start boot starts session commands) (exchanges_of session notes)
+
+-- and nothing of any session is left
+abbrev pub AreComplete : {W : Type 0} → Boot → List (ChipState W) → List Note → Type 0
+AreComplete boot starts notes =
+    (session : ℕ) (commands : List Command) → Contains boot.sessions (session, commands) →
+    is_finished (session_after (sizes_of boot starts) (session_at_start boot starts session commands) (exchanges_of session notes)).commands ≡ true
+
+-- no two sessions have one number, unless they have the same commands
+abbrev pub HaveOneNumberEach : List (ℕ × List Command) → Type 0
+HaveOneNumberEach sessions = (n : ℕ) (a b : List Command) → Contains sessions (n, a) → Contains sessions (n, b) → a ≡ b
+
+-- for every list of turns: the notes of a course are those of one thread, whose traces are what befell the chips by one list of page events, with the boot's flips and cut; they lead to the states that the course leaves; and each session's operations are those of its commands
+pub record CoursesAreFaithful {W : Type 0} (model : FaultModel W) (boot : Boot) (starts : List (ChipState W)) (attaches : ℕ) (turns : List ℕ) : Type 0 where
+  pub lives : List ChipBoot
+  pub log : Log
+  pub counted : (course_after model boot starts attaches turns).events ≡ length log
+  pub of_log : AreOfLog model boot starts lives (end_states (course_after model boot starts attaches turns)) log
+  pub one_thread : AreOneThread model boot.partitions starts (map (λ (b : ChipBoot). b ∷ []) lives) ((course_after model boot starts attaches turns).notes ∷ [])
+  pub in_order : HaveOneNumberEach boot.sessions → AreInOrder boot starts (course_after model boot starts attaches turns).notes
+  pub complete : HaveOneNumberEach boot.sessions → is_over (course_after model boot starts attaches turns) ≡ true
+      → (course_after model boot starts attaches turns).dark ≡ false → AreComplete boot starts (course_after model boot starts attaches turns).notes
+
+-- over all boots, each from the states that the one before it left
+pub record RunsAreFaithful {W : Type 0} (model : FaultModel W) (partitions : Partitions) (starts : List (ChipState W)) (boots : List Boot) (courses : List (Course W)) : Type 0 where
+  pub lives : List (List ChipBoot)
+  pub logs : List Log
+  pub counted : map (λ (c : Course W). c.events) courses ≡ map (λ (log : Log). length log) logs
+  pub of_logs : (k : ℕ) (s : ChipState W) (life : List ChipBoot) → slice_get starts k ≡ Some s → slice_get lives k ≡ Some life → AreOfLogs k (raw_len s.geometry) boots logs life
+  pub one_thread : AreOneThread model partitions starts lives (map (λ (c : Course W). c.notes) courses)
+  pub in_order : AllZip (λ boot notes. HaveOneNumberEach boot.sessions → AreInOrder boot starts notes) boots (map (λ (c : Course W). c.notes) courses)
+  pub complete : AllZip (λ boot (course : Course W). HaveOneNumberEach boot.sessions → course.dark ≡ false → AreComplete boot starts course.notes) boots courses
+
+-- all boots up to one: no torn event of the chip was foul, and each attach of it was quiet
+abbrev pub IsFairAndQuiet : {W : Type 0} → ℕ → List (Course W) → Type 0
+IsFairAndQuiet k courses = IsTrue (list_all (λ course. is_fair k course.notes && quiet_at k course) courses)
+
+-- at most two of the last four blocks of a chip with tables are factory-bad
+abbrev pub HasTableBlocks : Geometry → List ℕ → Type 0
+HasTableBlocks g factory_bad =
+    has_tables g ≡ true → count_by (λ block. list_any (λ b. b == block) factory_bad) (table_blocks g) ≤ 2
+
+-- each attach note of a quiet attach shows the marks of the boots before it, where no torn event of the chip before it was foul and each earlier attach was quiet
+abbrev pub MarksSurvive : {W : Type 0} → Partitions → ℕ → Geometry → List ℕ → List (Course W) → Type 0
+MarksSurvive {W} partitions k g factory_bad courses =
+    HasTableBlocks g factory_bad →
+    (n : ℕ) (course : Course W) (before after : List Note) (origin : Origin) (version copies : ℕ) (states : List ℕ) →
+    slice_get courses n ≡ Some course → course.notes ≡ before ++ Attached k origin version copies true states ∷ after →
+    IsFairAndQuiet k (take n courses) → IsTrue (is_fair k before) →
+    ShowsMarks partitions k g.blocks factory_bad (map (λ (c : Course W). c.notes) (take n courses)) states
+
+-- the copy that an attach would use, if it began now
+abbrev pub copy_in_use : {W : Type 0} → ChipState W → Option (ℕ × Copy)
+copy_in_use s =
+    let g : Geometry = s.geometry in
+    let cs : List (ℕ × List ℕ) = candidates g (map (λ b. (s.pages (first_page g b)).cells) (table_blocks g)) in
+    used_copy (chosen g cs) (found g Primary cs) (found g Mirror cs)
+
+-- the page of a place holds a copy with this version and these states
+abbrev pub HoldsLike : {W : Type 0} → ChipState W → ℕ → Copy → Type 0
+HoldsLike s block copy =
+    (seen : Copy) × (copy_in s.geometry (s.pages (first_page s.geometry block)).cells ≡ Some seen)
+    × (seen.version ≡ copy.version) × (seen.states ≡ copy.states)
+
+-- one of the two places, other than the block that is being changed, holds what an attach would use
+pub record KeepsACopy {W : Type 0} (s : ChipState W) (places : Places) (changing : Option ℕ) : Type 0 where
+  pub which : Which
+  pub other : changing ≢ Some (place_of places which)
+  pub block : ℕ
+  pub copy : Copy
+  pub used : copy_in_use s ≡ Some (block, copy)
+  pub holds : HoldsLike s (place_of places which) copy
