@@ -1,10 +1,6 @@
--- What a source has left, what a sink holds, and their counts of faults.
-use Rattle.std.specs.Prelude.{◌≡◌, ℕ, ◌+◌, ◌-◌, ◌^◌, ◌<◌, ◌≤◌, ◌⊎◌, min, Option, List, length, take, ◌++◌}
+-- What a source has left and what a sink holds, and a count of faults raised by one.
+use Rattle.std.specs.Prelude.{◌≡◌, ℕ, ◌+◌, ◌-◌, ◌^◌, ◌≤◌, min, Option, List, length, take, ◌++◌}
 use Rattle.std.specs.Io.KnownBytes.{prepend_known, append_known}
-
--- a count that rose from `before` to `now`, or that stands at the last number of its type
-abbrev pub HasRisen : ℕ → ℕ → Type 0
-HasRisen before now = (before < now) ⊎ (now ≡ 2 ^ 64 - 1)
 
 -- a count raised by one, which stays at the last number of its type
 abbrev pub raised : ℕ → ℕ

@@ -1,7 +1,7 @@
 // What the outside is: a source of bytes to read, and a sink for bytes to write.
 ghost use Rattle.std.specs.Prelude.{◌≡◌, ℕ, ◌<◌, ◌≤◌, ◌^◌, List, Option, length, take, IfOk, OnErr};
 ghost use Rattle.std.specs.Io.KnownBytes.{prepend_known, append_known, IsAtEnd};
-ghost use Rattle.lab_outside.specs.Outside.{HasRisen};
+ghost use Rattle.nand_model.specs.Counts.{HasRisen};
 
 use thiserror::Error;
 

@@ -3,7 +3,8 @@ ghost use Rattle.std.specs.Prelude.{◌≡◌, ◌++◌, ℕ, ◌<◌, ◌≤◌
 ghost use Rattle.std.specs.Option.{option_map};
 ghost use Rattle.lab_outside.specs.declared.reading.ReadError.TheVariants.{Failed as FailedRead, Memory};
 ghost use Rattle.std.specs.Io.KnownBytes.{prepend_known, IsAtEnd};
-ghost use Rattle.lab_outside.specs.Outside.{HasRisen, GaveAtMost, MovesBytes};
+ghost use Rattle.lab_outside.specs.Outside.{GaveAtMost, MovesBytes};
+ghost use Rattle.nand_model.specs.Counts.{HasRisen};
 
 use crate::{Failed, Source};
 use nand_model::Bytes;

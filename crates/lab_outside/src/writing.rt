@@ -1,7 +1,8 @@
 // A whole text written to a sink, in as few calls as the sink allows.
 ghost use Rattle.std.specs.Prelude.{◌≡◌, ◌<◌, ◌≤◌, ◌^◌, OnOk, OnErr};
 ghost use Rattle.std.specs.Io.KnownBytes.{append_known};
-ghost use Rattle.lab_outside.specs.Outside.{HasRisen, TookPrefix};
+ghost use Rattle.lab_outside.specs.Outside.{TookPrefix};
+ghost use Rattle.nand_model.specs.Counts.{HasRisen};
 
 use crate::{Failed, Sink};
 

@@ -1,17 +1,14 @@
 -- What the calls of a flash chip ask, and what their failures show.
-use Rattle.std.specs.Prelude.{◌≡◌, ℕ, ◌<◌, ◌-◌, ◌^◌, ◌⊎◌, List, length}
+use Rattle.std.specs.Prelude.{◌≡◌, ℕ, ◌<◌, List, length}
 use Rattle.nand_model.specs.Chip.{ChipState}
 use Rattle.nand_model.specs.Sizes.{page_count, raw_len}
 use Rattle.nand_model.specs.declared.geometry.Geometry.{Geometry}
+pub use Rattle.nand_model.specs.Counts.{HasRisen}
 
 -- a page of the chip, and bytes for a whole page
 pub record FitsPage (g : Geometry) (page : ℕ) (bytes : List ℕ) : Type 0 where
   pub page_there : page < page_count g
   pub length_right : length bytes ≡ raw_len g
-
--- a count of faults rose, or stands at the last number of 64 bits
-abbrev pub HasRisen : ℕ → ℕ → Type 0
-HasRisen before now = (before < now) ⊎ (now ≡ 2 ^ 64 - 1)
 
 -- the cells of each page of the chip are those of a whole page
 abbrev pub HasWholePages : {W : Type 0} → ChipState W → Type 0

@@ -1,3 +1,7 @@
 mod RowSteps
 mod Joined
 mod Entries
+mod Notes
+mod FirstPage
+mod PlanNotes
+mod PlanReport

@@ -1,1 +1,4 @@
 pub mod Printing
+pub mod Reading
+pub mod Status
+pub mod Answer

@@ -1,6 +1,31 @@
-//! nandlab: runs plans over simulated NAND chips and prints reports.
+//! nandlab: replays plans over simulated NAND chips and prints reports.
 #![tactic(auto)]
 
+mod answer;
+mod nine_lines;
 mod print;
+mod report;
+mod run;
+mod status;
+#[cfg(test)]
+mod tests;
+mod top;
 
-fn main() {}
+use lab_outside::{StdSink, StdSource};
+use std::env;
+use std::io;
+use std::process::ExitCode;
+
+pub use status::{Status, code};
+pub use top::serial_top;
+
+fn main(rt: HostRuntime) -> io::Result<ExitCode> {
+    let mut words = Vec::new(rt.alloc());
+    for word in env::args(&rt)?.skip(1) {
+        words.push(word)?;
+    }
+    let mut source = StdSource::new(rt.reader());
+    let mut sink = StdSink::new(io::writer(&rt));
+    let status = serial_top(rt.alloc(), &words, &mut source, &mut sink);
+    Ok(ExitCode::from(code(status)))
+}

@@ -93,7 +93,7 @@ abbrev pub starts : List (ChipState SimFaults)
 starts = new_chips (chip ∷ [])
 
 -- the course after the attach, which reads the first page of each block, and so many rounds of a replay
-abbrev pub course_of_rounds : ℕ → List ℕ → Course SimFaults
+unfoldable pub course_of_rounds : ℕ → List ℕ → Course SimFaults
 course_of_rounds rounds payload = course_after sim_faults (part_of_boot payload) starts 8 (replay_turns (boot_of payload) rounds 0)
 
 -- the course of the plan: eight rounds bring it to its end

@@ -1,7 +1,7 @@
 -- What a report of a run says: histories of one thread, pages that read back, and marks that survive cuts.
-use Rattle.std.specs.Prelude.{◌≡◌, ◌⊎◌, ℕ, ◌-◌, ◌<◌, ◌^◌, Bool, false, ◌==◌, List, [], ◌++◌, length, map, filter, replicate, slice_get, slice_index_or, Option, Some, None, All, ⊤}
+use Rattle.std.specs.Prelude.{◌≡◌, ℕ, Bool, false, ◌==◌, List, [], ◌++◌, length, map, filter, replicate, slice_get, slice_index_or, Option, Some, None, All}
 use Rattle.std.specs.List.{AllZip, concat}
-use Rattle.nand_model.specs.Sizes.{numbers_from, raw_len}
+use Rattle.nand_model.specs.Sizes.{numbers_from}
 use Rattle.nand_model.specs.Chip.{ChipState, SimFaults, sim_faults}
 use Rattle.run_model.specs.Course.{Course}
 use Rattle.run_model.specs.History.{ChipBoot, AreOneThread}
@@ -22,7 +22,7 @@ pub record ControllerRun (plan : PlanData) (c : ℕ) (chips : List ChipPlan) (tu
   -- which is what befell it by one list of page events in each boot, with the boot's flips and cut
   pub logs : List Log
   pub counted : map (λ (course : Course SimFaults). course.events) courses ≡ map (λ (log : Log). length log) logs
-  pub of_logs : (k : ℕ) (s : ChipState SimFaults) (life : List ChipBoot) → slice_get (new_chips chips) k ≡ Some s → slice_get lives k ≡ Some life → AreOfLogs k (raw_len s.geometry) (map (boot_part plan c chips) plan.boots) logs life
+  pub of_logs : AreOfLogs sim_faults (new_chips chips) (map (boot_part plan c chips) plan.boots) courses lives logs
   pub one_thread : AreOneThread sim_faults (devices_of plan c chips) (new_chips chips) lives notes
   -- each session's operations stand once and in order
   pub in_order : AllZip (λ boot seen. AreInOrder boot (new_chips chips) seen) (map (boot_part plan c chips) plan.boots) notes

@@ -81,10 +81,13 @@ module _ {W : Type 0} (model : FaultModel W) (boot : Boot) (starts : List (ChipS
   follows s (Some op) h = h op refl
 
   pub in_order : (course : Course W) → Holds model boot starts course → HaveOneNumberEach boot.sessions → AreInOrder boot starts course.notes
-  in_order course h once session commands has =
-      let a = all_sessions course h session in
-      let f = a.follow commands once has in
-      subst (FollowsCommands (sizes_of boot starts) (session_at_start boot starts session commands)) (sym a.are) (f.follows (asked a.open_op) (follows f.run a.open_op f.next))
+  in_order course h once = record {
+    own = λ session commands has.
+        let a = all_sessions course h session in
+        let f = a.follow commands once has in
+        subst (FollowsCommands (sizes_of boot starts) (session_at_start boot starts session commands)) (sym a.are) (f.follows (asked a.open_op) (follows f.run a.open_op f.next));
+    no_other = λ session none. (all_sessions course h session).not_own none;
+  }
 
   after_asked : (s : SessionRun) (o : Option Op) → session_after (sizes_of boot starts) s (asked o) ≡ s
   after_asked s None = refl

@@ -12,8 +12,7 @@ use Rattle.nand_model.specs.Operation.{Partitions}
 use Rattle.nand_model.specs.ChipRun.{ChipRun}
 use Rattle.run_model.specs.Course.{Boot, Course, IsWholeCourse, end_states, geometry_for, without_finished, is_finished}
 use Rattle.run_model.specs.History.{notes_of_chip, ChipBoot, trace_of, events_in, exchanges_of, Alternate, AreOfChips, session_after, FollowsCommands, IsChipHistory, IsChipLife}
-use Rattle.nand_model.specs.Sizes.{raw_len}
-use Rattle.run_model.specs.Log.{Log, AreOfLogs}
+use Rattle.run_model.specs.Log.{Log, AreOfLog, AreOfLogs, first_boots, later_boots}
 use Rattle.run_model.specs.Run.{AreBoots, AreInOrder, HaveOneNumberEach, RunsAreFaithful}
 use Rattle.run_laws.proofs.Traces.{geometry_after}
 use Rattle.run_laws.proofs.Courses.{AtPlace, EndOf, by_log, Holds}
@@ -27,6 +26,43 @@ same_map f g [] [] h = refl
 same_map f g [] (y ∷ ys) h = absurd (none-some _ (h zero))
 same_map f g (x ∷ xs) [] h = absurd (none-some _ (sym (h zero)))
 same_map f g (x ∷ xs) (y ∷ ys) h = ap (λ z. z ∷ map f xs) (same_Some _ _ (h zero)) ∙ ap (λ zs. g y ∷ zs) (same_map f g xs ys (λ k. h (suc k)))
+
+-- what befell each chip in a boot, before what befell it in the later ones
+abbrev joined : List ChipBoot → List (List ChipBoot) → List (List ChipBoot)
+joined [] lives = []
+joined (b ∷ bs) [] = (b ∷ []) ∷ joined bs []
+joined (b ∷ bs) (life ∷ lives) = (b ∷ life) ∷ joined bs lives
+
+length-joined : (bs : List ChipBoot) (lives : List (List ChipBoot)) → length (joined bs lives) ≡ length bs
+length-joined [] lives = refl
+length-joined (b ∷ bs) [] = ap suc (length-joined bs [])
+length-joined (b ∷ bs) (life ∷ lives) = ap suc (length-joined bs lives)
+
+first-joined : (bs : List ChipBoot) (lives : List (List ChipBoot)) → first_boots (joined bs lives) ≡ bs
+first-joined [] lives = refl
+first-joined (b ∷ bs) [] = ap (λ zs. b ∷ zs) (first-joined bs [])
+first-joined (b ∷ bs) (life ∷ lives) = ap (λ zs. b ∷ zs) (first-joined bs lives)
+
+later-joined : (bs : List ChipBoot) (lives : List (List ChipBoot)) → length bs ≡ length lives → later_boots (joined bs lives) ≡ lives
+later-joined [] [] e = refl
+later-joined [] (life ∷ lives) e = absurd (omega (arith, e))
+later-joined (b ∷ bs) [] e = absurd (omega (arith, e))
+later-joined (b ∷ bs) (life ∷ lives) e = ap (λ zs. life ∷ zs) (later-joined bs lives (omega (arith, e)))
+
+-- a life of the joined ones is a first boot and later ones
+joined_at : (bs : List ChipBoot) (lives : List (List ChipBoot)) → length bs ≡ length lives → (k : ℕ) (life : List ChipBoot) → slice_get (joined bs lives) k ≡ Some life
+    → (b : ChipBoot) × (later : List ChipBoot) × (slice_get bs k ≡ Some b) × (slice_get lives k ≡ Some later) × (life ≡ b ∷ later)
+joined_at [] lives e k life f = absurd (none-some life f)
+joined_at (b ∷ bs) [] e k life f = absurd (omega (arith, e))
+joined_at (b ∷ bs) (later ∷ lives) e zero life f = (b, later, refl, refl, sym (same_Some _ _ f))
+joined_at (b ∷ bs) (later ∷ lives) e (suc k) life f = joined_at bs lives (omega (arith, e)) k life f
+
+-- a relation follows from another at the same places
+zip_weaker : {A B : Type 0} (P Q : A → B → Type 0) → ((x : A) (y : B) → P x y → Q x y) → (xs : List A) (ys : List B) → AllZip P xs ys → AllZip Q xs ys
+zip_weaker P Q f [] [] h = tt
+zip_weaker P Q f [] (y ∷ ys) h = absurd h
+zip_weaker P Q f (x ∷ xs) [] h = absurd h
+zip_weaker P Q f (x ∷ xs) (y ∷ ys) h = (f x y h.0, zip_weaker P Q f xs ys h.1)
 
 abbrev geometry_of : {W : Type 0} → ChipState W → Geometry
 geometry_of s = s.geometry
@@ -61,13 +97,28 @@ module _ {W : Type 0} (model : FaultModel W) where
   tail_partitions : (partitions : Partitions) (boot : Boot) (boots : List Boot) → HavePartitions partitions (boot ∷ boots) → HavePartitions partitions boots
   tail_partitions partitions boot boots h b c = h b (suc c.0, omega (arith, c.1), c.2)
 
-  -- the page events of each boot
-  logs_at : (boots : List Boot) (turns : List (List ℕ)) (courses : List (Course W)) (starts : List (ChipState W)) → AreBoots model starts boots turns courses
-      → (logs : List Log) × (map (λ (c : Course W). c.events) courses ≡ map (λ (log : Log). length log) logs)
-      × ((k : ℕ) (s : ChipState W) → slice_get starts k ≡ Some s → (partitions : Partitions) → HavePartitions partitions boots → (life : List ChipBoot) × IsChipLife model partitions k s life (notes_of courses) × AreOfLogs k (raw_len s.geometry) boots logs life)
-  logs_at [] [] [] starts h = ([], refl, λ k s e partitions d. ([], tt, tt))
-  logs_at (boot ∷ boots) (turn ∷ turns) (course ∷ courses) starts h =
-      one (logs_at boots turns courses (end_states course) h.1)
+  -- the lives of the chips over all boots, with the page events of each
+  record AreLives (starts : List (ChipState W)) (boots : List Boot) (courses : List (Course W)) : Type 0 where
+    lives : List (List ChipBoot)
+    logs : List Log
+    many : length lives ≡ length starts
+    counted : map (λ (c : Course W). c.events) courses ≡ map (λ (log : Log). length log) logs
+    of_logs : AreOfLogs model starts boots courses lives logs
+    are_lives : (k : ℕ) (s : ChipState W) (life : List ChipBoot) → slice_get starts k ≡ Some s → slice_get lives k ≡ Some life
+        → (partitions : Partitions) → HavePartitions partitions boots → IsChipLife model partitions k s life (notes_of courses)
+
+  all_live : (boots : List Boot) (turns : List (List ℕ)) (courses : List (Course W)) (starts : List (ChipState W)) → AreBoots model starts boots turns courses → AreLives starts boots courses
+  all_live [] [] [] starts h = record {
+    lives = map (λ (s : ChipState W). []) starts;
+    logs = [];
+    many = length-map starts (λ (s : ChipState W). []);
+    counted = refl;
+    of_logs = tt;
+    are_lives = λ k s life e f partitions d. subst (λ z. IsChipLife model partitions k s z [])
+        (same_Some [] life (sym (slice_get-map (λ (s : ChipState W). []) starts k ∙ ap (option_map (λ (s : ChipState W). [])) e) ∙ f)) tt;
+  }
+  all_live (boot ∷ boots) (turn ∷ turns) (course ∷ courses) starts h =
+      one (all_live boots turns courses (end_states course) h.1) (collect starts (LifeLaw model boot starts course log) (life_at model boot starts course holds))
     where
       holds : Holds model boot starts course
       holds = whole_holds boot starts turn course h.0
@@ -75,25 +126,34 @@ module _ {W : Type 0} (model : FaultModel W) where
       log : Log
       log = (log_of model boot starts course holds).0
 
-      one : (logs : List Log) × (map (λ (c : Course W). c.events) courses ≡ map (λ (l : Log). length l) logs)
-          × ((k : ℕ) (s : ChipState W) → slice_get (end_states course) k ≡ Some s → (partitions : Partitions) → HavePartitions partitions boots → (life : List ChipBoot) × IsChipLife model partitions k s life (notes_of courses) × AreOfLogs k (raw_len s.geometry) boots logs life)
-          → (logs : List Log) × (map (λ (c : Course W). c.events) (course ∷ courses) ≡ map (λ (l : Log). length l) logs)
-          × ((k : ℕ) (s : ChipState W) → slice_get starts k ≡ Some s → (partitions : Partitions) → HavePartitions partitions (boot ∷ boots) → (life : List ChipBoot) × IsChipLife model partitions k s life (notes_of (course ∷ courses)) × AreOfLogs k (raw_len s.geometry) (boot ∷ boots) logs life)
-      one r = (log ∷ r.0, ap (λ n. n ∷ map (λ (c : Course W). c.events) courses) (log_of model boot starts course holds).1.counted ∙ ap (λ ns. length log ∷ ns) r.1, life)
+      one : AreLives (end_states course) boots courses
+          → (bs : List ChipBoot) × (length bs ≡ length starts) × ((k : ℕ) (s : ChipState W) (b : ChipBoot) → slice_get starts k ≡ Some s → slice_get bs k ≡ Some b → LifeLaw model boot starts course log k s b)
+          → AreLives starts (boot ∷ boots) (course ∷ courses)
+      one later first = record {
+        lives = joined first.0 later.lives;
+        logs = log ∷ later.logs;
+        many = length-joined first.0 later.lives ∙ first.1;
+        counted = ap (λ n. n ∷ map (λ (c : Course W). c.events) courses) (log_of model boot starts course holds).1.counted ∙ ap (λ ns. length log ∷ ns) later.counted;
+        of_logs = (
+          subst (λ bs. AreOfLog model boot starts bs (end_states course) log) (sym (first-joined first.0 later.lives)) (record {
+            on_chips = (log_of model boot starts course holds).1.on_chips;
+            traces = λ k s b e f. (first.2 k s b e f).1;
+            ends_are = λ k s b e f. (first.2 k s b e f).2;
+          }),
+          subst (λ lives. AreOfLogs model (end_states course) boots courses lives later.logs) (sym (later-joined first.0 later.lives as_many)) later.of_logs,
+        );
+        are_lives = λ k s life e f partitions d.
+            let at = joined_at first.0 later.lives as_many k life f in
+            let law = first.2 k s at.0 e at.2 in
+            subst (λ z. IsChipLife model partitions k s z (course.notes ∷ notes_of courses)) (sym at.4) (
+              subst (λ z. IsChipHistory model z k s at.0.attach at.0.operations (notes_of_chip z k course.notes)) (d boot (0, omega arith, refl)) law.0,
+              later.are_lives k (after_trace model s (trace_of at.0)) at.1 law.2 at.3 partitions (tail_partitions partitions boot boots d),
+            );
+      }
         where
-          life : (k : ℕ) (s : ChipState W) → slice_get starts k ≡ Some s → (partitions : Partitions) → HavePartitions partitions (boot ∷ boots)
-              → (bs : List ChipBoot) × IsChipLife model partitions k s bs (course.notes ∷ notes_of courses) × AreOfLogs k (raw_len s.geometry) (boot ∷ boots) (log ∷ r.0) bs
-          life k s e partitions d = joined (life_at model boot starts course holds k s e)
-            where
-              joined : (b : ChipBoot) × LifeLaw model boot starts course log k s b
-                  → (bs : List ChipBoot) × IsChipLife model partitions k s bs (course.notes ∷ notes_of courses) × AreOfLogs k (raw_len s.geometry) (boot ∷ boots) (log ∷ r.0) bs
-              joined b =
-                  let later = r.2 k (after_trace model s (trace_of b.0)) b.1.2 partitions (tail_partitions partitions boot boots d) in (
-                    b.0 ∷ later.0,
-                    (subst (λ z. IsChipHistory model z k s b.0.attach b.0.operations (notes_of_chip z k course.notes)) (d boot (0, omega arith, refl)) b.1.0, later.1),
-                    (b.1.1, subst (λ (g : Geometry). AreOfLogs k (raw_len g) boots r.0 later.0) (geometry_after model s (trace_of b.0)) later.2),
-                  )
-  logs_at boots turns courses starts h = absurd h
+          as_many : length first.0 ≡ length later.lives
+          as_many = first.1 ∙ sym (ends_many boot starts course holds) ∙ sym later.many
+  all_live boots turns courses starts h = absurd h
 
   all_paired : (boots : List Boot) (turns : List (List ℕ)) (courses : List (Course W)) (starts : List (ChipState W)) → AreBoots model starts boots turns courses
       → (k : ℕ) (notes : List Note) → slice_get (notes_of courses) k ≡ Some notes → (session : ℕ) → Alternate (exchanges_of session notes)
@@ -131,39 +191,39 @@ module _ {W : Type 0} (model : FaultModel W) where
       all_there boots turns courses first (end_states course) (ends_many boot starts course (whole_holds boot starts turn course h.0) ∙ g) partitions (tail_partitions partitions boot boots d) h.1 k notes e
   all_there boots turns courses first starts g partitions d h k notes e = absurd h
 
+  -- in order, by the geometries of the chips alone
+  abbrev InOrderBy : Boot → List Geometry → List Note → Type 0
+  InOrderBy boot geometries notes =
+      ((session : ℕ) (commands : List Command) → Contains boot.sessions (session, commands)
+      → FollowsCommands (geometry_for boot.partitions geometries) (without_finished (geometry_for boot.partitions geometries) session commands [] []) (exchanges_of session notes))
+      × ((session : ℕ) → ((commands : List Command) → Contains boot.sessions (session, commands) → ⊥) → exchanges_of session notes ≡ [])
+
   pub runs_faithful : (partitions : Partitions) (starts : List (ChipState W)) (boots : List Boot) (turns : List (List ℕ)) (courses : List (Course W))
       → HavePartitions partitions boots → AreBoots model starts boots turns courses → RunsAreFaithful model partitions starts boots courses
   runs_faithful partitions starts boots turns courses has h =
-      go (collect starts LifeOf (λ k s e. let l = (logs_at boots turns courses starts h).2 k s e partitions has in (l.0, (l.1, l.2))))
+      go (all_live boots turns courses starts h)
     where
       OrderLaw : Boot → List Geometry → Course W → Type 0
-      OrderLaw boot geometries course = HaveOneNumberEach boot.sessions → (session : ℕ) (commands : List Command) → Contains boot.sessions (session, commands)
-          → FollowsCommands (geometry_for boot.partitions geometries) (without_finished (geometry_for boot.partitions geometries) session commands [] []) (exchanges_of session course.notes)
+      OrderLaw boot geometries course = HaveOneNumberEach boot.sessions → InOrderBy boot geometries course.notes
 
       EndLaw : Boot → List Geometry → Course W → Type 0
       EndLaw boot geometries course = HaveOneNumberEach boot.sessions → course.dark ≡ false → (session : ℕ) (commands : List Command) → Contains boot.sessions (session, commands)
           → is_finished (session_after (geometry_for boot.partitions geometries) (without_finished (geometry_for boot.partitions geometries) session commands [] []) (exchanges_of session course.notes)).commands ≡ true
 
-      logs : List Log
-      logs = (logs_at boots turns courses starts h).0
-
-      LifeOf : ℕ → ChipState W → List ChipBoot → Type 0
-      LifeOf k s life = IsChipLife model partitions k s life (notes_of courses) × AreOfLogs k (raw_len s.geometry) boots logs life
-
-      go : (ls : List (List ChipBoot)) × (length ls ≡ length starts) × ((k : ℕ) (s : ChipState W) (life : List ChipBoot) → slice_get starts k ≡ Some s → slice_get ls k ≡ Some life → LifeOf k s life)
-          → RunsAreFaithful model partitions starts boots courses
+      go : AreLives starts boots courses → RunsAreFaithful model partitions starts boots courses
       go r = record {
-        lives = r.0;
-        logs = logs;
-        counted = (logs_at boots turns courses starts h).1;
-        of_logs = λ k s life e f. (r.2 k s life e f).1;
+        lives = r.lives;
+        logs = r.logs;
+        counted = r.counted;
+        of_logs = r.of_logs;
         one_thread = record {
-          many = r.1;
-          chips = λ k s life e f. (r.2 k s life e f).0;
+          many = r.many;
+          chips = λ k s life e f. r.are_lives k s life e f partitions has;
           of_chips = λ k d l. all_there boots turns courses starts starts refl partitions has h k _ (slice_get-get_or (notes_of courses) k d l);
           paired = λ k d l session. all_paired boots turns courses starts h k _ (slice_get-get_or (notes_of courses) k d l) session;
         };
         in_order = zip_notes (λ boot notes. HaveOneNumberEach boot.sessions → AreInOrder boot starts notes) boots courses
-            (all_boots OrderLaw (λ boot from turn course w. in_order model boot from course (whole_holds boot from turn course w)) boots turns courses starts starts refl h);
+            (zip_weaker (λ boot course. OrderLaw boot (map geometry_of starts) course) (λ boot course. HaveOneNumberEach boot.sessions → AreInOrder boot starts course.notes) (λ boot course law once. record { own = (law once).0; no_other = (law once).1 }) boots courses
+            (all_boots OrderLaw (λ boot from turn course w once. let o = in_order model boot from course (whole_holds boot from turn course w) once in (o.own, o.no_other)) boots turns courses starts starts refl h));
         complete = all_boots EndLaw (λ boot from turn course w once lit. complete model boot from course (whole_holds boot from turn course w) once w.over lit) boots turns courses starts starts refl h;
       }

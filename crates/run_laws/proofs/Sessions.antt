@@ -1,8 +1,9 @@
 -- What each session has asked and been answered so far, and which of its operations is pending.
-use Rattle.std.proofs.Common.{◌≡◌, ◌⊎◌, inl, inr, ℕ, Bool, true, false, List, [], ◌∷◌, ◌++◌, Option, Some, None, refl, ap, sym, ◌∙◌, subst, append_assoc, append-nil, cond}
+use Rattle.std.proofs.Common.{◌≡◌, ◌⊎◌, inl, inr, ℕ, Bool, true, false, List, [], ◌∷◌, ◌++◌, length, ◌+◌, Option, Some, None, refl, ap, sym, ◌∙◌, subst, append_assoc, append-nil, cond, arith}
 use Rattle.std.specs.Prelude.{find, ◌==◌, if◌then◌else◌, Contains}
 use Rattle.std.proofs.lemmas.Bool.{eq-eqb, ne_eqb, cases_eq, eqb-true, cond-true, cond-false}
 use Rattle.std.proofs.lemmas.Option.{none-some, same_Some, some_pair_parts}
+use Rattle.std.proofs.lemmas.List.{length_push}
 use Rattle.nand_model.specs.declared.geometry.Geometry.{Geometry}
 use Rattle.nand_model.specs.declared.words.Note.{Note}
 use Rattle.nand_model.specs.declared.words.Note.TheVariants.{Began, Answered}
@@ -42,6 +43,9 @@ pub record SessionLaw (partitions : Partitions) (sizes : Command → Geometry) (
   pub from : (k : ℕ) (op : Op) → asked_at k ≡ Some (n, op) → (lasts partitions nowhere notes n ≡ Some k) × (open_op ≡ Some op)
   pub to : (op : Op) → open_op ≡ Some op → (k : ℕ) × (asked_at k ≡ Some (n, op))
   pub follow : (commands : List Command) → HaveOneNumberEach begun → Contains begun (n, commands) → IsFollowed sizes n commands past open_op sessions
+  pub not_own : ((commands : List Command) → Contains begun (n, commands) → ⊥) → exchanges_of n notes ≡ []
+  pub asker : (op : Op) → open_op ≡ Some op → (s : SessionRun) × (find (λ (t : SessionRun). t.number == n) sessions ≡ Some s)
+  pub is_own : (s : SessionRun) → find (λ (t : SessionRun). t.number == n) sessions ≡ Some s → (commands : List Command) × Contains begun (n, commands)
 
 pub number_stays : (sizes : Command → Geometry) (number : ℕ) (commands : List Command) (replies : List Reply) (outcomes : List Outcome) → (without_finished sizes number commands replies outcomes).number ≡ number
 number_stays sizes number [] replies outcomes = refl
@@ -86,6 +90,35 @@ found_beside sizes m n reply (t ∷ sessions) d = by_test (t.number == m) refl (
         ap (λ b. cond ((if b then with_reply sizes reply t else t).number == n) (Some (if b then with_reply sizes reply t else t)) (find (λ (u : SessionRun). u.number == n) (replied sizes m reply sessions))) e
         ∙ ap (λ o. cond (t.number == n) (Some t) o) ih
 
+-- a reply leaves the numbers of the sessions as they are
+found_before : (sizes : Command → Geometry) (m n : ℕ) (reply : Reply) (sessions : List SessionRun) (s : SessionRun)
+    → find (λ (t : SessionRun). t.number == n) (replied sizes m reply sessions) ≡ Some s → (t : SessionRun) × (find (λ (t : SessionRun). t.number == n) sessions ≡ Some t)
+found_before sizes m n reply [] s h = absurd (none-some s h)
+found_before sizes m n reply (t ∷ sessions) s h = by_reply (t.number == m) (λ e. found_before sizes m n reply sessions s e) h
+  where
+    rest : Option SessionRun
+    rest = find (λ (v : SessionRun). v.number == n) (replied sizes m reply sessions)
+
+    Before : Type 0
+    Before = (v : SessionRun) × (find (λ (w : SessionRun). w.number == n) sessions ≡ Some v)
+
+    by_test : (b : Bool) (u : SessionRun) → (rest ≡ Some s → Before) → cond b (Some u) rest ≡ Some s
+        → (v : SessionRun) × (cond b (Some t) (find (λ (w : SessionRun). w.number == n) sessions) ≡ Some v)
+    by_test true u later e = (t, refl)
+    by_test false u later e = later e
+
+    by_number : (u : SessionRun) → u.number ≡ t.number → (rest ≡ Some s → Before) → cond (u.number == n) (Some u) rest ≡ Some s
+        → (v : SessionRun) × (cond (t.number == n) (Some t) (find (λ (w : SessionRun). w.number == n) sessions) ≡ Some v)
+    by_number u same later g = by_test (t.number == n) u later (sym (ap (λ z. cond (z == n) (Some u) rest) same) ∙ g)
+
+    by_reply : (b : Bool) → (rest ≡ Some s → Before) → cond ((if b then with_reply sizes reply t else t).number == n) (Some (if b then with_reply sizes reply t else t)) rest ≡ Some s
+        → (v : SessionRun) × (cond (t.number == n) (Some t) (find (λ (w : SessionRun). w.number == n) sessions) ≡ Some v)
+    by_reply true later g = by_number (with_reply sizes reply t) (number_stays sizes t.number t.commands (t.replies ++ reply ∷ []) t.outcomes) later g
+    by_reply false later g = by_number t refl later g
+
+not_empty : {A : Type 0} (xs : List A) (x : A) → xs ++ x ∷ [] ≡ [] → ⊥
+not_empty xs x e = let l : length xs + 1 ≡ 0 = sym (length_push xs x) ∙ ap length e in omega (arith, l)
+
 none_open : (o : Option Op) → ((op : Op) → o ≡ Some op → ⊥) → o ≡ None
 none_open None h = refl
 none_open (Some op) h = absurd (h op refl)
@@ -114,6 +147,9 @@ module _ (partitions : Partitions) (sizes : Command → Geometry) (begun : List 
     from = λ k op h. (ap (λ t. t n) (lasts-append partitions nowhere notes new ∙ l _) ∙ (a.from k op h).0, (a.from k op h).1);
     to = a.to;
     follow = a.follow;
+    not_own = λ none. exchanges-append n notes new ∙ ap (λ zs. exchanges_of n notes ++ zs) e ∙ append-nil _ ∙ a.not_own none;
+    asker = a.asker;
+    is_own = a.is_own;
   }
 
   -- session m begins an operation on chip k
@@ -122,9 +158,9 @@ module _ (partitions : Partitions) (sizes : Command → Geometry) (begun : List 
       → asked_then k ≡ Some (n, op) → ((j : ℕ) → (k ≡ j → ⊥) → asked_then j ≡ asked_at j)
       → chip_of partitions (device_of op) ≡ Some k
       → ((j : ℕ) (other : Op) → asked_at j ≡ Some (n, other) → ⊥)
-      → ((s : SessionRun) → find (λ (t : SessionRun). t.number == n) sessions ≡ Some s → next_op_of sizes s.commands s.replies ≡ Some op)
+      → (asker : SessionRun) → find (λ (t : SessionRun). t.number == n) sessions ≡ Some asker → next_op_of sizes asker.commands asker.replies ≡ Some op
       → SessionLaw partitions sizes begun n asked_then sessions (notes ++ Began n op ∷ [])
-  begin_here n k op asked_at asked_then sessions notes a now others at free next = record {
+  begin_here n k op asked_at asked_then sessions notes a now others at free asker found next = record {
     open_op = Some op;
     past = a.past;
     are = exchanges-append n notes (Began n op ∷ []) ∙ ap (λ b. exchanges_of n notes ++ ((if b then Asked op ∷ [] else []) ++ [])) (eq-eqb n n refl)
@@ -132,7 +168,16 @@ module _ (partitions : Partitions) (sizes : Command → Geometry) (begun : List 
     alternate = a.alternate;
     from = λ j other h. from_here j other h (cases_eq k j);
     to = λ other h. (k, now ∙ ap (λ o. Some (n, o)) (same_Some op other h));
-    follow = λ commands u h. let f = a.follow commands u h in record { run = f.run; found = f.found; follows = f.follows; after = f.after; next = λ other g. next f.run f.found ∙ g };
+    follow = λ commands u h. let f = a.follow commands u h in record {
+      run = f.run;
+      found = f.found;
+      follows = f.follows;
+      after = f.after;
+      next = λ other g. ap (λ (s : SessionRun). next_op_of sizes s.commands s.replies) (same_Some f.run asker (sym f.found ∙ found)) ∙ next ∙ g;
+    };
+    not_own = λ none. let own = a.is_own asker found in absurd (none own.0 own.1);
+    asker = λ other h. (asker, found);
+    is_own = a.is_own;
   }
     where
       from_here : (j : ℕ) (other : Op) → asked_then j ≡ Some (n, other) → (k ≡ j) ⊎ (k ≡ j → ⊥) → (lasts partitions nowhere (notes ++ Began n op ∷ []) n ≡ Some j) × (Some op ≡ Some other)
@@ -152,6 +197,9 @@ module _ (partitions : Partitions) (sizes : Command → Geometry) (begun : List 
     from = λ j other h. from_here j other h (cases_eq k j);
     to = λ other h. let t = a.to other h in (t.0, others t.0 (λ e. none-some _ (sym was ∙ ap asked_at e ∙ t.1)) ∙ t.1);
     follow = a.follow;
+    not_own = λ none. exchanges-append n notes (Began m op ∷ []) ∙ ap (λ b. exchanges_of n notes ++ ((if b then Asked op ∷ [] else []) ++ [])) (ne_eqb m n d) ∙ append-nil _ ∙ a.not_own none;
+    asker = a.asker;
+    is_own = a.is_own;
   }
     where
       from_here : (j : ℕ) (other : Op) → asked_then j ≡ Some (n, other) → (k ≡ j) ⊎ (k ≡ j → ⊥) → (lasts partitions nowhere (notes ++ Began m op ∷ []) n ≡ Some j) × (a.open_op ≡ Some other)
@@ -178,6 +226,9 @@ module _ (partitions : Partitions) (sizes : Command → Geometry) (begun : List 
       after = λ more. ap (session_after sizes (without_finished sizes n commands [] [])) (append_assoc a.past _ more) ∙ f.after (Asked op ∷ Replied reply ∷ more);
       next = λ other g. absurd (none-some other g);
     };
+    not_own = λ none. absurd (not_empty a.past (Asked op) (sym (a.are ∙ ap (λ o. a.past ++ asked o) (a.from k op was).1) ∙ a.not_own none));
+    asker = λ other h. absurd (none-some other h);
+    is_own = λ s h. let t = found_before sizes n n reply sessions s h in a.is_own t.0 t.1;
   }
     where
       from_here : (j : ℕ) (other : Op) → asked_then j ≡ Some (n, other) → (k ≡ j) ⊎ (k ≡ j → ⊥) → ⊥
@@ -197,6 +248,9 @@ module _ (partitions : Partitions) (sizes : Command → Geometry) (begun : List 
     from = λ j other h. from_here j other h (cases_eq k j);
     to = λ other h. let t = a.to other h in (t.0, others t.0 (λ e. d (some_pair_parts m n op other (sym was ∙ ap asked_at e ∙ t.1)).0) ∙ t.1);
     follow = λ commands u h. let f = a.follow commands u h in record { run = f.run; found = found_beside sizes m n reply sessions d ∙ f.found; follows = f.follows; after = f.after; next = f.next };
+    not_own = λ none. exchanges-append n notes (Answered m reply ∷ []) ∙ ap (λ b. exchanges_of n notes ++ ((if b then Replied reply ∷ [] else []) ++ [])) (ne_eqb m n d) ∙ append-nil _ ∙ a.not_own none;
+    asker = λ other h. let s = a.asker other h in (s.0, found_beside sizes m n reply sessions d ∙ s.1);
+    is_own = λ s h. let t = found_before sizes m n reply sessions s h in a.is_own t.0 t.1;
   }
     where
       from_here : (j : ℕ) (other : Op) → asked_then j ≡ Some (n, other) → (k ≡ j) ⊎ (k ≡ j → ⊥) → (lasts partitions nowhere (notes ++ Answered m reply ∷ []) n ≡ Some j) × (a.open_op ≡ Some other)
@@ -209,13 +263,13 @@ module _ (partitions : Partitions) (sizes : Command → Geometry) (begun : List 
       → asked_at k ≡ None → asked_then k ≡ Some (m, op) → ((j : ℕ) → (k ≡ j → ⊥) → asked_then j ≡ asked_at j)
       → chip_of partitions (device_of op) ≡ Some k
       → ((j : ℕ) (other : Op) → asked_at j ≡ Some (m, other) → ⊥)
-      → ((s : SessionRun) → find (λ (t : SessionRun). t.number == m) sessions ≡ Some s → next_op_of sizes s.commands s.replies ≡ Some op)
+      → (asker : SessionRun) → find (λ (t : SessionRun). t.number == m) sessions ≡ Some asker → next_op_of sizes asker.commands asker.replies ≡ Some op
       → SessionLaw partitions sizes begun n asked_then sessions (notes ++ Began m op ∷ [])
-  session_begins n m k op asked_at asked_then sessions notes a was now others at free next = by_case (cases_eq m n)
+  session_begins n m k op asked_at asked_then sessions notes a was now others at free asker found next = by_case (cases_eq m n)
     where
       by_case : (m ≡ n) ⊎ (m ≡ n → ⊥) → SessionLaw partitions sizes begun n asked_then sessions (notes ++ Began m op ∷ [])
       by_case (inl e) = subst (λ z. SessionLaw partitions sizes begun z asked_then sessions (notes ++ Began m op ∷ [])) e
-          (begin_here m k op asked_at asked_then sessions notes (subst (λ z. SessionLaw partitions sizes begun z asked_at sessions notes) (sym e) a) now others at free next)
+          (begin_here m k op asked_at asked_then sessions notes (subst (λ z. SessionLaw partitions sizes begun z asked_at sessions notes) (sym e) a) now others at free asker found next)
       by_case (inr d) = begin_beside n m k op asked_at asked_then sessions notes d a was now others
 
   -- session m is answered on chip k

@@ -1,5 +1,5 @@
 -- The start of a boot.
-use Rattle.std.proofs.Common.{◌≡◌, ℕ, zero, suc, ◌≤◌, ◌<◌, Bool, true, false, List, [], ◌∷◌, map, length, Option, Some, None, refl, ap, sym, ◌∙◌, subst, arith}
+use Rattle.std.proofs.Common.{◌≡◌, ℕ, zero, suc, ◌≤◌, ◌<◌, Bool, true, false, cond, List, [], ◌∷◌, map, length, Option, Some, None, refl, ap, sym, ◌∙◌, subst, arith}
 use Rattle.std.specs.Prelude.{slice_get, slice_index_or, option_map, find, ◌==◌, Contains}
 use Rattle.std.proofs.lemmas.Bool.{eq-eqb, eqb-true, eqb-false, ne_eqb, and_parts, leb-true, cond-true, cond-false}
 use Rattle.std.proofs.lemmas.Option.{none-some, slice_get-map}
@@ -64,6 +64,22 @@ found_at_start sizes n commands (x ∷ sessions) once has =
         cond-false _ _ _ (ne_eqb _ _ (λ h. eqb-false _ _ e (sym (number_stays sizes x.0 x.1 [] []) ∙ h)))
         ∙ ih (later has.0 has.1 has.2 e)
 
+-- a session that is there at the start is one of the boot
+own_at_start : (sizes : Command → Geometry) (n : ℕ) (sessions : List (ℕ × List Command)) (s : SessionRun)
+    → find (λ (t : SessionRun). t.number == n) (map (λ (s : ℕ × List Command). without_finished sizes s.0 s.1 [] []) sessions) ≡ Some s
+    → (commands : List Command) × Contains sessions (n, commands)
+own_at_start sizes n [] s h = absurd (none-some s h)
+own_at_start sizes n (x ∷ sessions) s h =
+    by_test (x.0 == n) refl (λ g. own_at_start sizes n sessions s g) (sym (ap (λ m. cond (m == n) (Some (without_finished sizes x.0 x.1 [] [])) rest) (number_stays sizes x.0 x.1 [] [])) ∙ h)
+  where
+    rest : Option SessionRun
+    rest = find (λ (t : SessionRun). t.number == n) (map (λ (s : ℕ × List Command). without_finished sizes s.0 s.1 [] []) sessions)
+
+    by_test : (b : Bool) → (x.0 == n) ≡ b → (rest ≡ Some s → (commands : List Command) × Contains sessions (n, commands))
+        → cond b (Some (without_finished sizes x.0 x.1 [] [])) rest ≡ Some s → (commands : List Command) × Contains (x ∷ sessions) (n, commands)
+    by_test true e later g = (x.1, (0, omega arith, ap (λ (m : ℕ). (m, x.1)) (eqb-true _ _ e)))
+    by_test false e later g = let own = later g in (own.0, (suc own.1.0, omega (arith, own.1.1), own.1.2))
+
 module _ {W : Type 0} (model : FaultModel W) (boot : Boot) (starts : List (ChipState W)) where
   chip_starts : (k : ℕ) (s : ChipState W) → ChipLaw model boot.partitions k s (chip_at_start s) [] []
   chip_starts k s = record { goes = goes_start model (next_event (attach_path s.geometry)) s; more = not_over_at_first s.geometry; quiet = refl; idle = refl; notes_are = refl }
@@ -91,6 +107,9 @@ module _ {W : Type 0} (model : FaultModel W) (boot : Boot) (starts : List (ChipS
       after = λ more. refl;
       next = λ op g. absurd (none-some op g);
     };
+    not_own = λ none. refl;
+    asker = λ op h. absurd (none-some op h);
+    is_own = λ s h. own_at_start (sizes_of boot starts) n boot.sessions s h;
   }
 
   pub start_holds : IsLive model boot starts (start_of_boot boot starts)

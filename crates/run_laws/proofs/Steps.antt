@@ -9,7 +9,7 @@ use Rattle.nand_model.specs.declared.words.Op.{Op}
 use Rattle.nand_model.specs.Chip.{ChipState, FaultModel, PageEvent}
 use Rattle.nand_model.specs.Operation.{Known, Finished, device_of}
 use Rattle.nand_model.specs.ChipRun.{ChipRun, Pending, next_chip_event, with_pending, finished_by, with_finished}
-use Rattle.run_model.specs.Course.{Boot, Course, change_at, with_flips_before, chip_of, next_op, session_run, unattached, pending_chip, is_pending_of, began, finish, with_answer, is_idle, turn_unless, event_or_answer, chip_step, begin_on, begin_at, begin_step, session_step, turn_step, attach_first, attach_step, sizes_of}
+use Rattle.run_model.specs.Course.{Boot, Course, SessionRun, change_at, with_flips_before, chip_of, next_op, session_run, unattached, pending_chip, is_pending_of, began, finish, with_answer, is_idle, turn_unless, event_or_answer, chip_step, begin_on, begin_at, begin_step, session_step, turn_step, attach_first, attach_step, sizes_of}
 use Rattle.run_model.specs.History.{notes_of_chip}
 use Rattle.run_laws.proofs.ChipNotes.{of_chips-append, lasts, AreOf, one_is_of}
 use Rattle.run_laws.proofs.Places.{none_there, position_none, change_here, change_elsewhere}
@@ -96,7 +96,7 @@ module _ {W : Type 0} (model : FaultModel W) (boot : Boot) (starts : List (ChipS
     sessions = λ n. session_begins boot.partitions (sizes_of boot starts) boot.sessions n session k op (asked_at course.chips) (asked_at (change_at course.chips k change)) course.sessions course.notes
         (live.sessions n) (ap asked_on here ∙ ap asked_by idle) (ap asked_on (change_here course.chips k change ∙ ap (option_map change) here)) (λ j d. ap asked_on (change_elsewhere course.chips k j change d)) at
         (λ j other. none_pending j other (slice_get course.chips j) refl)
-        (λ s h. ap (next_op (sizes_of boot starts)) (sym h) ∙ next);
+        asker.0 asker.1 (ap (next_op (sizes_of boot starts)) (sym asker.1) ∙ next);
     of_chips = of_chips-append boot.partitions (length starts) nowhere course.notes new live.of_chips
         (of_chip.there (length starts) (chip_is_there model boot starts (LawOf model boot starts (by_log model boot starts live.log)) course.chips course.notes k c live.chips here));
   })
@@ -115,6 +115,13 @@ module _ {W : Type 0} (model : FaultModel W) (boot : Boot) (starts : List (ChipS
 
       of_chip : AreOf boot.partitions (lasts boot.partitions nowhere course.notes) k new
       of_chip = one_is_of boot.partitions (lasts boot.partitions nowhere course.notes) k (Began session op) at
+
+      asks : (o : Option SessionRun) → next_op (sizes_of boot starts) o ≡ Some op → (s : SessionRun) × (o ≡ Some s)
+      asks None h = absurd (none-some op h)
+      asks (Some s) h = (s, refl)
+
+      asker : (s : SessionRun) × (session_run course session ≡ Some s)
+      asker = asks (session_run course session) next
 
       not_its : (f : Option Pending) (other : Op) → is_pending_of session f ≡ false → asked_by f ≡ Some (session, other) → ⊥
       not_its None other h g = none-some _ g

@@ -1,7 +1,10 @@
 -- What a turn does to a course, and which turns of a list do anything.
-use Rattle.std.specs.Prelude.{◌≡◌, ℕ, ◌+◌, true, false, if◌then◌else◌, List, [], ◌∷◌, ◌++◌, Some, None}
+use Rattle.std.specs.Prelude.{◌≡◌, ℕ, ◌+◌, true, false, if◌then◌else◌, List, [], ◌∷◌, ◌++◌, length, Some, None, Contains, ⊤}
 use Rattle.nand_model.specs.Chip.{FaultModel, ChipState}
-use Rattle.run_model.specs.Course.{Boot, Course, is_idle, sizes_of, unattached, attach_step, turn_step, turns_taken}
+use Rattle.nand_model.specs.Operation.{device_of}
+use Rattle.run_model.specs.Command.{Script, End, Ask, command_device}
+use Rattle.run_model.specs.Course.{Boot, Course, chip_of, is_idle, is_over, sizes_of, unattached, attach_step, turn_step, turns_taken}
+use Rattle.run_model.specs.History.{IsThere}
 use Rattle.nand_model.specs.declared.geometry.Geometry.{Geometry}
 use Rattle.nand_model.specs.declared.words.Command.{Command}
 use Rattle.nand_model.specs.declared.words.Note.{Note}
@@ -38,3 +41,20 @@ module _ {W : Type 0} (model : FaultModel W) (boot : Boot) (starts : List (ChipS
   pub record BusyTurnsSuffice (turns : List ℕ) (course : Course W) : Type 0 where
     pub same_course : turns_taken model boot starts (busy_turns turns course) course ≡ turns_taken model boot starts turns course
     pub all_busy : busy_turns (busy_turns turns course) course ≡ busy_turns turns course
+
+-- each operation that a script asks for, whatever the replies, is of this device
+abbrev pub AsksOnly : ℕ → Script → Type 0
+AsksOnly dev (End outcome) = ⊤
+AsksOnly dev (Ask op go_on) = (device_of op ≡ dev) × ((reply : Reply) → AsksOnly dev (go_on reply))
+
+-- each command of a boot is of a device whose chip is there
+abbrev pub HaveChips : {W : Type 0} → Boot → List (ChipState W) → Type 0
+HaveChips boot starts =
+    (session : ℕ) (commands : List Command) (command : Command) →
+    Contains boot.sessions (session, commands) → Contains commands command → IsThere (length starts) (chip_of boot.partitions (command_device command))
+
+-- where a course is not over and all chips are attached, the turn of some session of the boot is not idle
+abbrev pub SomeTurnIsBusy : {W : Type 0} → Boot → List (ChipState W) → Course W → Type 0
+SomeTurnIsBusy boot starts course =
+    is_over course ≡ false → unattached course ≡ None →
+    (session : ℕ) × (commands : List Command) × Contains boot.sessions (session, commands) × (is_idle boot.partitions (sizes_of boot starts) course session ≡ false)

@@ -7,11 +7,6 @@ use Rattle.code_model.specs.Generator.{generator_of, minimal_of, conjugates, pac
 use Rattle.code_model.specs.Poly.{locator, with_root, with_root_from}
 use Rattle.code_model.specs.Bits.{bytes_of, xor_bytes, bits_of, bytes_of_bits}
 use Rattle.code_model.specs.Word.{number_from}
-use Rattle.nand_model.specs.Sizes.{code_of}
-use Rattle.nand_model.specs.Page.{step_word, step_read, decoded}
-use Rattle.nand_model.specs.Table.{kind_in}
-use Rattle.std.specs.Prelude.{take}
-use Rattle.nand_model.specs.Table.{table_page}
 use Rattle.nand_model.specs.declared.words.Which.TheVariants.{Mirror as Mirror'}
 use Rattle.nand_model.specs.Chip.{SimFaults, sim_faults, new_chip}
 use Rattle.run_model.specs.Course.{Boot, Course, course_after}

@@ -1,12 +1,13 @@
 -- Commands: the operations that each asks for, as its replies come, and its outcome (the names and options are those of mtd-utils; the sequence of operations, the counters and the behaviour after a failure are this project's own).
-use Rattle.std.specs.Prelude.{ℕ, min, zero, suc, ◌+◌, ◌-◌, ◌*◌, ◌/◌, ◌%◌, ◌^◌, Bool, true, false, not, ◌&&◌, ◌||◌, ◌==◌, if◌then◌else◌, List, [], ◌∷◌, ◌++◌, length, map, take, drop, replicate, slice_range, bytes_eq}
+use Rattle.std.specs.Prelude.{◌≡◌, ◌≢◌, ℕ, min, zero, suc, ◌+◌, ◌-◌, ◌*◌, ◌/◌, ◌%◌, ◌^◌, ◌<◌, ◌≤◌, Bool, true, false, not, ◌&&◌, ◌||◌, ◌==◌, nat_lt, nat_le, if◌then◌else◌, ⊤, List, [], ◌∷◌, ◌++◌, length, map, take, drop, replicate, slice_range, bytes_eq}
 use Rattle.nand_model.specs.Seeds.{seed_byte}
 use Rattle.nand_model.specs.Sizes.{numbers_from, parity_start, raw_len}
 use Rattle.nand_model.specs.declared.geometry.Geometry.{Geometry}
 use Rattle.nand_model.specs.declared.words.Op.{Op}
 use Rattle.nand_model.specs.declared.words.Op.TheVariants.{Read, Write, RawRead, RawWrite, Erase, IsBad, Mark, Stats}
 use Rattle.nand_model.specs.declared.words.Reply.{Reply}
-use Rattle.nand_model.specs.declared.words.Reply.TheVariants.{Done, BadBlock, MarkerByte, ProgramFailed, EraseFailed, State, Counts, Page}
+use Rattle.nand_model.specs.declared.words.Reply.TheVariants.{Done, OutOfRange, BadBlock, MarkerByte, ProgramFailed, EraseFailed, MarkerFailed, TableFailed, Reserved, Copies, State, Counts, Page}
+use Rattle.nand_model.specs.declared.words.PageKind.TheVariants.{Raw}
 use Rattle.nand_model.specs.declared.words.BadMode.{BadMode}
 use Rattle.nand_model.specs.declared.words.BadMode.TheVariants.{PadBad, DumpBad, SkipBad}
 use Rattle.nand_model.specs.declared.words.Ending.{Ending}
@@ -366,3 +367,90 @@ cost_of g (NandTest dev blocks keep mark seed passes off len) weak =
     let count : ℕ = count_or_rest (len / block_size g) (off / block_size g) blocks in
     passes * count * (2 * g.pages_per_block + 3) + (if keep then passes * count * (2 * g.pages_per_block + 1) else 0)
 cost_of g _ weak = 1
+
+-- a range of an offset and a length lies on a device of so many bytes and consists of units of one size, where length 0 means to the end
+abbrev pub is_range : (unit size off len : ℕ) → Bool
+is_range unit size off len = off % unit == 0 && len % unit == 0 && nat_lt off size && nat_le (off + len) size
+
+abbrev pub device_size : Geometry → ℕ → ℕ
+device_size g blocks = blocks * block_size g
+
+-- the numbers of a command meet the rules of its line, on a device of so many blocks
+abbrev pub fits_device : Geometry → Command → Bool
+fits_device g (FlashErase dev blocks no_scan start count) = nat_lt start blocks && nat_le (start + count) blocks
+fits_device g (NandWrite dev blocks mark raw oob pad off bytes) =
+    off % g.page == 0 && nat_lt off (device_size g blocks) && (pad || length bytes % unit_size g oob == 0)
+fits_device g (NandDump dev blocks off len raw oob bad) = is_range g.page (device_size g blocks) off len
+fits_device g (NandTest dev blocks keep mark seed passes off len) =
+    nat_le 1 passes && is_range (block_size g) (device_size g blocks) off len
+fits_device g (MarkBad dev blocks block) = true
+fits_device g (AskBad dev blocks block) = true
+fits_device g (AskStats dev blocks) = true
+
+-- the blocks of the device that a command names
+abbrev pub command_blocks : Command → ℕ
+command_blocks (FlashErase dev blocks no_scan start count) = blocks
+command_blocks (NandWrite dev blocks mark raw oob pad off bytes) = blocks
+command_blocks (NandDump dev blocks off len raw oob bad) = blocks
+command_blocks (NandTest dev blocks keep mark seed passes off len) = blocks
+command_blocks (MarkBad dev blocks block) = blocks
+command_blocks (AskBad dev blocks block) = blocks
+command_blocks (AskStats dev blocks) = blocks
+
+-- a command fits a geometry: its numbers meet the rules of its line, and its device has from 1 to 32,768 blocks
+abbrev pub fits : Geometry → Command → Bool
+fits g command = nat_le 1 (command_blocks command) && nat_le (command_blocks command) 32768 && fits_device g command
+
+-- the answers to each kind of operation, beside out of range; a page's counts are at most 128 each, and a raw page's are 0
+abbrev pub IsDecodedPage : Reply → Type 0
+IsDecodedPage (Page kind read image) = (kind ≢ Raw) × (read.corrected ≤ 128) × (read.greatest ≤ 128) × (read.failed ≤ 128)
+IsDecodedPage _ = ⊥
+
+abbrev pub IsRawPage : Reply → Type 0
+IsRawPage (Page kind read image) = (kind ≡ Raw) × (read.corrected ≡ 0) × (read.greatest ≡ 0) × (read.failed ≡ 0)
+IsRawPage _ = ⊥
+
+abbrev pub IsWriteAnswer : Reply → Type 0
+IsWriteAnswer Done = ⊤
+IsWriteAnswer BadBlock = ⊤
+IsWriteAnswer ProgramFailed = ⊤
+IsWriteAnswer _ = ⊥
+
+abbrev pub IsRawWriteAnswer : Reply → Type 0
+IsRawWriteAnswer MarkerByte = ⊤
+IsRawWriteAnswer reply = IsWriteAnswer reply
+
+abbrev pub IsEraseAnswer : Reply → Type 0
+IsEraseAnswer Done = ⊤
+IsEraseAnswer BadBlock = ⊤
+IsEraseAnswer EraseFailed = ⊤
+IsEraseAnswer _ = ⊥
+
+abbrev pub IsStateAnswer : Reply → Type 0
+IsStateAnswer OutOfRange = ⊤
+IsStateAnswer (State n) = n < 4
+IsStateAnswer _ = ⊥
+
+abbrev pub IsMarkAnswer : Reply → Type 0
+IsMarkAnswer OutOfRange = ⊤
+IsMarkAnswer Reserved = ⊤
+IsMarkAnswer (Copies n) = n < 2
+IsMarkAnswer Done = ⊤
+IsMarkAnswer MarkerFailed = ⊤
+IsMarkAnswer (TableFailed which) = ⊤
+IsMarkAnswer _ = ⊥
+
+abbrev pub IsCounts : Reply → Type 0
+IsCounts (Counts corrected failed bad) = ⊤
+IsCounts _ = ⊥
+
+-- the reply is one that the operation may have, where a command asks for it: the pages and blocks of a command that fits are there, but for those of `markbad` and `isbad`
+abbrev pub IsAnswerOf : Op → Reply → Type 0
+IsAnswerOf (Read dev page) reply = IsDecodedPage reply
+IsAnswerOf (Write dev page body free) reply = IsWriteAnswer reply
+IsAnswerOf (RawRead dev page) reply = IsRawPage reply
+IsAnswerOf (RawWrite dev page image) reply = IsRawWriteAnswer reply
+IsAnswerOf (Erase dev block) reply = IsEraseAnswer reply
+IsAnswerOf (IsBad dev block) reply = IsStateAnswer reply
+IsAnswerOf (Mark dev block) reply = IsMarkAnswer reply
+IsAnswerOf (Stats dev) reply = IsCounts reply

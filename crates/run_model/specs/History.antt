@@ -53,7 +53,7 @@ module _ {W : Type 0} (model : FaultModel W) where
 
   -- the notes of an operation
   abbrev pub notes_of_operation : ℕ → ChipState W → OperationTrace → List Note
-  notes_of_operation k s ep = Began ep.session ep.op ∷ notes_of_trace k s ep.trace ++ answer_note ep.session ep.reply
+  notes_of_operation k s operation = Began operation.session operation.op ∷ notes_of_trace k s operation.trace ++ answer_note operation.session operation.reply
 
   -- an operation from its start: it is answered as operations are, or it has come so far along its path
   abbrev pub IsOperationTrace : Partitions → ChipState W → Known → Op → List ChipEvent → Option Reply → Type 0
@@ -65,12 +65,12 @@ module _ {W : Type 0} (model : FaultModel W) where
   -- one operation after another: each starts from what the one before it left, and only the last may lack its answer
   abbrev pub AreOperationTraces : Partitions → ℕ → ChipState W → Known → List OperationTrace → List Note → Type 0
   AreOperationTraces partitions k s known [] notes = notes ≡ []
-  AreOperationTraces partitions k s known (ep ∷ eps) notes =
-      IsOperationTrace partitions s known ep.op (events_in ep.trace) ep.reply
-      × (is_none ep.reply ≡ true → eps ≡ [])
-      × ((rest : List Note) × (notes ≡ notes_of_operation k s ep ++ rest)
-      × AreOperationTraces partitions k (after_trace model s (events_in ep.trace))
-      (known_then known (result_of (after_answers (answers_of model s (events_in ep.trace)) (operation_path s.geometry partitions known ep.op)))) eps rest)
+  AreOperationTraces partitions k s known (operation ∷ later) notes =
+      IsOperationTrace partitions s known operation.op (events_in operation.trace) operation.reply
+      × (is_none operation.reply ≡ true → later ≡ [])
+      × ((rest : List Note) × (notes ≡ notes_of_operation k s operation ++ rest)
+      × AreOperationTraces partitions k (after_trace model s (events_in operation.trace))
+      (known_then known (result_of (after_answers (answers_of model s (events_in operation.trace)) (operation_path s.geometry partitions known operation.op)))) later rest)
 
   -- each event of an attach that was done found the chip quiet
   abbrev pub was_quiet : ChipState W → List ChipEvent → Bool
@@ -85,11 +85,11 @@ module _ {W : Type 0} (model : FaultModel W) where
 
   -- what comes after the events of an attach: nothing while it is not over, else its note and the operations
   abbrev pub GoesOn : Option Attaching → Partitions → ℕ → ChipState W → List ChipEvent → List OperationTrace → List Note → Type 0
-  GoesOn None partitions k s trace eps notes = (notes ≡ []) × (eps ≡ [])
-  GoesOn (Some attaching) partitions k s trace eps notes =
+  GoesOn None partitions k s trace later notes = (notes ≡ []) × (later ≡ [])
+  GoesOn (Some attaching) partitions k s trace later notes =
       (rest : List Note)
       × (notes ≡ attach_note k (was_quiet s trace) attaching ∷ rest)
-      × AreOperationTraces partitions k (after_trace model s trace) (known_at_first attaching) eps rest
+      × AreOperationTraces partitions k (after_trace model s trace) (known_at_first attaching) later rest
 
   -- the notes of a chip are those of its attach, and then of one operation after another
   pub record IsChipHistory (partitions : Partitions) (k : ℕ) (s : ChipState W) (attach : List (ℕ × ChipEvent)) (operations : List OperationTrace) (notes : List Note) : Type 0 where
@@ -115,7 +115,7 @@ pub record ChipBoot : Type 0 where
 
 -- all of it as one trace, each event with its number
 abbrev pub numbered_of : ChipBoot → List (ℕ × ChipEvent)
-numbered_of b = b.attach ++ flat_map (λ (ep : OperationTrace). ep.trace) b.operations ++ turned_events b.flips_after
+numbered_of b = b.attach ++ flat_map (λ (operation : OperationTrace). operation.trace) b.operations ++ turned_events b.flips_after
 
 abbrev pub trace_of : ChipBoot → List ChipEvent
 trace_of b = events_in (numbered_of b)

@@ -1,11 +1,11 @@
--- Theorems about these definitions, each as a statement that a function's contract can carry. A statement counts as proved only where a contract cites it; those of this file wait for the stages that need them, but for `RepliesDependOnTheChip`.
-use Rattle.std.specs.Prelude.{◌≡◌, ◌≢◌, ℕ, ◌+◌, ◌-◌, ◌*◌, ◌^◌, ◌<◌, ◌≤◌, Bool, ◌==◌, List, [], ◌∷◌, ◌++◌, length, map, take, fold, slice_get, Option, Some, None, IsTrue, All, ⊤}
+-- Theorems about these definitions, each as a statement that a function's contract can carry. A statement counts as proved only where a contract cites it; those of this file wait for the stages that need them, but for `RepliesDependOnTheChip` and `TroublesAreFew`.
+use Rattle.std.specs.Prelude.{◌≡◌, ℕ, ◌+◌, ◌-◌, ◌*◌, ◌/◌, ◌<◌, ◌≤◌, Bool, ◌==◌, List, [], ◌∷◌, length, map, fold, slice_get, Option, Some, None, IsTrue, All, ⊤}
 use Rattle.nand_model.specs.Page.{page_image, IsWhole}
 use Rattle.nand_model.specs.Table.{copy_in, table_page, written_code, state_read}
 use Rattle.nand_model.specs.Chip.{ChipState, FaultModel}
 use Rattle.nand_model.specs.Flips.{flips_between, with_bit_turned}
 use Rattle.run_model.specs.ReadBack.{HasFewFlips, FillsPage}
-use Rattle.run_model.specs.Command.{Script, End, Ask, Next, Do, Over, script_of, after_replies, next_in, cost_of}
+use Rattle.run_model.specs.Command.{Script, End, Ask, Next, Do, Over, script_of, after_replies, next_in, block_size, cost_of}
 use Rattle.run_model.specs.Course.{Boot, course_after}
 use Rattle.run_model.specs.History.{notes_of_chip}
 use Rattle.nand_model.specs.declared.geometry.Geometry.{Geometry}
@@ -15,6 +15,7 @@ use Rattle.nand_model.specs.declared.words.Op.TheVariants.{Write, RawWrite}
 use Rattle.nand_model.specs.declared.words.Reply.{Reply}
 use Rattle.nand_model.specs.declared.words.Reply.TheVariants.{ProgramFailed, BadBlock}
 use Rattle.nand_model.specs.declared.words.Command.{Command}
+use Rattle.nand_model.specs.declared.words.Command.TheVariants.{NandWrite}
 use Rattle.nand_model.specs.declared.words.Note.{Note}
 use Rattle.nand_model.specs.declared.words.Note.TheVariants.{Began, Answered}
 use Rattle.nand_model.specs.declared.words.Part.{Part}
@@ -54,6 +55,12 @@ abbrev pub troubles : List Reply → Script → ℕ
 troubles [] script = 0
 troubles (r ∷ replies) (End outcome) = 0
 troubles (r ∷ replies) (Ask op go_on) = trouble_of op r + troubles replies (go_on r)
+
+-- Each block to which a nandwrite comes gives it at most one trouble, so that its cost with the number of its blocks is a bound for every list of replies
+abbrev pub TroublesAreFew : Geometry → Type 0
+TroublesAreFew g =
+    (dev blocks : ℕ) (mark raw oob pad : Bool) (off : ℕ) (bytes : List ℕ) (replies : List Reply) →
+    troubles replies (script_of g (NandWrite dev blocks mark raw oob pad off bytes)) ≤ blocks - off / block_size g
 
 abbrev pub IsOver : Next → Type 0
 IsOver (Over outcome) = ⊤

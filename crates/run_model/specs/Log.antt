@@ -1,10 +1,10 @@
 -- The page events of a controller in a boot as one list, and what befalls each chip by it.
-use Rattle.std.specs.Prelude.{◌≡◌, ℕ, ◌+◌, ◌<◌, Bool, true, false, ◌==◌, if◌then◌else◌, List, [], ◌∷◌, ◌++◌, length, map, filter, flat_map, slice_get, Option, Some, None, ⊤}
+use Rattle.std.specs.Prelude.{◌≡◌, ℕ, ◌+◌, ◌<◌, ◌==◌, if◌then◌else◌, List, [], ◌∷◌, ◌++◌, length, map, filter, flat_map, drop, slice_get, slice_index_or, Option, Some, None, ⊤}
 use Rattle.nand_model.specs.declared.tear.Tear.{Tear}
 use Rattle.nand_model.specs.declared.words.Flip.{Flip}
 use Rattle.nand_model.specs.Sizes.{raw_len}
 use Rattle.nand_model.specs.Chip.{ChipState, FaultModel, ChipEvent, Complete, PowerCut, Flipped, PageEvent, done_bits, after_trace}
-use Rattle.run_model.specs.Course.{Boot, tear_at}
+use Rattle.run_model.specs.Course.{Boot, Course, end_states, tear_at}
 use Rattle.run_model.specs.History.{ChipBoot, numbered_of, trace_of}
 
 -- a page event and the chip on which it was done. The n-th of a boot has number n
@@ -36,8 +36,16 @@ pub record AreOfLog {W : Type 0} (model : FaultModel W) (boot : Boot) (starts : 
   pub traces : (k : ℕ) (s : ChipState W) (b : ChipBoot) → slice_get starts k ≡ Some s → slice_get lives k ≡ Some b → numbered_of b ≡ befalls boot k (raw_len s.geometry) 1 log
   pub ends_are : (k : ℕ) (s : ChipState W) (b : ChipBoot) → slice_get starts k ≡ Some s → slice_get lives k ≡ Some b → slice_get ends k ≡ Some (after_trace model s (trace_of b))
 
--- these lives of chip k, boot after boot, are what befell it by these lists of page events
-abbrev pub AreOfLogs : ℕ → ℕ → List Boot → List Log → List ChipBoot → Type 0
-AreOfLogs k raw [] [] [] = ⊤
-AreOfLogs k raw (boot ∷ boots) (log ∷ logs) (b ∷ bs) = (numbered_of b ≡ befalls boot k raw 1 log) × AreOfLogs k raw boots logs bs
-AreOfLogs k raw _ _ _ = ⊥
+-- the first boot of each life (each life has one, where the lives are those of as many boots)
+abbrev pub first_boots : List (List ChipBoot) → List ChipBoot
+first_boots lives = map (λ (life : List ChipBoot). slice_index_or life 0 (record { attach = []; operations = []; flips_after = [] })) lives
+
+abbrev pub later_boots : List (List ChipBoot) → List (List ChipBoot)
+later_boots lives = map (λ (life : List ChipBoot). drop 1 life) lives
+
+-- these lives, one per chip, are in each boot what befell the chips by its list, from the states in which the course of the boot before left them to those in which its own leaves them
+abbrev pub AreOfLogs : {W : Type 0} → FaultModel W → List (ChipState W) → List Boot → List (Course W) → List (List ChipBoot) → List Log → Type 0
+AreOfLogs model starts [] [] lives [] = ⊤
+AreOfLogs model starts (boot ∷ boots) (course ∷ courses) lives (log ∷ logs) =
+    AreOfLog model boot starts (first_boots lives) (end_states course) log × AreOfLogs model (end_states course) boots courses (later_boots lives) logs
+AreOfLogs model starts _ _ lives _ = ⊥

@@ -1,14 +1,16 @@
 -- Runs of several boots of one controller: each boot starts from the states that the one before it left.
-use Rattle.std.specs.Prelude.{◌≡◌, ◌≢◌, ◌==◌, ℕ, Bool, true, IsTrue, false, not, count_by, ◌≤◌, ◌&&◌, List, [], ◌∷◌, ◌++◌, length, map, take, slice_get, Option, Some, None, ⊤, Contains}
+use Rattle.std.specs.Prelude.{◌≡◌, ◌≢◌, ◌==◌, ℕ, ◌+◌, ◌/◌, Bool, true, IsTrue, false, not, count_by, ◌≤◌, ◌&&◌, if◌then◌else◌, List, [], ◌∷◌, ◌++◌, length, map, take, slice_get, Option, Some, None, IsSome, ⊤, Contains}
 use Rattle.std.specs.List.{list_all, list_any, AllZip}
-use Rattle.nand_model.specs.Sizes.{first_page, raw_len}
-use Rattle.nand_model.specs.Chip.{ChipState, FaultModel}
+use Rattle.nand_model.specs.Sizes.{first_page}
+use Rattle.nand_model.specs.Chip.{ChipState, FaultModel, PageEvent, ReadEvent, ProgramEvent, EraseEvent}
 use Rattle.nand_model.specs.Table.{Copy, copy_in}
-use Rattle.nand_model.specs.Attach.{has_tables, Places, candidates, chosen, used_copy, found, table_blocks, place_of}
-use Rattle.nand_model.specs.Operation.{Partitions}
-use Rattle.nand_model.specs.ChipRun.{ChipRun}
+use Rattle.nand_model.specs.Attach.{has_tables, Places, places_of, candidates, chosen, used_copy, found, table_blocks, place_of}
+use Rattle.nand_model.specs.Operation.{Partitions, Known}
+use Rattle.nand_model.specs.Quiet.{is_quiet}
+use Rattle.nand_model.specs.ChipRun.{ChipRun, next_chip_event}
 use Rattle.run_model.specs.Course.{Boot, Course, SessionRun, IsWholeCourse, course_after, end_states, sizes_of, without_finished, is_finished, is_over}
 use Rattle.run_model.specs.History.{ChipBoot, AreOneThread, FollowsCommands, exchanges_of, session_after}
+use Rattle.run_model.specs.Laws.{read_again}
 use Rattle.run_model.specs.Log.{Log, AreOfLog, AreOfLogs}
 use Rattle.run_model.specs.Marking.{ShowsMarks}
 use Rattle.nand_model.specs.declared.geometry.Geometry.{Geometry}
@@ -47,11 +49,11 @@ quiet_at {W} k course = go (slice_get course.chips k)
 abbrev pub session_at_start : {W : Type 0} → Boot → List (ChipState W) → ℕ → List Command → SessionRun
 session_at_start boot starts session commands = without_finished (sizes_of boot starts) session commands [] []
 
--- the operations of each session of a boot are those of its commands, in order and each once, as far as the notes go
-abbrev pub AreInOrder : {W : Type 0} → Boot → List (ChipState W) → List Note → Type 0
-AreInOrder boot starts notes =
-    (session : ℕ) (commands : List Command) → Contains boot.sessions (session, commands) →
-    FollowsCommands (sizes_of boot starts) (session_at_start boot starts session commands) (exchanges_of session notes)
+-- the operations of each session of a boot are those of its commands, in order and each once, as far as the notes go, and no other session has any
+pub record AreInOrder {W : Type 0} (boot : Boot) (starts : List (ChipState W)) (notes : List Note) : Type 0 where
+  pub own : (session : ℕ) (commands : List Command) → Contains boot.sessions (session, commands)
+      → FollowsCommands (sizes_of boot starts) (session_at_start boot starts session commands) (exchanges_of session notes)
+  pub no_other : (session : ℕ) → ((commands : List Command) → Contains boot.sessions (session, commands) → ⊥) → exchanges_of session notes ≡ []
 
 -- and nothing of any session is left
 abbrev pub AreComplete : {W : Type 0} → Boot → List (ChipState W) → List Note → Type 0
@@ -79,7 +81,7 @@ pub record RunsAreFaithful {W : Type 0} (model : FaultModel W) (partitions : Par
   pub lives : List (List ChipBoot)
   pub logs : List Log
   pub counted : map (λ (c : Course W). c.events) courses ≡ map (λ (log : Log). length log) logs
-  pub of_logs : (k : ℕ) (s : ChipState W) (life : List ChipBoot) → slice_get starts k ≡ Some s → slice_get lives k ≡ Some life → AreOfLogs k (raw_len s.geometry) boots logs life
+  pub of_logs : AreOfLogs model starts boots courses lives logs
   pub one_thread : AreOneThread model partitions starts lives (map (λ (c : Course W). c.notes) courses)
   pub in_order : AllZip (λ boot notes. HaveOneNumberEach boot.sessions → AreInOrder boot starts notes) boots (map (λ (c : Course W). c.notes) courses)
   pub complete : AllZip (λ boot (course : Course W). HaveOneNumberEach boot.sessions → course.dark ≡ false → AreComplete boot starts course.notes) boots courses
@@ -93,7 +95,8 @@ abbrev pub HasTableBlocks : Geometry → List ℕ → Type 0
 HasTableBlocks g factory_bad =
     has_tables g ≡ true → count_by (λ block. list_any (λ b. b == block) factory_bad) (table_blocks g) ≤ 2
 
--- each attach note of a quiet attach shows the marks of the boots before it, where no torn event of the chip before it was foul and each earlier attach was quiet
+-- each attach note of a quiet attach shows the marks of the boots before it, where no torn event of the chip before it was foul and each earlier attach was quiet.
+-- A course's cut has a `Tear`, so this speaks of the done bits that tears have; of a chip's life the same is to be said for all done bits.
 abbrev pub MarksSurvive : {W : Type 0} → Partitions → ℕ → Geometry → List ℕ → List (Course W) → Type 0
 MarksSurvive {W} partitions k g factory_bad courses =
     HasTableBlocks g factory_bad →
@@ -102,12 +105,15 @@ MarksSurvive {W} partitions k g factory_bad courses =
     IsFairAndQuiet k (take n courses) → IsTrue (is_fair k before) →
     ShowsMarks partitions k g.blocks factory_bad (map (λ (c : Course W). c.notes) (take n courses)) states
 
+-- the first pages of the last four blocks whose marker is good, as they stand now
+abbrev pub candidates_now : {W : Type 0} → ChipState W → List (ℕ × List ℕ)
+candidates_now s = candidates s.geometry (map (λ b. (s.pages (first_page s.geometry b)).cells) (table_blocks s.geometry))
+
 -- the copy that an attach would use, if it began now
 abbrev pub copy_in_use : {W : Type 0} → ChipState W → Option (ℕ × Copy)
 copy_in_use s =
-    let g : Geometry = s.geometry in
-    let cs : List (ℕ × List ℕ) = candidates g (map (λ b. (s.pages (first_page g b)).cells) (table_blocks g)) in
-    used_copy (chosen g cs) (found g Primary cs) (found g Mirror cs)
+    let cs : List (ℕ × List ℕ) = candidates_now s in
+    used_copy (chosen s.geometry cs) (found s.geometry Primary cs) (found s.geometry Mirror cs)
 
 -- the page of a place holds a copy with this version and these states
 abbrev pub HoldsLike : {W : Type 0} → ChipState W → ℕ → Copy → Type 0
@@ -123,3 +129,52 @@ pub record KeepsACopy {W : Type 0} (s : ChipState W) (places : Places) (changing
   pub copy : Copy
   pub used : copy_in_use s ≡ Some (block, copy)
   pub holds : HoldsLike s (place_of places which) copy
+
+-- both places hold the table in memory, with reserved entries as good, under the version in memory
+pub record HoldsTheTable {W : Type 0} (s : ChipState W) (known : Known) : Type 0 where
+  pub primary : copy_in s.geometry (s.pages (first_page s.geometry known.places.primary)).cells
+      ≡ Some (record { which = Primary; version = known.version; states = read_again known.table })
+  pub mirror : copy_in s.geometry (s.pages (first_page s.geometry known.places.mirror)).cells
+      ≡ Some (record { which = Mirror; version = known.version; states = read_again known.table })
+
+-- the places of a chip's two copies: until it is attached, those that an attach would find now
+abbrev pub places_now : {W : Type 0} → ChipRun W → Places
+places_now {W} c = go c.known
+  where
+    go : Option Known → Places
+    go None = places_of c.chip.geometry (candidates_now c.chip)
+    go (Some known) = known.places
+
+-- the block that an event changes
+abbrev pub block_changed : Geometry → Option PageEvent → Option ℕ
+block_changed g None = None
+block_changed g (Some (ReadEvent page)) = None
+block_changed g (Some (ProgramEvent page image)) = Some (page / g.pages_per_block)
+block_changed g (Some (EraseEvent block)) = Some block
+
+-- the block of a chip that is being erased or programmed: the one that its next event changes, unless the controller is dark
+abbrev pub block_in_change : {W : Type 0} → Partitions → Course W → ChipRun W → Option ℕ
+block_in_change partitions course c = if course.dark then None else block_changed c.chip.geometry (next_chip_event partitions c)
+
+-- a moment at which an attach of chip k that began there would be fair and quiet: no torn event of it so far was foul, each attach of it so far was quiet, and it is quiet now
+pub record IsFairAndQuietNow {W : Type 0} (k : ℕ) (past : List (Course W)) (course : Course W) (c : ChipRun W) : Type 0 where
+  pub is_chip : slice_get course.chips k ≡ Some c
+  pub so_far : IsFairAndQuiet k (past ++ course ∷ [])
+  pub now : IsTrue (is_quiet c.chip.geometry c.chip.pages)
+
+-- (Not proved yet.) In a boot that comes after these courses of a run of new chips: once an attach would use a copy of a chip with tables, one of its two places that is not being changed holds what an attach would use, at each later moment. The first moment of a boot is the last one of the boot before it.
+abbrev pub OneCopyStays : {W : Type 0} → FaultModel W → ℕ → Geometry → List ℕ → List (Course W) → Boot → List (ChipState W) → Type 0
+OneCopyStays {W} model k g factory_bad past boot starts =
+    has_tables g ≡ true → HasTableBlocks g factory_bad →
+    (attaches more : ℕ) (turns later : List ℕ) (before now : ChipRun W) →
+    IsFairAndQuietNow k past (course_after model boot starts attaches turns) before → IsSome (copy_in_use before.chip) →
+    IsFairAndQuietNow k past (course_after model boot starts (attaches + more) (turns ++ later)) now →
+    KeepsACopy now.chip (places_now now) (block_in_change boot.partitions (course_after model boot starts (attaches + more) (turns ++ later)) now)
+
+-- (Not proved yet.) In such a boot: while a chip with tables is attached, nothing is pending on it and its whole copies are two, both places hold the table in memory.
+abbrev pub WholeCopiesHoldTheTable : {W : Type 0} → FaultModel W → ℕ → Geometry → List ℕ → List (Course W) → Boot → List (ChipState W) → Type 0
+WholeCopiesHoldTheTable {W} model k g factory_bad past boot starts =
+    has_tables g ≡ true → HasTableBlocks g factory_bad →
+    (attaches : ℕ) (turns : List ℕ) (c : ChipRun W) (known : Known) →
+    IsFairAndQuietNow k past (course_after model boot starts attaches turns) c →
+    c.known ≡ Some known → c.pending ≡ None → known.copies ≡ 2 → HoldsTheTable c.chip known

@@ -1,0 +1,140 @@
+-- Commands end after at most their cost.
+use Rattle.std.proofs.Common.{◌≡◌, ℕ, zero, suc, ◌+◌, ◌-◌, ◌*◌, ◌≤◌, Bool, true, false, List, [], ◌∷◌, ◌++◌, length, replicate, refl, sym, subst, arith}
+use Rattle.std.specs.Prelude.{if◌then◌else◌}
+use Rattle.nand_model.specs.declared.geometry.Geometry.{Geometry}
+use Rattle.nand_model.specs.declared.words.Op.{Op}
+use Rattle.nand_model.specs.declared.words.Ending.TheVariants.{Whole, NoSpace, MarkerByte as AtMarkerByte}
+use Rattle.nand_model.specs.declared.words.Outcome.{Outcome}
+use Rattle.nand_model.specs.declared.words.Outcome.TheVariants.{NandWrite as Written, IsBad as AskedBad}
+use Rattle.nand_model.specs.declared.words.Command.{Command}
+use Rattle.nand_model.specs.declared.words.Command.TheVariants.{FlashErase, NandWrite, NandDump, NandTest, MarkBad, IsBad as AskBad, Stats as AskStats}
+use Rattle.nand_model.specs.declared.words.Reply.{Reply}
+use Rattle.nand_model.specs.declared.words.Reply.TheVariants.{BadBlock, MarkerByte, ProgramFailed}
+use Rattle.run_model.specs.Command.{Script, End, Ask, next_in, after_replies, cost_of, erase_blocks, write_blocks, says_bad}
+use Rattle.run_model.specs.Laws.{IsOver, troubles, CommandsEnd}
+use Rattle.tool_steps.specs.Work.{raw_write, unwritten, later_blocks, program_unit, page_dumped}
+use Rattle.tool_steps.specs.Stage.{CanRun, device_size}
+use Rattle.tool_steps.specs.Steps.{EndsAtLast}
+use Rattle.tool_steps.proofs.Scripts.{write_pages-one, first_script, short_cost, script_of-first, cost_of-short}
+
+-- a command that is over stays over
+pub over_stays : (replies : List Reply) (outcome : Outcome) → IsOver (next_in (after_replies replies (End outcome)))
+over_stays [] outcome = tt
+over_stays (r ∷ replies) outcome = tt
+
+pub erase_ends : (dev left block erased bad failed : ℕ) (replies : List Reply) → left ≤ length replies
+    → IsOver (next_in (after_replies replies (erase_blocks dev true left block erased bad failed)))
+erase_ends dev zero block erased bad failed replies h = over_stays replies _
+erase_ends dev (suc left) block erased bad failed [] h = absurd (omega arith)
+erase_ends dev (suc left) block erased bad failed (r ∷ replies) h = erase_ends dev left (block + 1) _ bad _ replies (omega arith)
+
+-- a script is over once there are this many replies, with no more than so much trouble in them
+abbrev EndsIn : Script → ℕ → ℕ → Type 0
+EndsIn script weak count = (replies : List Reply) → troubles replies script ≤ weak → count ≤ length replies → IsOver (next_in (after_replies replies script))
+
+-- the pages of a block, where the later blocks end in time
+program_ends : (g : Geometry) (unit : List ℕ) (dev block rest skipped failed : ℕ)
+    → ((skipped failed weak : ℕ) → EndsIn (later_blocks g unit dev block rest skipped failed) weak (rest + 1 + 2 * weak))
+    → (weak : ℕ) → EndsIn (program_unit g unit dev block rest skipped failed) weak (rest + 1 + 2 * weak)
+program_ends g unit dev block rest skipped failed later weak [] trouble h = absurd (omega arith)
+program_ends g unit dev block rest skipped failed later weak (ProgramFailed ∷ []) trouble h = absurd (omega arith)
+program_ends g unit dev block rest skipped failed later weak (ProgramFailed ∷ (s ∷ replies)) trouble h =
+    later skipped (failed + 1) (weak - 1) replies (omega arith) (omega arith)
+program_ends g unit dev block rest skipped failed later weak (BadBlock ∷ replies) trouble h =
+    later (skipped + 1) failed (weak - 1) replies (omega arith) (omega arith)
+program_ends g unit dev block rest skipped failed later weak (MarkerByte ∷ replies) trouble h = over_stays replies _
+program_ends g unit dev block rest skipped failed later weak (_ ∷ replies) trouble h = over_stays replies _
+
+scanned_ends : (g : Geometry) (unit : List ℕ) (dev block rest skipped failed : ℕ)
+    → ((skipped failed weak : ℕ) → EndsIn (later_blocks g unit dev block rest skipped failed) weak (rest + 1 + 2 * weak))
+    → (bad : Bool) (weak : ℕ)
+    → EndsIn (if bad then later_blocks g unit dev block rest (skipped + 1) failed else program_unit g unit dev block rest skipped failed) weak (rest + 1 + 2 * weak)
+scanned_ends g unit dev block rest skipped failed later true weak = later (skipped + 1) failed weak
+scanned_ends g unit dev block rest skipped failed later false weak = program_ends g unit dev block rest skipped failed later weak
+
+-- nandwrite of one unit: a question for each block, and a program and an erase for each trouble
+pub write_ends : (g : Geometry) (unit : List ℕ) (dev left block skipped failed weak : ℕ)
+    → EndsIn (write_blocks g (raw_write dev) left block 0 (unit ∷ []) (unwritten skipped failed)) weak (left + 1 + 2 * weak)
+write_ends g unit dev zero block skipped failed weak replies trouble h = over_stays replies _
+write_ends g unit dev (suc left) block skipped failed weak [] trouble h = absurd (omega arith)
+write_ends g unit dev (suc left) block skipped failed weak (r ∷ replies) trouble h =
+    let Ends : Script → Type 0 = λ s. troubles replies (if says_bad r then later_blocks g unit dev block left (skipped + 1) failed else s) ≤ weak
+    → IsOver (next_in (after_replies replies (if says_bad r then later_blocks g unit dev block left (skipped + 1) failed else s))) in
+    subst Ends (sym (write_pages-one g unit dev block left skipped failed))
+    (λ t. scanned_ends g unit dev block left skipped failed (λ s f w. write_ends g unit dev left (block + 1) s f w) (says_bad r) weak replies t (omega arith))
+    (omega arith)
+
+-- a command of one operation
+ask_ends : (op : Op) (outcome : Reply → Outcome) (replies : List Reply) → 1 ≤ length replies → IsOver (next_in (after_replies replies (Ask op (λ r. End (outcome r)))))
+ask_ends op outcome [] h = absurd (omega arith)
+ask_ends op outcome (r ∷ replies) h = over_stays replies (outcome r)
+
+-- a first script ends in time
+first_ends : (g : Geometry) (command : Command) (weak : ℕ) → CanRun g command → EndsIn (first_script g command) weak (short_cost g command weak)
+first_ends g (FlashErase dev blocks no_scan start count) weak h replies trouble few = erase_ends dev (suc (blocks - 1)) 0 0 0 0 replies (omega (arith, h.size.0))
+first_ends g (NandWrite dev blocks mark raw oob pad off bytes) weak h replies trouble few =
+    write_ends g (bytes ++ replicate (g.page - length bytes) 0xff) dev (suc (blocks - 1)) 0 0 0 weak replies trouble (omega (arith, h.size.0))
+first_ends g (NandDump dev blocks off len raw oob bad) weak h replies trouble few = ask_ends _ (page_dumped g dev) replies (omega arith)
+first_ends g (NandTest dev blocks keep mark seed passes off len) weak h replies trouble few = absurd h
+first_ends g (MarkBad dev blocks block) weak h replies trouble few = absurd h
+first_ends g (AskBad dev blocks block) weak h replies trouble few = ask_ends _ AskedBad replies few
+first_ends g (AskStats dev blocks) weak h replies trouble few = absurd h
+
+-- a command that can be run ends after at most its cost
+pub command_ends : (g : Geometry) (command : Command) → CanRun g command → CommandsEnd g command
+command_ends g command h weak replies =
+    let Ends : Script → Type 0 = λ s. troubles replies s ≤ weak → cost_of g command weak ≤ length replies → IsOver (next_in (after_replies replies s)) in
+    subst Ends (sym (script_of-first g command h))
+    (λ trouble few. first_ends g command weak h replies trouble (rw (← cost_of-short g command weak h) few))
+
+-- a command that is over makes no trouble
+over_troubles : (replies : List Reply) (outcome : Outcome) → troubles replies (End outcome) ≡ 0
+over_troubles [] outcome = refl
+over_troubles (r ∷ replies) outcome = refl
+
+-- at most one page of a block is in trouble
+program_troubles : (g : Geometry) (unit : List ℕ) (dev block rest skipped failed : ℕ)
+    → ((skipped failed : ℕ) (replies : List Reply) → troubles replies (later_blocks g unit dev block rest skipped failed) ≤ rest)
+    → (replies : List Reply) → troubles replies (program_unit g unit dev block rest skipped failed) ≤ rest + 1
+program_troubles g unit dev block rest skipped failed later [] = omega arith
+program_troubles g unit dev block rest skipped failed later (ProgramFailed ∷ []) = omega arith
+program_troubles g unit dev block rest skipped failed later (ProgramFailed ∷ (s ∷ replies)) = omega (arith, later skipped (failed + 1) replies)
+program_troubles g unit dev block rest skipped failed later (BadBlock ∷ replies) = omega (arith, later (skipped + 1) failed replies)
+program_troubles g unit dev block rest skipped failed later (MarkerByte ∷ replies) = rw (over_troubles replies (Written 0 skipped failed AtMarkerByte)) (omega arith)
+program_troubles g unit dev block rest skipped failed later (_ ∷ replies) = rw (over_troubles replies (Written 1 skipped failed Whole)) (omega arith)
+
+scanned_troubles : (g : Geometry) (unit : List ℕ) (dev block rest skipped failed : ℕ)
+    → ((skipped failed : ℕ) (replies : List Reply) → troubles replies (later_blocks g unit dev block rest skipped failed) ≤ rest)
+    → (bad : Bool) (replies : List Reply)
+    → troubles replies (if bad then later_blocks g unit dev block rest (skipped + 1) failed else program_unit g unit dev block rest skipped failed) ≤ rest + 1
+scanned_troubles g unit dev block rest skipped failed later true replies = omega (arith, later (skipped + 1) failed replies)
+scanned_troubles g unit dev block rest skipped failed later false replies = program_troubles g unit dev block rest skipped failed later replies
+
+write_troubles : (g : Geometry) (unit : List ℕ) (dev left block skipped failed : ℕ) (replies : List Reply)
+    → troubles replies (write_blocks g (raw_write dev) left block 0 (unit ∷ []) (unwritten skipped failed)) ≤ left
+write_troubles g unit dev zero block skipped failed replies = rw (over_troubles replies (Written 0 skipped failed NoSpace)) (omega arith)
+write_troubles g unit dev (suc left) block skipped failed [] = omega arith
+write_troubles g unit dev (suc left) block skipped failed (r ∷ replies) =
+    let Few : Script → Type 0 = λ s. 0 + troubles replies (if says_bad r then later_blocks g unit dev block left (skipped + 1) failed else s) ≤ suc left in
+    let few : troubles replies (if says_bad r then later_blocks g unit dev block left (skipped + 1) failed else program_unit g unit dev block left skipped failed) ≤ left + 1
+    = scanned_troubles g unit dev block left skipped failed (λ s f. write_troubles g unit dev left (block + 1) s f) (says_bad r) replies in
+    subst Few (sym (write_pages-one g unit dev block left skipped failed)) (omega (arith, few))
+
+first_ends_at_last : (g : Geometry) (command : Command) → CanRun g command → (replies : List Reply)
+    → short_cost g command (device_size command) ≤ length replies → IsOver (next_in (after_replies replies (first_script g command)))
+first_ends_at_last g (NandWrite dev blocks mark raw oob pad off bytes) h replies few =
+    let unit : List ℕ = bytes ++ replicate (g.page - length bytes) 0xff in
+    let trouble = write_troubles g unit dev (suc (blocks - 1)) 0 0 0 replies in
+    write_ends g unit dev (suc (blocks - 1)) 0 0 0 (suc (blocks - 1)) replies trouble (omega (arith, h.size.0))
+first_ends_at_last g (FlashErase dev blocks no_scan start count) h replies few = erase_ends dev (suc (blocks - 1)) 0 0 0 0 replies (omega (arith, h.size.0))
+first_ends_at_last g (NandDump dev blocks off len raw oob bad) h replies few = ask_ends _ (page_dumped g dev) replies (omega arith)
+first_ends_at_last g (NandTest dev blocks keep mark seed passes off len) h replies few = absurd h
+first_ends_at_last g (MarkBad dev blocks block) h replies few = absurd h
+first_ends_at_last g (AskBad dev blocks block) h replies few = ask_ends _ AskedBad replies few
+first_ends_at_last g (AskStats dev blocks) h replies few = absurd h
+
+-- a command that can be run ends whatever the replies are
+pub command_ends_at_last : (g : Geometry) (command : Command) → CanRun g command → EndsAtLast g command (device_size command)
+command_ends_at_last g command h replies few =
+    let Ends : Script → Type 0 = λ s. IsOver (next_in (after_replies replies s)) in
+    subst Ends (sym (script_of-first g command h)) (first_ends_at_last g command h replies (rw (← cost_of-short g command (device_size command) h) few))

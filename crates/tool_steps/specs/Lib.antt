@@ -1,0 +1,4 @@
+pub mod Stage
+pub mod Steps
+pub mod Work
+pub mod Boot

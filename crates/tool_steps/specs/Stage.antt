@@ -1,0 +1,60 @@
+-- Which commands can be run: `nandwrite -n -p` of one unit, `nanddump -n --bb=dumpbad` of one page, `flash_erase -N` of a whole device, and `isbad`.
+use Rattle.std.specs.Prelude.{◌≡◌, ℕ, ◌*◌, ◌%◌, ◌<◌, ◌≤◌, Bool, true, false, List, length}
+use Rattle.nand_model.specs.declared.geometry.Geometry.{Geometry}
+use Rattle.nand_model.specs.declared.words.BadMode.{BadMode}
+use Rattle.nand_model.specs.declared.words.BadMode.TheVariants.{DumpBad}
+use Rattle.nand_model.specs.declared.words.Command.{Command}
+use Rattle.nand_model.specs.declared.words.Command.TheVariants.{FlashErase, NandWrite, NandDump, NandTest, MarkBad, IsBad, Stats}
+use Rattle.run_model.specs.Command.{block_size}
+
+-- the blocks that a device may have
+abbrev pub IsDeviceSize : ℕ → Type 0
+IsDeviceSize blocks = (1 ≤ blocks) × (blocks ≤ 32768)
+
+-- flash_erase -N of all blocks
+pub record ErasesAll (blocks : ℕ) (no_scan : Bool) (start count : ℕ) : Type 0 where
+  pub size : IsDeviceSize blocks
+  pub unscanned : no_scan ≡ true
+  pub from_first : start ≡ 0
+  pub to_end : count ≡ 0
+
+-- nandwrite -n -p of at least one byte and at most one page, from the first page on
+pub record WritesOneUnit (g : Geometry) (blocks : ℕ) (mark raw oob pad : Bool) (off : ℕ) (bytes : List ℕ) : Type 0 where
+  pub size : IsDeviceSize blocks
+  pub unmarked : mark ≡ false
+  pub is_raw : raw ≡ true
+  pub body_only : oob ≡ false
+  pub padded : pad ≡ true
+  pub from_first : off ≡ 0
+  pub some : 1 ≤ length bytes
+  pub one : length bytes ≤ g.page
+
+-- nanddump -n --bb=dumpbad of one page of the device
+pub record DumpsOnePage (g : Geometry) (blocks off len : ℕ) (raw oob : Bool) (bad : BadMode) : Type 0 where
+  pub size : IsDeviceSize blocks
+  pub whole : off % g.page ≡ 0
+  pub in_device : off < blocks * block_size g
+  pub one : len ≡ g.page
+  pub is_raw : raw ≡ true
+  pub body_only : oob ≡ false
+  pub all_blocks : bad ≡ DumpBad
+
+-- a command that can be run on a device of a chip with these sizes
+abbrev pub CanRun : Geometry → Command → Type 0
+CanRun g (FlashErase dev blocks no_scan start count) = ErasesAll blocks no_scan start count
+CanRun g (NandWrite dev blocks mark raw oob pad off bytes) = WritesOneUnit g blocks mark raw oob pad off bytes
+CanRun g (NandDump dev blocks off len raw oob bad) = DumpsOnePage g blocks off len raw oob bad
+CanRun g (NandTest dev blocks keep mark seed passes off len) = ⊥
+CanRun g (MarkBad dev blocks block) = ⊥
+CanRun g (IsBad dev blocks block) = IsDeviceSize blocks
+CanRun g (Stats dev blocks) = ⊥
+
+-- the blocks of the device that a command names
+abbrev pub device_size : Command → ℕ
+device_size (FlashErase dev blocks no_scan start count) = blocks
+device_size (NandWrite dev blocks mark raw oob pad off bytes) = blocks
+device_size (NandDump dev blocks off len raw oob bad) = blocks
+device_size (NandTest dev blocks keep mark seed passes off len) = blocks
+device_size (MarkBad dev blocks block) = blocks
+device_size (IsBad dev blocks block) = blocks
+device_size (Stats dev blocks) = blocks

@@ -1,0 +1,41 @@
+-- What a tool answers, from the script that it follows and the last reply.
+use Rattle.std.specs.Prelude.{◌≡◌, ℕ, Bool, true, false, nat_lt, ◌≤◌, List, [], ◌∷◌, length, Option, Some, None}
+use Rattle.nand_model.specs.declared.geometry.Geometry.{Geometry}
+use Rattle.nand_model.specs.declared.words.Reply.{Reply}
+use Rattle.nand_model.specs.declared.words.Command.{Command}
+use Rattle.nand_model.specs.declared.words.Command.TheVariants.{NandWrite}
+use Rattle.run_model.specs.Command.{Script, Next, Do, Over, next_in, after_replies, script_of, cost_of}
+use Rattle.run_model.specs.Laws.{IsOver}
+use Rattle.tool_steps.specs.declared.step.Step.{Step}
+use Rattle.tool_steps.specs.declared.step.Step.TheVariants.{Do as Perform, Done as Finished}
+
+-- the replies that a call hands over
+abbrev pub handed : Option Reply → List Reply
+handed None = []
+handed (Some reply) = reply ∷ []
+
+-- the script that is left after the last reply, if there is one
+abbrev pub after_last : Option Reply → Script → Script
+after_last last script = after_replies (handed last) script
+
+-- the step that stands for what follows
+abbrev pub step_of : Next → Step
+step_of (Do op) = Perform op
+step_of (Over outcome) = Finished
+
+abbrev pub is_over : Next → Bool
+is_over (Do op) = false
+is_over (Over outcome) = true
+
+-- a tool has had these replies to a command's operations
+abbrev pub HasHad : Geometry → Command → List Reply → Script → Type 0
+HasHad g command replies script = script ≡ after_replies replies (script_of g command)
+
+-- whether a command asks for an operation at all
+abbrev pub asks_something : Command → Bool
+asks_something (NandWrite dev blocks mark raw oob pad off bytes) = nat_lt 0 (length bytes)
+asks_something _ = true
+
+-- with the device's size as the allowance for failing pages, the cost bounds the operations whatever the replies are
+abbrev pub EndsAtLast : Geometry → Command → ℕ → Type 0
+EndsAtLast g command blocks = (replies : List Reply) → cost_of g command blocks ≤ length replies → IsOver (next_in (after_replies replies (script_of g command)))

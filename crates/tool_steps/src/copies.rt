@@ -1,0 +1,90 @@
+// Bytes that a command copies: units, images, dumps and replies.
+ghost use Rattle.std.specs.Prelude.{◌≡◌, ◌≤◌, ◌-◌, ◌++◌, length, take, replicate, ℕ, IfOk};
+ghost use Rattle.tool_steps.specs.Work.{page_dumped};
+
+use nand_model::{Bytes, Geometry, Outcome, Reply};
+use std::alloc::{AllocError, Global};
+
+// These bytes, and then 0xFF up to so many.
+pub fn padded(alloc: Global, bytes: &[u8], len: u32) -> Result<Bytes, AllocError>
+    requires { length bytes.now ≤ len }
+    ensures { IfOk result (λ b. b ≡ bytes.now ++ replicate (len - length bytes.now) 0xff) }
+{
+    with_erased(alloc, bytes, len as usize - bytes.len())
+}
+
+// These bytes, and then so many 0xFF.
+pub fn with_erased(alloc: Global, bytes: &[u8], more: usize) -> Result<Bytes, AllocError>
+    ensures { IfOk result (λ b. b ≡ bytes.now ++ replicate more 0xff) }
+{
+    let mut all = Bytes::from_slice(alloc, bytes)?;
+    let erased = Bytes::filled(alloc, 0xff, more)?;
+    all.push_slice(erased.as_slice())?;
+    Ok(all)
+}
+
+// The body of a page image, or all of a shorter one.
+fn body_of(image: &[u8], page: u32) -> &[u8]
+    ensures { result.now ≡ take page image.now }
+{
+    let len = image.len().min(page as usize);
+    &image[..len]
+}
+
+// The outcome of a dump of one page, from the reply to its read.
+pub fn dump_of(alloc: Global, g: &Geometry, reply: &Reply) -> Result<Outcome, AllocError>
+    ensures { IfOk result (λ outcome. (dev : ℕ) → outcome ≡ page_dumped g.now dev reply.now) }
+{
+    match reply {
+        Reply::Page { read, image, .. } => {
+            let dump = Bytes::from_slice(alloc, body_of(image.as_slice(), g.page))?;
+            Ok(Outcome::NandDump {
+                pages: 1,
+                bad: 0,
+                corrected: u64::from(read.corrected),
+                failed: u64::from(read.failed),
+                dump,
+            })
+        }
+        _ => Ok(Outcome::NandDump {
+            pages: 0,
+            bad: 0,
+            corrected: 0,
+            failed: 0,
+            dump: Bytes::filled(alloc, 0xff, 0)?,
+        }),
+    }
+}
+
+// A copy of a reply.
+pub fn copy_of(alloc: Global, reply: &Reply) -> Result<Reply, AllocError>
+    ensures { IfOk result (λ copy. copy ≡ reply.now) }
+{
+    Ok(match reply {
+        Reply::Done => Reply::Done,
+        Reply::OutOfRange => Reply::OutOfRange,
+        Reply::BadBlock => Reply::BadBlock,
+        Reply::MarkerByte => Reply::MarkerByte,
+        Reply::ProgramFailed => Reply::ProgramFailed,
+        Reply::EraseFailed => Reply::EraseFailed,
+        Reply::MarkerFailed => Reply::MarkerFailed,
+        Reply::TableFailed(which) => Reply::TableFailed(*which),
+        Reply::Reserved => Reply::Reserved,
+        Reply::Copies(copies) => Reply::Copies(*copies),
+        Reply::State(state) => Reply::State(*state),
+        Reply::Counts {
+            corrected,
+            failed,
+            bad,
+        } => Reply::Counts {
+            corrected: *corrected,
+            failed: *failed,
+            bad: *bad,
+        },
+        Reply::Page { kind, read, image } => Reply::Page {
+            kind: *kind,
+            read: *read,
+            image: Bytes::from_slice(alloc, image.as_slice())?,
+        },
+    })
+}

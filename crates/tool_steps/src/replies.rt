@@ -1,0 +1,22 @@
+// What replies mean to a command.
+ghost use Rattle.std.specs.Prelude.{◌≡◌};
+ghost use Rattle.run_model.specs.Command.{is_done, says_bad};
+
+use nand_model::Reply;
+
+// The operation was done.
+pub fn was_done(reply: &Reply) -> bool
+    ensures { result ≡ is_done reply.now }
+{
+    matches!(reply, Reply::Done)
+}
+
+// The block was said to be bad.
+pub fn tells_bad(reply: &Reply) -> bool
+    ensures { result ≡ says_bad reply.now }
+{
+    match reply {
+        Reply::State(state) => *state != 0,
+        _ => false,
+    }
+}

@@ -1,0 +1,262 @@
+// A command that is resumed at each reply.
+ghost use Rattle.std.specs.Prelude.{◌≡◌, ◌++◌, ℕ, List, true, option_copied, IfOk, OnOk, OnErr};
+ghost use Rattle.nand_model.specs.declared.geometry.Geometry.{Geometry as Sizes};
+ghost use Rattle.nand_model.specs.declared.words.Command.{Command as Ordered};
+ghost use Rattle.nand_model.specs.declared.words.Reply.{Reply as Replied};
+ghost use Rattle.run_model.specs.Command.{Over, next_in, script_of};
+ghost use Rattle.tool_steps.specs.Stage.{CanRun};
+ghost use Rattle.tool_steps.specs.Steps.{handed, after_last, step_of, is_over, HasHad};
+ghost use Rattle.tool_steps.specs.Work.{script_left, unit_bytes};
+
+use crate::Step;
+use crate::copies::padded;
+use crate::erasing::Erasing;
+use crate::work::{State, Work};
+use crate::writing::Writing;
+use nand_model::{Bytes, Command, Geometry, Outcome, Reply};
+use std::alloc::{AllocError, Global};
+
+/// A command that is resumed at each reply. What is left of it is a script: the end with the outcome, or an operation and what follows each reply to it.
+#[derive(Drop)]
+pub struct Tool {
+    alloc: Global,
+    geometry: Geometry,
+    unit: Bytes,
+    state: State,
+}
+
+impl Tool {
+    ghost use Rattle.tool_steps.specs.Work.{left_of};
+
+    /// The command at its start, on a device of a chip with these sizes.
+    pub fn start(alloc: Global, command: &Command, g: &Geometry) -> Result<Tool, AllocError>
+        requires { CanRun g.now command.now }
+        ensures { IfOk result (λ tool. left_of tool ≡ script_of g.now command.now) }
+    {
+        let state = first_state(command, g);
+        let unit = unit_of(alloc, command, g)?;
+        Ok(Tool {
+            alloc,
+            geometry: *g,
+            unit,
+            state,
+        })
+    }
+
+    /// The next step: None is handed over at first, and afterwards the reply to the operation that was given last.
+    /// Where memory runs out, the tool is as before.
+    pub fn next(&mut self, last: Option<&Reply>) -> Result<Step, AllocError>
+        ensures step { IfOk result (λ step. step ≡ step_of (next_in (after_last (option_copied last.entry) (left_of self.old)))) }
+        ensures goes_on { OnOk result (left_of self.new ≡ after_last (option_copied last.entry) (left_of self.old)) }
+        ensures replies { (g : Sizes) (command : Ordered) (replies : List Replied) → HasHad g command replies (left_of self.old) →
+            OnOk result (HasHad g command (replies ++ handed (option_copied last.entry)) (left_of self.new)) }
+        ensures no_memory { OnErr result (self.new ≡ self.old) }
+    {
+        self.resume(last)
+    }
+
+    // The next step, said of the script that is left.
+    fn resume(&mut self, last: Option<&Reply>) -> Result<Step, AllocError>
+        ensures step { IfOk result (λ step. step ≡ step_of (next_in (after_last (option_copied last.entry) (left_of self.old)))) }
+        ensures goes_on { OnOk result (left_of self.new ≡ after_last (option_copied last.entry) (left_of self.old)) }
+        ensures no_memory { OnErr result (self.new ≡ self.old) }
+    {
+        if let State::At(work) = &self.state {
+            if let Some(reply) = last {
+                let later = work.after(self.alloc, &self.geometry, reply)?;
+                let step = step_at(self.alloc, &self.geometry, self.unit.as_slice(), &later)?;
+                self.state = later;
+                return Ok(step);
+            }
+        }
+        step_at(
+            self.alloc,
+            &self.geometry,
+            self.unit.as_slice(),
+            &self.state,
+        )
+    }
+
+    /// Whether `next` with this argument answers `Done`. It takes no memory.
+    pub fn ends(&self, last: Option<&Reply>) -> bool
+        ensures { result ≡ is_over (next_in (after_last (option_copied last.entry) (left_of self.now))) }
+    {
+        match (&self.state, last) {
+            (State::Over(_), _) => true,
+            (State::At(_), None) => false,
+            (State::At(work), Some(reply)) => work.ends_at(reply),
+        }
+    }
+
+    /// Lends the outcome of a command that is over.
+    pub fn outcome(&self) -> &Outcome
+        requires { is_over (next_in (left_of self.now)) ≡ true }
+        ensures { next_in (left_of self.now) ≡ Over result.now }
+    {
+        match &self.state {
+            State::Over(outcome) => outcome,
+            State::At(_) => unreachable!(),
+        }
+    }
+
+    /// Hands the outcome of a command that is over out.
+    pub fn finish(self) -> Outcome
+        requires { is_over (next_in (left_of self)) ≡ true }
+        ensures { next_in (left_of self) ≡ Over result }
+    {
+        let Tool { state, .. } = self;
+        match state {
+            State::Over(outcome) => outcome,
+            State::At(_) => unreachable!(),
+        }
+    }
+}
+
+// The step of a command that stands here.
+fn step_at(alloc: Global, g: &Geometry, unit: &[u8], state: &State) -> Result<Step, AllocError>
+    ensures { IfOk result (λ step. step ≡ step_of (next_in (script_left g.now unit.now state.now))) }
+{
+    match state {
+        State::At(work) => Ok(Step::Do(work.op(alloc, g, unit)?)),
+        State::Over(_) => Ok(Step::Done),
+    }
+}
+
+// Where a command begins.
+fn first_state(command: &Command, g: &Geometry) -> State
+    requires { CanRun g.now command.now }
+    ensures { script_left g.now (unit_bytes g.now command.now) result ≡ script_of g.now command.now }
+{
+    match command {
+        Command::FlashErase { dev, blocks, .. } => State::At(Work::Erasing(Erasing {
+            dev: *dev,
+            block: 0,
+            rest: *blocks - 1,
+            erased: 0,
+            failed: 0,
+        })),
+        Command::NandWrite { dev, blocks, .. } => State::At(Work::Scanning(Writing {
+            dev: *dev,
+            block: 0,
+            rest: *blocks - 1,
+            skipped: 0,
+            failed: 0,
+        })),
+        Command::NandDump { dev, off, .. } => {
+            let page = (*off / u64::from(g.page)) as u32;
+            State::At(Work::Dumping { dev: *dev, page })
+        }
+        Command::IsBad { dev, block, .. } => State::At(Work::Asking {
+            dev: *dev,
+            block: *block,
+        }),
+        Command::NandTest { .. } => unreachable!(),
+        Command::MarkBad { .. } => unreachable!(),
+        Command::Stats { .. } => unreachable!(),
+    }
+}
+
+// The unit of a nandwrite, filled up with 0xFF; no bytes for other commands.
+fn unit_of(alloc: Global, command: &Command, g: &Geometry) -> Result<Bytes, AllocError>
+    requires { CanRun g.now command.now }
+    ensures { IfOk result (λ unit. unit ≡ unit_bytes g.now command.now) }
+{
+    match command {
+        Command::NandWrite { bytes, .. } => padded(alloc, bytes.as_slice(), g.page),
+        _ => Bytes::filled(alloc, 0xff, 0),
+    }
+}
+
+#[cfg(test)]
+mod tests {
+    use super::*;
+    use nand_model::{Ending, Op, PageKind, PageRead};
+    use std::test::Fail;
+
+    #[test]
+    fn writes_a_unit_to_the_second_block(rt: HostRuntime) -> Result<(), Fail> {
+        let alloc = rt.alloc();
+        let g = Geometry::new(2048, 64, 64, 8, 4, 0, 0).ok().ok_or("sizes")?;
+        let command = Command::NandWrite {
+            dev: 2,
+            blocks: 2,
+            mark: false,
+            raw: true,
+            oob: false,
+            pad: true,
+            off: 0,
+            bytes: Bytes::filled(alloc, 0x66, 1)?,
+        };
+        let mut tool = Tool::start(alloc, &command, &g)?;
+        assert!(rt; matches!(tool.next(None)?, Step::Do(Op::IsBad { dev: 2, block: 0 })));
+        assert!(rt;
+            matches!(
+                tool.next(Some(&Reply::State(1)))?,
+                Step::Do(Op::IsBad { dev: 2, block: 1 })
+            )
+        );
+        let step = tool.next(Some(&Reply::State(0)))?;
+        assert!(rt;
+            matches!(
+                &step,
+                Step::Do(Op::RawWrite {
+                    dev: 2,
+                    page: 64,
+                    ..
+                })
+            )
+        );
+        if let Step::Do(Op::RawWrite { image, .. }) = &step {
+            assert_eq!(rt; image.as_slice().len(), 2112);
+        }
+        assert!(rt; tool.ends(Some(&Reply::Done)));
+        assert!(rt; matches!(tool.next(Some(&Reply::Done))?, Step::Done));
+        assert!(rt; tool.ends(None));
+        let outcome = tool.finish();
+        assert!(rt;
+            matches!(
+                outcome,
+                Outcome::NandWrite {
+                    pages: 1,
+                    skipped: 1,
+                    failed: 0,
+                    ending: Ending::Whole
+                }
+            )
+        );
+        Ok(())
+    }
+
+    #[test]
+    fn dumps_a_page(rt: HostRuntime) -> Result<(), Fail> {
+        let alloc = rt.alloc();
+        let g = Geometry::new(2048, 64, 64, 8, 4, 0, 0).ok().ok_or("sizes")?;
+        let command = Command::NandDump {
+            dev: 0,
+            blocks: 1,
+            off: 0,
+            len: 2048,
+            raw: true,
+            oob: false,
+            bad: nand_model::BadMode::DumpBad,
+        };
+        let mut tool = Tool::start(alloc, &command, &g)?;
+        assert!(rt; matches!(tool.next(None)?, Step::Do(Op::RawRead { dev: 0, page: 0 })));
+        let reply = Reply::Page {
+            kind: PageKind::Raw,
+            read: PageRead {
+                corrected: 0,
+                greatest: 0,
+                failed: 0,
+            },
+            image: Bytes::filled(alloc, 0xff, 2112)?,
+        };
+        assert!(rt; matches!(tool.next(Some(&reply))?, Step::Done));
+        assert!(rt; tool.ends(None));
+        if let Outcome::NandDump { pages, dump, .. } = tool.outcome() {
+            assert_eq!(rt; *pages, 1);
+            assert_eq!(rt; dump.as_slice().len(), 2048);
+        }
+        Ok(())
+    }
+}
