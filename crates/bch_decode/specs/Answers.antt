@@ -1,0 +1,14 @@
+-- Words of steps, and what the decoder's answers say of them.
+use Rattle.std.specs.Prelude.{ℕ, ◌*◌, List, ◌++◌, take, Option, Some, None}
+use Rattle.code_model.specs.Bits.{bits_of}
+use Rattle.bch_decode.specs.declared.decoder.Decoded.{Decoded}
+use Rattle.bch_decode.specs.declared.decoder.Decoded.TheVariants.{Corrected, Failed}
+
+-- the word of a step of 512 bytes and its parity: all bits of the step and then 13 t bits of parity
+abbrev pub step_word : ℕ → List ℕ → List ℕ → List ℕ
+step_word t step parity = bits_of step ++ take (13 * t) (bits_of parity)
+
+-- an answer beside the word that the decoder left: the nearest code word and its distance, or nothing
+abbrev pub answer_of : Decoded → List ℕ → Option (List ℕ × ℕ)
+answer_of (Corrected n) c = Some (c, n)
+answer_of Failed c = None
