@@ -40,9 +40,13 @@ pub holds_written : (words : List (List ℕ)) (bytes : List ℕ) (status result 
     → Writes words bytes status text
     → ((result ≡ status) × (new ≡ append_known old text)) ⊎ ((result ≡ WriteFault) × Risen × TookPrefix old new text)
     → (before : List ℕ) → old ≡ Some before → (after : List ℕ) × (new ≡ Some after) × Holds words bytes result before after
-holds_written words bytes status result old new text Risen writes (inl (same, grown)) before was =
-    (before ++ text, grown ∙ ap (λ known. append_known known text) was,
-    subst (λ s. Holds words bytes s before (before ++ text)) (sym same) (holds_whole words bytes status text before writes))
-holds_written words bytes status result old new text Risen writes (inr (failed, risen, (n, within, grown))) before was =
-    (before ++ take n text, grown ∙ ap (λ known. append_known known (take n text)) was,
-    subst (λ s. Holds words bytes s before (before ++ take n text)) (sym failed) (status, text, n, writes, refl))
+holds_written words bytes status result old new text Risen writes (inl (same, grown)) before was = (
+  before ++ text,
+  grown ∙ ap (λ known. append_known known text) was,
+  subst (λ s. Holds words bytes s before (before ++ text)) (sym same) (holds_whole words bytes status text before writes),
+)
+holds_written words bytes status result old new text Risen writes (inr (failed, risen, (n, within, grown))) before was = (
+  before ++ take n text,
+  grown ∙ ap (λ known. append_known known (take n text)) was,
+  subst (λ s. Holds words bytes s before (before ++ take n text)) (sym failed) (status, text, n, writes, refl),
+)

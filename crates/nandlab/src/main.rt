@@ -12,11 +12,9 @@ mod tests;
 mod top;
 
 use lab_outside::{StdSink, StdSource};
-use std::env;
-use std::io;
-use std::process::ExitCode;
-
 pub use status::{Status, code};
+use std::process::ExitCode;
+use std::{env, io};
 pub use top::serial_top;
 
 fn main(rt: HostRuntime) -> io::Result<ExitCode> {

@@ -8,8 +8,7 @@ use hex::FromHexError;
 use nand_model::Bytes;
 use std::alloc::{AllocError, Global};
 
-const TEXT_BEFORE: &[u8] =
-    b"nandlab 1\ncontroller\nchip 2048 64 64 8 1 0\npart 0 1\ndata img hex:";
+const TEXT_BEFORE: &[u8] = b"nandlab 1\ncontroller\nchip 2048 64 64 8 1 0\npart 0 1\ndata img hex:";
 
 const TEXT_AFTER: &[u8] =
     b"\nboot\nsession 0\nnandwrite -n -p mtd0 img\nnanddump -n --bb=dumpbad -l 2048 mtd0\n";

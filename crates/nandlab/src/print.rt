@@ -5,9 +5,7 @@ ghost use Rattle.report_model.proofs.RowLemmas.{leading};
 ghost use Rattle.nandlab.specs.Printing.{ForPage, ForAnswer, entry_text, any_after};
 
 use nand_iface::History;
-use nand_model::{
-    Bytes, Event, Fairness, Note, Op, Origin, PageKind, PageRead, Reply, Which,
-};
+use nand_model::{Bytes, Event, Fairness, Note, Op, Origin, PageKind, PageRead, Reply, Which};
 use std::alloc::{AllocError, Global};
 
 /// Bytes of a row.
@@ -161,14 +159,21 @@ fn kind_name(kind: PageKind) -> &'static str
 }
 
 // Appends what a page that was read is called, and its counts.
-fn put_page(alloc: Global, out: &mut Bytes, kind: PageKind, read: &PageRead) -> Result<(), AllocError>
+fn put_page(
+    alloc: Global,
+    out: &mut Bytes,
+    kind: PageKind,
+    read: &PageRead,
+) -> Result<(), AllocError>
     ensures { OnOk result (out.new ≡ out.old ++ page_text kind read.now) }
 {
     let name = kind_name(kind);
     let corrected = read.corrected;
     let greatest = read.greatest;
     let failed = read.failed;
-    let text = format!(in alloc; "page {name} corrected {corrected} greatest {greatest} failed {failed}")?;
+    let text = format!(in alloc;
+        "page {name} corrected {corrected} greatest {greatest} failed {failed}"
+    )?;
     put_text(out, text.as_str())
 }
 
@@ -317,7 +322,9 @@ fn put_attach_words(
 {
     let origin = origin_name(origin);
     let quiet = answer_name(quiet);
-    let text = format!(in alloc; "attach {chip} {origin} version {version} copies {copies} quiet {quiet} bad ")?;
+    let text = format!(in alloc;
+        "attach {chip} {origin} version {version} copies {copies} quiet {quiet} bad "
+    )?;
     put_text(out, text.as_str())
 }
 
@@ -414,7 +421,16 @@ pub fn put_note(
         } => {
             let name = chip_label(alloc, controller, *chip)?;
             let states = states.as_slice();
-            put_attached(alloc, out, name.as_str(), *origin, *version, *copies, *quiet, states)
+            put_attached(
+                alloc,
+                out,
+                name.as_str(),
+                *origin,
+                *version,
+                *copies,
+                *quiet,
+                states,
+            )
         }
         Note::Torn {
             chip,

@@ -1,5 +1,6 @@
 // The top call over sources and sinks in memory.
 ghost use Rattle.std.specs.Prelude.{◌<◌};
+
 use crate::{Status, serial_top};
 use lab_outside::{MemSink, MemSource};
 use nand_model::{BlockList, Bytes};
@@ -14,9 +15,11 @@ const AFTER: &str =
 const ANOTHER_SESSION: &str =
     "\nboot\nsession 1\nnandwrite -n -p mtd0 img\nnanddump -n --bb=dumpbad -l 2048 mtd0\n";
 
-const HEAD: &str = "boot 0\ncontroller 0\nattach 0.0 markers version 0 copies 0 quiet yes bad -\nb 0 isbad mtd0 0\na 0 good\nb 0 rawwrite mtd0 0\na 0 ok\nb 0 rawread mtd0 0\na 0 page raw corrected 0 greatest 0 failed 0\n";
+const HEAD: &str =
+    "boot 0\ncontroller 0\nattach 0.0 markers version 0 copies 0 quiet yes bad -\nb 0 isbad mtd0 0\na 0 good\nb 0 rawwrite mtd0 0\na 0 ok\nb 0 rawread mtd0 0\na 0 page raw corrected 0 greatest 0 failed 0\n";
 
-const MIDDLE: &str = "session 0\nnandwrite mtd0: pages 1, skipped 0, failed 0\nnanddump mtd0: pages 1, bad 0, corrected 0, failed 0\n";
+const MIDDLE: &str =
+    "session 0\nnandwrite mtd0: pages 1, skipped 0, failed 0\nnanddump mtd0: pages 1, bad 0, corrected 0, failed 0\n";
 
 const TAIL: &str = "device mtd0 corrected 0 failed 0\nend boot 0\n";
 

@@ -18,7 +18,7 @@ returns-else-eq-clause-none c =
     c.as_bytes.ensures.value ∙ c.in_ok-again-in-Ok.ensures ∙ ap encode_lower c.as_slice.ensures.value in
     not_lower_case c.args.digits.now c.in-Ok.payload.items c.in-Ok.ensures.ok
     (λ same.
-      let both : false ≡ true = c.if-eq.ensures ∙ (bytes_eq-Decides c.as_bytes.result.now c.args.digits.now).1 (again ∙ same) in cc both)
+    let both : false ≡ true = c.if-eq.ensures ∙ (bytes_eq-Decides c.as_bytes.result.now c.args.digits.now).1 (again ∙ same) in cc both)
 
 pub returns-in_default : goal.returns-in_default
 returns-in_default c =

@@ -19,10 +19,11 @@ loop-rest-preserved c =
     let inv = c.loop-rest.invariant in
     let exact = inv.1 some in
     let more = leading-next c.args.row.now rest c.split_row.result.0.now c.split_row.result.1.now some c.split_row.ensures.row c.split_row.ensures.later (c.is_same.ensures.0 c.if-not-is_same.false) in
-    let one : c.loop-rest.count + suc (leading c.args.row.now (rows_in c.split_row.result.1.now)) ≡ c.loop-rest.count + 1 + leading c.args.row.now (rows_in c.split_row.result.1.now) = omega arith in
-    (inv.0 ∙ ap (λ n. c.loop-rest.count + n) more ∙ one,
-    (λ left. omega (arith, later, exact, left)),
-    omega (arith, later, exact, some))
+    let one : c.loop-rest.count + suc (leading c.args.row.now (rows_in c.split_row.result.1.now)) ≡ c.loop-rest.count + 1 + leading c.args.row.now (rows_in c.split_row.result.1.now) = omega arith in (
+      inv.0 ∙ ap (λ n. c.loop-rest.count + n) more ∙ one,
+      (λ left. omega (arith, later, exact, left)),
+      omega (arith, later, exact, some),
+    )
 
 pub returns-after-loop-rest-clause-rows : goal.returns-after-loop-rest-clause-rows
 returns-after-loop-rest-clause-rows c =
