@@ -1,5 +1,5 @@
 -- What a call writes, by its words and the bytes that it reads.
-use Rattle.std.specs.Prelude.{◌≡◌, ℕ, ◌<◌, ◌≤◌, ◌++◌, ◌⊎◌, Bool, true, false, List, [], ◌∷◌, length, take, codes, bytes_eq, Option, Some, None, ⊤}
+use Rattle.std.specs.Prelude.{◌≡◌, ℕ, ◌<◌, ◌≤◌, ◌++◌, Bool, true, false, List, [], ◌∷◌, length, take, codes, bytes_eq}
 use Rattle.report_model.specs.Report.{line, report_text}
 use Rattle.nine_line_plan.specs.NineLines.{plan_of, course_of, IsNineLinePlan, IsOfTheForm}
 use Rattle.nandlab.specs.declared.status.Status.{Status}

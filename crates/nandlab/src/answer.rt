@@ -1,6 +1,6 @@
 // What is written to the bytes of a plan.
-ghost use Rattle.std.specs.Prelude.{◌≡◌, ◌≤◌, length, IfOk};
-ghost use Rattle.nandlab.specs.Answer.{Answers, not_built_line};
+ghost use Rattle.std.specs.Prelude.{◌≤◌, length, IfOk};
+ghost use Rattle.nandlab.specs.Answer.{Answers};
 
 use crate::nine_lines::read_nine_lines;
 use crate::report::report;

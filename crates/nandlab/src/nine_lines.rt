@@ -1,6 +1,5 @@
 // The reader of the nine-line plan.
-ghost use Rattle.std.specs.Prelude.{◌≡◌, ℕ, List, ◌++◌, ◌≤◌, ◌-◌, length, take, drop, IfOk, IfSome, IfNone, IsSome, IsTrue, ◌↔◌};
-ghost use Rattle.hex.specs.Hex.{decode_of, encode_lower};
+ghost use Rattle.std.specs.Prelude.{◌≡◌, ℕ, List, ◌++◌, ◌-◌, IfOk, IfSome, IfNone};
 ghost use Rattle.nine_line_plan.specs.NineLines.{IsNineLinePlan, IsOfTheForm, text_before, text_after};
 ghost use Rattle.nandlab.specs.Reading.{StandsBetween, IsLowerCaseOf};
 

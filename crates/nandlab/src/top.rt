@@ -1,5 +1,5 @@
 // The top call.
-ghost use Rattle.std.specs.Prelude.{◌≡◌, ◌<◌, ◌≤◌, ◌++◌, ◌⊎◌, ℕ, List, true, false, Some, None, map, string_bytes, take, length, IfSome};
+ghost use Rattle.std.specs.Prelude.{◌≡◌, ◌<◌, ◌≤◌, ◌⊎◌, ℕ, List, true, false, Some, map, string_bytes, length, IfSome};
 ghost use Rattle.std.specs.Io.KnownBytes.{IsAtEnd, append_known};
 ghost use Rattle.nine_line_plan.specs.NineLines.{IsOfTheForm};
 ghost use Rattle.lab_outside.specs.Outside.{TookPrefix};
@@ -56,6 +56,7 @@ pub fn serial_top<S: Source, K: Sink>(
         → ((result ≡ Status.Usage) ⊎ (result ≡ Status.WriteFault)) × (S.left source.new ≡ S.left source.old) × (S.faults source.new ≡ S.faults source.old) }
 
     ensures plan_refused { result ≡ Status.PlanRefused → IfSome (S.left source.old) (λ bytes. (most_bytes < length bytes) ⊎ (IsOfTheForm bytes → ⊥)) }
+    ensures refused_at_end { result ≡ Status.PlanRefused → IfSome (S.left source.old) (λ bytes. length bytes ≤ most_bytes → IsAtEnd (S.left source.new)) }
     ensures fine { result ≡ Status.Fine → IsAtEnd (S.left source.new) × IfSome (S.left source.old) IsOfTheForm }
 
     ensures read_fault { result ≡ Status.ReadFault → HasRisen (S.faults source.old) (S.faults source.new) }

@@ -1,8 +1,7 @@
 -- What the sink holds at each answer.
-use Rattle.std.proofs.Common.{◌≡◌, ◌<◌, ℕ, List, true, false, Some, Err, map, string_bytes, length, refl, ap, sym, subst, ◌∙◌}
-use Rattle.lab_outside.specs.declared.reading.ReadError.{ReadError}
+use Rattle.std.proofs.Common.{◌≡◌, ◌<◌, Err, map, string_bytes, length, refl, ap, sym, subst, ◌∙◌}
 use Rattle.nand_model.specs.Counts.{HasRisen}
-use Rattle.nandlab.specs.Answer.{accepts, most_bytes, Answers, Holds, IsRefusalOf, TooLong, too_long_line, usage_line}
+use Rattle.nandlab.specs.Answer.{most_bytes, Answers, TooLong, too_long_line, usage_line}
 use Rattle.nandlab.specs.declared.status.Status.TheVariants.{PlanRefused, Usage}
 use Rattle.nandlab.proofs.Holding.{holds_written, told, writes_answer}
 use Rattle.nandlab.proofs.top.serial_top.Goals as goal
