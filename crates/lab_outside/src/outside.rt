@@ -1,5 +1,5 @@
 // What the outside is: a source of bytes to read, and a sink for bytes to write.
-ghost use Rattle.std.specs.Prelude.{◌≡◌, ℕ, ◌<◌, ◌≤◌, ◌^◌, List, Option, length, take, IfOk, OnErr};
+ghost use Rattle.std.specs.Prelude.{◌≡◌, ℕ, ◌<◌, ◌≤◌, ◌^◌, List, Option, length, take, IfOk, OnOk, OnErr};
 ghost use Rattle.std.specs.Io.KnownBytes.{prepend_known, append_known, IsAtEnd};
 ghost use Rattle.nand_model.specs.Counts.{HasRisen};
 
@@ -22,7 +22,7 @@ pub trait Source {
     /// Puts the next bytes into the front of `buf` and answers their number. 0 for a buffer that is not empty is
     /// the end of the input.
     ///
-    /// Errors: `Failed` only where the count of faults rose in this call, and then no byte was taken.
+    /// Errors: `Failed` only where the count of faults rose in this call, and then no byte was taken. It rises in no other call.
     fn read(&mut self, buf: &mut [u8]) -> Result<usize, Failed>
         ensures count { faults self.old ≤ faults self.new }
         ensures counted { faults self.new < 2 ^ 64 }
@@ -30,6 +30,7 @@ pub trait Source {
         ensures within { IfOk result (λ n. n ≤ length buf.new) }
         ensures next { IfOk result (λ n. left self.old ≡ prepend_known (take n buf.new) (left self.new)) }
         ensures end { IfOk result (λ n. n ≡ 0 → 0 < length buf.new → IsAtEnd (left self.new)) }
+        ensures calm { OnOk result (faults self.new ≡ faults self.old) }
 
         ensures risen { OnErr result (HasRisen (faults self.old) (faults self.new)) }
         ensures failed { OnErr result (left self.new ≡ left self.old) };

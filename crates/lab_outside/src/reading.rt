@@ -61,6 +61,10 @@ pub fn read_to_end<S: Source>(
 
     ensures too_long { result ≡ Err ReadError.TooLong → IfSome (S.left source.old) (λ bytes. limit < length bytes) }
 
+    ensures calm { OnOk result (S.faults source.new ≡ S.faults source.old) }
+    ensures calm_too_long { result ≡ Err ReadError.TooLong → S.faults source.new ≡ S.faults source.old }
+    ensures calm_memory { result ≡ Err ReadError.Memory → S.faults source.new ≡ S.faults source.old }
+
     ensures risen { result ≡ Err ReadError.Failed → HasRisen (S.faults source.old) (S.faults source.new) }
     ensures failed { result ≡ Err ReadError.Failed → GaveAtMost (S.left source.old) (S.left source.new) limit }
 {
@@ -95,6 +99,10 @@ fn read_piece<S: Source>(
 
     ensures too_long { result ≡ Err ReadError.TooLong
         → IfSome (S.left source.old) (λ left. limit < length bytes.old + length left) }
+
+    ensures calm { OnOk result (S.faults source.new ≡ S.faults source.old) }
+    ensures calm_too_long { result ≡ Err ReadError.TooLong → S.faults source.new ≡ S.faults source.old }
+    ensures calm_memory { result ≡ Err ReadError.Memory → S.faults source.new ≡ S.faults source.old }
 
     ensures risen { result ≡ Err ReadError.Failed → HasRisen (S.faults source.old) (S.faults source.new) }
     ensures failed { result ≡ Err ReadError.Failed → S.left source.new ≡ S.left source.old }

@@ -60,6 +60,7 @@ pub fn serial_top<S: Source, K: Sink>(
     ensures fine { result ≡ Status.Fine → IsAtEnd (S.left source.new) × IfSome (S.left source.old) IsOfTheForm }
 
     ensures read_fault { result ≡ Status.ReadFault → HasRisen (S.faults source.old) (S.faults source.new) }
+    ensures ended_by_fault { S.faults source.old < S.faults source.new → result ≡ Status.ReadFault }
     ensures write_fault { result ≡ Status.WriteFault → HasRisen (K.faults sink.old) (K.faults sink.new) }
     ensures counts { (S.faults source.old ≤ S.faults source.new) × (K.faults sink.old ≤ K.faults sink.new) }
 

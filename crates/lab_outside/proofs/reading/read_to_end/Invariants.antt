@@ -7,6 +7,7 @@ invariant-loop-bytes g l = record {
   asks : 0 < length l.piece.items;
   within : length l.bytes ≤ l.limit;
   count : g.S.Source.faults l.initial.source ≤ g.S.Source.faults l.source;
+  calm : g.S.Source.faults l.source ≡ g.S.Source.faults l.initial.source;
   moved : g.S.Source.left l.initial.source ≡ prepend_known l.bytes (g.S.Source.left l.source);
 }
 
