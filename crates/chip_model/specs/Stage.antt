@@ -1,0 +1,87 @@
+-- Where a chip stands in a boot: what is left of the path of its attach, or of its operation in flight.
+use Rattle.std.specs.Prelude.{◌≡◌, ℕ, Bool, true, false, ◌&&◌, List, [], ◌∷◌, ◌++◌, length, Option, Some, None, option_map}
+use Rattle.nand_model.specs.Chip.{ChipState, FaultModel, Complete, PageEvent, happens}
+use Rattle.nand_model.specs.Path.{Answer, Path, Over, Then, is_failure, answer_to, after_answers, first_event}
+use Rattle.nand_model.specs.Attach.{Attaching, attach_path}
+use Rattle.nand_model.specs.Operation.{Partitions, Known, Finished, operation_path}
+use Rattle.nand_model.specs.ChipRun.{ChipRun, Pending, known_at_first, attach_note, name_of}
+use Rattle.nand_model.specs.Quiet.{fairness_of, is_quiet}
+use Rattle.nand_model.specs.declared.geometry.Geometry.{Geometry}
+use Rattle.nand_model.specs.declared.words.Event.{Event}
+use Rattle.nand_model.specs.declared.words.Fairness.{Fairness}
+use Rattle.nand_model.specs.declared.words.Op.{Op}
+
+-- a chip is being attached, and all its events so far were quiet or not; or it is attached with nothing in flight; or an operation is in flight
+pub data Stage : Type 0 where
+  Attaches : (left : Path Attaching) → (quiet : Bool) → Stage
+  Rests : (known : Known) → Stage
+  Works : (known : Known) → (left : Path Finished) → Stage
+
+-- the stage after an attach has come this far
+abbrev pub attach_stage : Path Attaching → Bool → Stage
+attach_stage (Over attaching) quiet = Rests (known_at_first attaching)
+attach_stage (Then event rest) quiet = Attaches (Then event rest) quiet
+
+-- a chip at the start of its attach
+abbrev pub first_stage : Geometry → Stage
+first_stage g = Attaches (attach_path g) true
+
+-- the next event
+abbrev pub stage_event : Stage → Option PageEvent
+stage_event (Attaches left quiet) = first_event left
+stage_event (Rests known) = None
+stage_event (Works known left) = first_event left
+
+-- the path once its next event is answered
+abbrev pub path_after : {A : Type 0} → Answer → Path A → Path A
+path_after answer (Over result) = Over result
+path_after answer (Then event rest) = rest answer
+
+-- the stage after an event that was answered so; an attach stays quiet where the chip was quiet just before it
+abbrev pub stage_after : Bool → Answer → Stage → Stage
+stage_after now_quiet answer (Attaches left quiet) = attach_stage (path_after answer left) (quiet && now_quiet)
+stage_after now_quiet answer (Rests known) = Rests known
+stage_after now_quiet answer (Works known left) = Works known (path_after answer left)
+
+-- what an attach note says that an event brings: the attach that it ends, and whether that was quiet
+abbrev pub attach_end : Path Attaching → Bool → Option (Bool × Attaching)
+attach_end (Over attaching) quiet = Some (quiet, attaching)
+attach_end (Then event rest) quiet = None
+
+abbrev pub news_after : Bool → Answer → Stage → Option (Bool × Attaching) → Option (Bool × Attaching)
+news_after now_quiet answer (Attaches left quiet) news = attach_end (path_after answer left) (quiet && now_quiet)
+news_after now_quiet answer (Rests known) news = news
+news_after now_quiet answer (Works known left) news = news
+
+-- the fairness of an event where it failed
+abbrev pub fairness_where_failed : Bool → Fairness → Option Fairness
+fairness_where_failed true fairness = Some fairness
+fairness_where_failed false fairness = None
+
+-- an attached chip's table
+abbrev pub stage_table : Stage → Option (List ℕ)
+stage_table (Attaches left quiet) = None
+stage_table (Rests known) = Some known.table
+stage_table (Works known left) = Some known.table
+
+-- whether an operation is in flight
+abbrev pub is_working : Stage → Bool
+is_working (Attaches left quiet) = false
+is_working (Rests known) = false
+is_working (Works known left) = true
+
+module _ {W : Type 0} (model : FaultModel W) where
+  -- what an event tells where it fails
+  abbrev pub failure_told : ChipState W → PageEvent → Option Fairness
+  failure_told s e =
+      fairness_where_failed (is_failure (answer_to model s e)) (fairness_of s.geometry s.pages e (happens model s (Complete e)).pages)
+
+-- the stage of a chip in a run
+abbrev pub stage_by : {W : Type 0} → Partitions → ChipRun W → Option Known → Option Pending → Stage
+stage_by partitions c None pending = Attaches (after_answers c.attach_answers (attach_path c.chip.geometry)) c.quiet
+stage_by partitions c (Some known) None = Rests known
+stage_by partitions c (Some known) (Some pending) =
+    Works known (after_answers pending.answers (operation_path c.chip.geometry partitions known pending.op))
+
+abbrev pub stage_of : {W : Type 0} → Partitions → ChipRun W → Stage
+stage_of partitions c = stage_by partitions c c.known c.pending
