@@ -1,0 +1,3 @@
+pub mod ChipSteps
+pub mod Positions
+pub mod CourseSteps

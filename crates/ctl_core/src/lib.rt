@@ -1,0 +1,2 @@
+//! One controller of a boot: its chips, its sessions and its notes, one step a turn.
+#![tactic(auto)]
