@@ -1,7 +1,7 @@
 // A controller's part of one boot.
 ghost use Rattle.std.specs.Prelude.{◌≡◌, ◌<◌, [], ℕ, List, length, All, OnOk, OnErr, IfErr, option_copied};
 ghost use Rattle.nand_model.specs.declared.words.Command.{Command as Ordered};
-ghost use Rattle.tool_steps.specs.Boot.{calm_boot, with_session, with_command, session_number, command_at};
+ghost use Rattle.tool_steps.specs.Boot.{calm_boot, with_session, with_command, session_number, commands_at, command_at};
 
 use mtd_part::Parts;
 use nand_model::{Command, ItemList};
@@ -91,6 +91,14 @@ impl ControllerBoot {
         } else {
             None
         }
+    }
+
+    /// Lends the commands of the session at place `k`, counted from 0.
+    pub fn commands(&self, k: usize) -> &ItemList<Command>
+        requires { k < length self.now.sessions }
+        ensures { commands_at self.now k ≡ Some result.now }
+    {
+        &self.order[k].commands
     }
 
     /// Lends the command at place `n` of the session at place `k`, both counted from 0. None comes exactly where there is none.

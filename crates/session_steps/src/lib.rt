@@ -1,0 +1,8 @@
+//! The sessions of a controller: each goes through its commands, one operation after the other.
+#![tactic(auto)]
+
+mod ended;
+mod session;
+
+pub use ended::{OutcomeList, SessionEnd, StatsList};
+pub use session::Session;
