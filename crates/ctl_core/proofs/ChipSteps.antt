@@ -1,17 +1,17 @@
--- How a chip stands after each step of its run.
+-- What its controller keeps of a chip, after each step of the chip's run.
 use Rattle.std.proofs.Common.{◌≡◌, ℕ, Bool, true, false, ◌&&◌, List, [], ◌∷◌, ◌++◌, Option, Some, None, refl, ap, sym, ◌∙◌, subst}
 use Rattle.nand_model.specs.Chip.{ChipState, FaultModel, PageEvent, Complete, happens}
-use Rattle.nand_model.specs.Path.{Answer, Path, Over, Then, answer_to, after_answers, first_event, next_event, result_of, is_failure}
+use Rattle.nand_model.specs.Path.{Answer, Path, Over, Then, answer_to, after_answers, result_of, is_failure}
 use Rattle.nand_model.specs.Attach.{Attaching, attach_path}
 use Rattle.nand_model.specs.Operation.{Partitions, Known, Finished, operation_path}
-use Rattle.nand_model.specs.ChipRun.{ChipRun, Pending, known_once_over, next_event_by, next_chip_event, advanced, with_pending, with_finished, attach_notes, attach_notes_of, notes_of_advance, torn_notes, name_of, finished_by}
+use Rattle.nand_model.specs.ChipRun.{ChipRun, Pending, known_once_over, next_event_by, next_chip_event, advanced, answered_by, pending_after, with_pending, with_finished, attach_notes, attach_notes_of, attach_notes_by, notes_of_advance, torn_notes, name_of, finished_by}
 use Rattle.nand_model.specs.Quiet.{is_quiet, fairness_of}
 use Rattle.nand_model.specs.declared.words.Note.{Note}
 use Rattle.nand_model.specs.declared.words.Fairness.{Fairness}
 use Rattle.nand_model.specs.declared.words.Op.{Op}
-use Rattle.chip_model.specs.Stage.{Stage, Attaches, Rests, Works, stage_by, stage_of, stage_event, path_after, attach_stage, attach_end, failure_told, fairness_where_failed}
+use Rattle.chip_model.specs.Stage.{Stage, Attaches, Rests, Works, stage_by, stage_of, stage_event, stage_begun, path_after, attach_stage, stage_after, news_after, attach_end, failure_told, fairness_where_failed, finished_in}
 use Rattle.run_laws.proofs.Traces.{geometry_happens}
-use Rattle.ctl_core.specs.Standing.{Standing, standing_of, holder_by, after_event, after_begin, after_answer, told, failure_notes, news_notes}
+use Rattle.ctl_core.specs.KeptChip.{KeptChip, kept_as, holder_by, after_event, after_begin, after_answer, with_news_told, failure_notes, news_notes, is_attaching}
 
 -- one more answer takes one more step along a path
 pub after_one_more : {A : Type 0} (path : Path A) (answers : List Answer) (answer : Answer)
@@ -21,39 +21,29 @@ after_one_more (Then event rest) [] answer = refl
 after_one_more (Over result) (a ∷ answers) answer = refl
 after_one_more (Then event rest) (a ∷ answers) answer = after_one_more (rest a) answers answer
 
+-- a chip at rest begins an operation
+pub begun_at_rest : {W : Type 0} (partitions : Partitions) (c : ChipRun W) (known : Known) (session : ℕ) (op : Op) (k : Option Known) (p : Option Pending)
+    → k ≡ Some known → p ≡ None
+    → stage_by partitions (with_pending c session op) k (Some (record { session = session; op = op; answers = [] })) ≡ stage_begun c.chip.geometry partitions op (stage_by partitions c k p)
+begun_at_rest partitions c known session op None p h i = cc
+begun_at_rest partitions c known session op (Some k) None h i = refl
+begun_at_rest partitions c known session op (Some k) (Some pending) h i = cc
+
+free_where_attaching : (x : Path Attaching) → holder_by (known_once_over x) None ≡ None
+free_where_attaching (Over attaching) = refl
+free_where_attaching (Then event rest) = refl
+
 module _ {W : Type 0} (partitions : Partitions) where
-  -- where the attach has come so far
-  attach_stands : (now : ChipRun W) (x : Path Attaching) → after_answers now.attach_answers (attach_path now.chip.geometry) ≡ x
-      → stage_by partitions now (known_once_over x) None ≡ attach_stage x now.quiet
-  attach_stands now (Over attaching) h = refl
-  attach_stands now (Then event rest) h = ap (λ p. Attaches p now.quiet) h
-
-  free_where_attaching : (x : Path Attaching) → holder_by (known_once_over x) None ≡ None
-  free_where_attaching (Over attaching) = refl
-  free_where_attaching (Then event rest) = refl
-
   -- an operation in flight, from the stage
-  pub works_by : (c : ChipRun W) (known : Known) (left : Path Finished) (k : Option Known) (p : Option Pending) → stage_by partitions c k p ≡ Works known left
-      → (pending : Pending) × (k ≡ Some known) × (p ≡ Some pending) × (after_answers pending.answers (operation_path c.chip.geometry partitions known pending.op) ≡ left)
-  works_by c known left None p h = cc
-  works_by c known left (Some k) None h = cc
-  works_by c known left (Some k) (Some pending) h =
-      let same : k ≡ known = cc in
-      let here : after_answers pending.answers (operation_path c.chip.geometry partitions k pending.op) ≡ left = cc in
-      (pending, ap Some same, refl, subst (λ z. after_answers pending.answers (operation_path c.chip.geometry partitions z pending.op) ≡ left) same here)
+  works_by : (c : ChipRun W) (finished : Finished) (k : Option Known) (p : Option Pending) → finished_in (stage_by partitions c k p) ≡ Some finished
+      → (known : Known) × (pending : Pending) × (k ≡ Some known) × (p ≡ Some pending) × (finished_by partitions c known pending ≡ Some finished)
+  works_by c finished None p h = cc
+  works_by c finished (Some known) None h = cc
+  works_by c finished (Some known) (Some pending) h = (known, pending, refl, refl, h)
 
-  pub works : (c : ChipRun W) (known : Known) (left : Path Finished) → stage_of partitions c ≡ Works known left
-      → (pending : Pending) × (c.known ≡ Some known) × (c.pending ≡ Some pending) × (after_answers pending.answers (operation_path c.chip.geometry partitions known pending.op) ≡ left)
-  works c known left h = works_by c known left c.known c.pending h
-
-  rests_by : (c : ChipRun W) (known : Known) (k : Option Known) (p : Option Pending) → stage_by partitions c k p ≡ Rests known → (k ≡ Some known) × (p ≡ None)
-  rests_by c known None p h = cc
-  rests_by c known (Some k) None h = let same : k ≡ known = cc in (ap Some same, refl)
-  rests_by c known (Some k) (Some pending) h = cc
-
-  -- a chip at rest
-  pub rests : (c : ChipRun W) (known : Known) → stage_of partitions c ≡ Rests known → (c.known ≡ Some known) × (c.pending ≡ None)
-  rests c known h = rests_by c known c.known c.pending h
+  pub works : (c : ChipRun W) (finished : Finished) → finished_in (stage_of partitions c) ≡ Some finished
+      → (known : Known) × (pending : Pending) × (c.known ≡ Some known) × (c.pending ≡ Some pending) × (finished_by partitions c known pending ≡ Some finished)
+  works c finished h = works_by c finished c.known c.pending h
 
   next_by : (c : ChipRun W) (k : Option Known) (p : Option Pending) → next_event_by partitions c.chip c.attach_answers k p ≡ stage_event (stage_by partitions c k p)
   next_by c None p = refl
@@ -65,21 +55,89 @@ module _ {W : Type 0} (partitions : Partitions) where
   next_is c = next_by c c.known c.pending
 
   -- an operation begins on a chip at rest
-  pub begun : (c : ChipRun W) (known : Known) (session : ℕ) (op : Op) → c.known ≡ Some known
-      → standing_of partitions (with_pending c session op) ≡ after_begin partitions known session op (standing_of partitions c)
-  begun c known session op h =
-      ap (λ k. record { state = c.chip; stage = stage_by partitions (with_pending c session op) k (Some (record { session = session; op = op; answers = [] })); news = None;
-      holder = holder_by k (Some (record { session = session; op = op; answers = [] })) }) h
+  pub begun : (c : ChipRun W) (known : Known) (session : ℕ) (op : Op) → c.known ≡ Some known → c.pending ≡ None
+      → kept_as partitions (with_pending c session op) ≡ after_begin partitions session op (kept_as partitions c)
+  begun c known session op h i =
+      λ j. record { state = c.chip; stage = begun_at_rest partitions c known session op c.known c.pending h i j; news = None; holder = held c.known h j }
+    where
+      held : (k : Option Known) → k ≡ Some known → holder_by k (Some (record { session = session; op = op; answers = [] })) ≡ Some session
+      held None h = cc
+      held (Some k) h = refl
 
   -- an operation is answered
-  pub answered : (c : ChipRun W) (finished : Finished) → standing_of partitions (with_finished c finished) ≡ after_answer finished.known (standing_of partitions c)
+  pub answered : (c : ChipRun W) (finished : Finished) → kept_as partitions (with_finished c finished) ≡ after_answer finished.known (kept_as partitions c)
   answered c finished = refl
 
+  -- where the attach has come so far
+  attach_stands : (now : ChipRun W) (x : Path Attaching) → after_answers now.attach_answers (attach_path now.chip.geometry) ≡ x
+      → stage_by partitions now (known_once_over x) None ≡ attach_stage x now.quiet
+  attach_stands now (Over attaching) h = refl
+  attach_stands now (Then event rest) h = ap (λ p. Attaches p now.quiet) h
+
   module _ (model : FaultModel W) where
-    attach_advanced : (c : ChipRun W) (e : PageEvent) → c.known ≡ None → (now : ChipRun W)
-        → now.chip ≡ happens model c.chip (Complete e) → now.attach_answers ≡ c.attach_answers ++ answer_to model c.chip e ∷ []
-        → after_answers now.attach_answers (attach_path now.chip.geometry) ≡ path_after (answer_to model c.chip e) (after_answers c.attach_answers (attach_path c.chip.geometry))
-    attach_advanced c e none now here answers =
-        ap (λ g. after_answers now.attach_answers (attach_path g)) (ap (λ (s : ChipState W). s.geometry) here ∙ geometry_happens model c.chip (Complete e))
-        ∙ ap (λ zs. after_answers zs (attach_path c.chip.geometry)) answers
+    -- the path of an attach after one more event
+    attach_path_after : (c : ChipRun W) (e : PageEvent)
+        → after_answers (c.attach_answers ++ answer_to model c.chip e ∷ []) (attach_path (happens model c.chip (Complete e)).geometry)
+        ≡ path_after (answer_to model c.chip e) (after_answers c.attach_answers (attach_path c.chip.geometry))
+    attach_path_after c e = ap (λ g. after_answers (c.attach_answers ++ answer_to model c.chip e ∷ []) (attach_path g)) (geometry_happens model c.chip (Complete e))
         ∙ after_one_more (attach_path c.chip.geometry) c.attach_answers (answer_to model c.chip e)
+
+    -- a chip after one more event, by what is known of it and pending on it
+    abbrev advanced_by : ChipRun W → PageEvent → Option Known → Option Pending → ChipRun W
+    advanced_by c e k p = answered_by (record c { known = k; pending = p }) (happens model c.chip (Complete e)) (answer_to model c.chip e) k
+
+    advanced_stage : (c : ChipRun W) (e : PageEvent) (k : Option Known) (p : Option Pending)
+        → stage_of partitions (advanced_by c e k p) ≡ stage_after (is_quiet c.chip.geometry c.chip.pages) (answer_to model c.chip e) (stage_by partitions c k p)
+    advanced_stage c e None p =
+        attach_stands (advanced_by c e None p) (after_answers (c.attach_answers ++ answer_to model c.chip e ∷ []) (attach_path c.chip.geometry))
+        (ap (λ g. after_answers (c.attach_answers ++ answer_to model c.chip e ∷ []) (attach_path g)) (geometry_happens model c.chip (Complete e)))
+        ∙ ap (λ x. attach_stage x (c.quiet && is_quiet c.chip.geometry c.chip.pages)) (after_one_more (attach_path c.chip.geometry) c.attach_answers (answer_to model c.chip e))
+    advanced_stage c e (Some known) None = refl
+    advanced_stage c e (Some known) (Some pending) =
+        ap (λ g. Works known (after_answers (pending.answers ++ answer_to model c.chip e ∷ []) (operation_path g partitions known pending.op))) (geometry_happens model c.chip (Complete e))
+        ∙ ap (λ x. Works known x) (after_one_more (operation_path c.chip.geometry partitions known pending.op) pending.answers (answer_to model c.chip e))
+
+    advanced_holder : (c : ChipRun W) (e : PageEvent) (k : Option Known) (p : Option Pending)
+        → holder_by (advanced_by c e k p).known (advanced_by c e k p).pending ≡ holder_by k p
+    advanced_holder c e None p = free_where_attaching (after_answers (c.attach_answers ++ answer_to model c.chip e ∷ []) (attach_path c.chip.geometry))
+    advanced_holder c e (Some known) None = refl
+    advanced_holder c e (Some known) (Some pending) = refl
+
+    advanced_state : (c : ChipRun W) (e : PageEvent) (k : Option Known) (p : Option Pending) → (advanced_by c e k p).chip ≡ happens model c.chip (Complete e)
+    advanced_state c e None p = refl
+    advanced_state c e (Some known) p = refl
+
+    -- one more event, with its attach note written
+    pub kept_advanced : (c : ChipRun W) (e : PageEvent) → kept_as partitions (advanced model c e) ≡ with_news_told (after_event model e (kept_as partitions c))
+    kept_advanced c e = λ j. record {
+      state = advanced_state c e c.known c.pending j;
+      stage = advanced_stage c e c.known c.pending j;
+      news = None;
+      holder = advanced_holder c e c.known c.pending j;
+    }
+
+    -- the note of a failed event
+    pub failure_is : (k n : ℕ) (c : ChipRun W) (e : PageEvent) → notes_of_advance model k n c e ≡ failure_notes k n e (failure_told model c.chip e)
+    failure_is k n c e = by_test (is_failure (answer_to model c.chip e))
+      where
+        by_test : (b : Bool) → torn_notes b k n false c.chip e (happens model c.chip (Complete e))
+            ≡ failure_notes k n e (fairness_where_failed b (fairness_of c.chip.geometry c.chip.pages e (happens model c.chip (Complete e)).pages))
+        by_test true = refl
+        by_test false = refl
+
+    -- the note of an attach that has come to its end
+    note_by : (k : ℕ) (quiet : Bool) (x : Path Attaching) → attach_notes_of k quiet x ≡ news_notes k (attach_end x quiet)
+    note_by k quiet (Over attaching) = refl
+    note_by k quiet (Then event rest) = refl
+
+    news_by : (k : ℕ) (c : ChipRun W) (e : PageEvent) (known : Option Known) (p : Option Pending)
+        → attach_notes_by k (advanced_by c e known p) known
+        ≡ news_notes k (news_after (is_quiet c.chip.geometry c.chip.pages) (answer_to model c.chip e) (stage_by partitions c known p) None)
+    news_by k c e None p =
+        ap (attach_notes_of k (c.quiet && is_quiet c.chip.geometry c.chip.pages)) (attach_path_after c e)
+        ∙ note_by k (c.quiet && is_quiet c.chip.geometry c.chip.pages) (path_after (answer_to model c.chip e) (after_answers c.attach_answers (attach_path c.chip.geometry)))
+    news_by k c e (Some known) None = refl
+    news_by k c e (Some known) (Some pending) = refl
+
+    pub news_is : (k : ℕ) (c : ChipRun W) (e : PageEvent) → attach_notes k c (advanced model c e) ≡ news_notes k (after_event model e (kept_as partitions c)).news
+    news_is k c e = news_by k c e c.known c.pending

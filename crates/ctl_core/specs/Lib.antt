@@ -1,2 +1,3 @@
 pub mod Past
-pub mod Standing
+pub mod KeptChip
+pub mod Keeps

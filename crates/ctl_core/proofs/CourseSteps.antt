@@ -1,0 +1,153 @@
+-- The steps of a course without flips and cut, and what its controller keeps after each.
+use Rattle.std.proofs.Common.{◌≡◌, ℕ, ◌+◌, Bool, true, false, not, ◌&&◌, List, [], ◌∷◌, ◌++◌, Option, Some, None, refl, ap, sym, ◌∙◌, subst}
+use Rattle.std.specs.Prelude.{slice_get, fold, filter, map, is_none, is_some, if◌then◌else◌, ◌==◌, ◌||◌}
+use Rattle.nand_model.specs.declared.geometry.Geometry.{Geometry}
+use Rattle.nand_model.specs.declared.words.Command.{Command}
+use Rattle.nand_model.specs.declared.words.Flip.{Flip}
+use Rattle.nand_model.specs.declared.words.Note.{Note}
+use Rattle.nand_model.specs.declared.words.Note.TheVariants.{Began, Answered}
+use Rattle.nand_model.specs.declared.words.Op.{Op}
+use Rattle.nand_model.specs.Chip.{ChipState, FaultModel, PageEvent}
+use Rattle.nand_model.specs.Operation.{Partitions, Known, Finished, device_of}
+use Rattle.nand_model.specs.ChipRun.{ChipRun, Pending, next_chip_event, advanced, attach_notes, notes_of_advance, with_pending, with_finished, finished_by}
+use Rattle.run_model.specs.Laws.{IsCalm}
+use Rattle.run_model.specs.Course.{Boot, Course, SessionRun, change_at, chip_of, next_op, session_run, pending_chip, unattached, is_pending_of, began, finish, with_answer, is_free, is_free_at, can_begin, is_idle, tear_at, with_flip, with_flips_before, event_done, event_on, event_step, event_or_answer, chip_step, begin_on, begin_at, begin_step, session_step, turn_unless, turn_step, attach_first, attach_step, replied}
+use Rattle.chip_model.specs.Stage.{stage_event, stage_of, stage_by, failure_told, finished_in, is_resting}
+use Rattle.run_laws.proofs.Places.{position_none}
+use Rattle.ctl_core.specs.KeptChip.{KeptChip, kept_as, all_kept, is_attaching, is_held_by, first_attaching, first_held_by, after_event, after_begin, after_answer, with_news_told, failure_notes, news_notes, holder_by}
+use Rattle.ctl_core.specs.Keeps.{Keeps}
+use Rattle.ctl_core.proofs.ChipSteps.{works, next_is, begun, answered, kept_advanced, failure_is, news_is}
+use Rattle.ctl_core.proofs.Positions.{position_kept, mapped_change, mapped_at}
+
+held_by_session : (session : ℕ) (k : Option Known) (p : Option Pending) → is_none k ≡ false → is_pending_of session p ≡ is_held_by session (holder_by k p)
+held_by_session session None p h = cc
+held_by_session session (Some known) None h = refl
+held_by_session session (Some known) (Some pending) h = refl
+
+holding_by : (k : Option Known) (p : Option Pending) (by : ℕ) → holder_by k p ≡ Some by → (pending : Pending) × (p ≡ Some pending) × (pending.session ≡ by)
+holding_by None p by h = cc
+holding_by (Some known) None by h = cc
+holding_by (Some known) (Some pending) by h = (pending, refl, cc)
+
+resting_by : (k : Option Known) (p : Option Pending) → is_none k ≡ false → holder_by k p ≡ None → (known : Known) × (k ≡ Some known) × (p ≡ None)
+resting_by None p h i = cc
+resting_by (Some known) None h i = (known, refl, refl)
+resting_by (Some known) (Some pending) h i = cc
+
+-- a search for a chip by what its controller keeps of it
+module _ {W : Type 0} (partitions : Partitions) where
+  attaching_by : (c : ChipRun W) (k : Option Known) (p : Option Pending) → is_none k ≡ is_attaching (stage_by partitions c k p)
+  attaching_by c None p = refl
+  attaching_by c (Some known) None = refl
+  attaching_by c (Some known) (Some pending) = refl
+
+  pub unattached_is : (course : Course W) → unattached course ≡ first_attaching (all_kept partitions course.chips)
+  unattached_is course = position_kept (λ (c : ChipRun W). is_none c.known) (λ (c : KeptChip W). is_attaching c.stage) (kept_as partitions) course.chips
+      (λ k c h. attaching_by c c.known c.pending)
+
+  pub pending_is : (course : Course W) (session : ℕ) → unattached course ≡ None → pending_chip course session ≡ first_held_by session (all_kept partitions course.chips)
+  pending_is course session h = position_kept (λ (c : ChipRun W). is_pending_of session c.pending) (λ (c : KeptChip W). is_held_by session c.holder) (kept_as partitions) course.chips
+      (λ k c e. held_by_session session c.known c.pending (position_none (λ (d : ChipRun W). is_none d.known) course.chips h k c e))
+
+  -- an attached chip that no session holds
+  pub resting : (c : ChipRun W) → is_none c.known ≡ false → (kept_as partitions c).holder ≡ None → (known : Known) × (c.known ≡ Some known) × (c.pending ≡ None)
+  resting c h i = resting_by c.known c.pending h i
+
+  -- the operation of the session that holds a chip
+  pub holding : (c : ChipRun W) (by : ℕ) → (kept_as partitions c).holder ≡ Some by → (pending : Pending) × (c.pending ≡ Some pending) × (pending.session ≡ by)
+  holding c by h = holding_by c.known c.pending by h
+
+abbrev idle_by : Bool → Option ℕ → Option ℕ → Bool → Bool
+idle_by dark first pending begins = dark || is_some first || (is_none pending && not begins)
+
+module _ {W : Type 0} (model : FaultModel W) (boot : Boot) (sizes : Command → Geometry) (course : Course W) (session : ℕ) (lit : course.dark ≡ false) (attached : unattached course ≡ None) where
+  pub busy_where_pending : (k : ℕ) → pending_chip course session ≡ Some k → is_idle boot.partitions sizes course session ≡ false
+  busy_where_pending k h = λ j. idle_by (lit j) (attached j) (h j) (can_begin boot.partitions course (next_op sizes (session_run course session)))
+
+  pub busy_where_begins : can_begin boot.partitions course (next_op sizes (session_run course session)) ≡ true → is_idle boot.partitions sizes course session ≡ false
+  busy_where_begins h = (λ j. idle_by (lit j) (attached j) (pending_chip course session) (h j)) ∙ never (is_none (pending_chip course session))
+    where
+      never : (b : Bool) → (b && false) ≡ false
+      never true = refl
+      never false = refl
+
+  pub idle_else : pending_chip course session ≡ None → can_begin boot.partitions course (next_op sizes (session_run course session)) ≡ false → is_idle boot.partitions sizes course session ≡ true
+  idle_else h i = λ j. idle_by (lit j) (attached j) (h j) (i j)
+
+  pub turn_goes_on : (k : ℕ) (c : ChipRun W) → pending_chip course session ≡ Some k → slice_get course.chips k ≡ Some c
+      → turn_step model boot sizes course session ≡ event_or_answer model boot sizes course k c (next_chip_event boot.partitions c)
+  turn_goes_on k c h at =
+      ap (λ b. turn_unless model boot b sizes course session) (busy_where_pending k h)
+      ∙ ap (session_step model boot sizes course session) h ∙ ap (chip_step model boot sizes course k) at
+
+  pub turn_begins : (k : ℕ) (c : ChipRun W) (op : Op) → pending_chip course session ≡ None → next_op sizes (session_run course session) ≡ Some op
+      → chip_of boot.partitions (device_of op) ≡ Some k → slice_get course.chips k ≡ Some c → c.pending ≡ None → turn_step model boot sizes course session ≡ began course session k op
+  turn_begins k c op h next of_chip at free =
+      ap (λ b. turn_unless model boot b sizes course session) (busy_where_begins begins)
+      ∙ ap (session_step model boot sizes course session) h
+      ∙ ap (begin_step model boot course session) next ∙ ap (begin_at model boot course session op) of_chip ∙ ap (begin_on model boot course session op k) at
+      ∙ ap (λ (p : Option Pending). if is_some p then course else began course session k op) free
+    where
+      begins : can_begin boot.partitions course (next_op sizes (session_run course session)) ≡ true
+      begins = ap (can_begin boot.partitions course) next ∙ ap (is_free_at course) of_chip ∙ ap is_free at ∙ ap (λ (p : Option Pending). is_none p) free
+
+  pub turn_is_idle : is_idle boot.partitions sizes course session ≡ true → turn_step model boot sizes course session ≡ course
+  turn_is_idle h = ap (λ b. turn_unless model boot b sizes course session) h
+
+module _ {W : Type 0} (model : FaultModel W) (boot : Boot) (calm : IsCalm boot) (sizes : Command → Geometry) (course : Course W) where
+  -- a course after the next event of a chip
+  abbrev pub after_chip_event : ℕ → ChipRun W → PageEvent → Course W
+  after_chip_event k c e = record {
+    chips = change_at course.chips k (λ old. advanced model c e);
+    sessions = course.sessions;
+    events = course.events + 1;
+    dark = false;
+    notes = course.notes ++ notes_of_advance model k (course.events + 1) c e ++ attach_notes k c (advanced model c e);
+  }
+
+  no_flips : (n : ℕ) (chips : List (ChipRun W)) → with_flips_before model boot n chips ≡ chips
+  no_flips n chips = ap (λ flips. fold (with_flip model boot) chips (filter (λ (flip : Flip). flip.before == n) flips)) calm.no_flip
+
+  pub event_is : (k : ℕ) (c : ChipRun W) (e : PageEvent) → slice_get course.chips k ≡ Some c → event_step model boot course k e ≡ after_chip_event k c e
+  event_is k c e at =
+      ap (λ chips. event_on model boot course chips k (slice_get chips k) e) (no_flips (course.events + 1) course.chips)
+      ∙ ap (λ o. event_on model boot course course.chips k o e) at
+      ∙ ap (λ cut. event_done model boot course course.chips k (course.events + 1) c e (tear_at cut (course.events + 1))) calm.no_cut
+
+  -- the first chip that is not attached has an event
+  pub attach_step_is : (k : ℕ) (c : ChipRun W) (e : PageEvent) → course.dark ≡ false → unattached course ≡ Some k → slice_get course.chips k ≡ Some c → next_chip_event boot.partitions c ≡ Some e
+      → attach_step model boot sizes course ≡ after_chip_event k c e
+  attach_step_is k c e lit first at next =
+      ap (λ b. if b then course else attach_first model boot sizes course (unattached course)) lit
+      ∙ ap (attach_first model boot sizes course) first ∙ ap (chip_step model boot sizes course k) at
+      ∙ ap (event_or_answer model boot sizes course k c) next ∙ event_is k c e at
+
+  -- a pending operation has an event
+  pub turn_event_is : (session k : ℕ) (c : ChipRun W) (e : PageEvent) → course.dark ≡ false → unattached course ≡ None → pending_chip course session ≡ Some k
+      → slice_get course.chips k ≡ Some c → next_chip_event boot.partitions c ≡ Some e → turn_step model boot sizes course session ≡ after_chip_event k c e
+  turn_event_is session k c e lit attached h at next =
+      turn_goes_on model boot sizes course session lit attached k c h at ∙ ap (event_or_answer model boot sizes course k c) next ∙ event_is k c e at
+
+  -- a pending operation is answered
+  pub turn_answer_is : (session k : ℕ) (c : ChipRun W) (known : Known) (pending : Pending) (finished : Finished) → course.dark ≡ false → unattached course ≡ None → pending_chip course session ≡ Some k
+      → slice_get course.chips k ≡ Some c → next_chip_event boot.partitions c ≡ None → c.known ≡ Some known → c.pending ≡ Some pending → finished_by boot.partitions c known pending ≡ Some finished
+      → turn_step model boot sizes course session ≡ finish sizes course k c pending.session (Some finished)
+  turn_answer_is session k c known pending finished lit attached h at next is_known is_pending over =
+      turn_goes_on model boot sizes course session lit attached k c h at ∙ ap (event_or_answer model boot sizes course k c) next
+      ∙ (λ j. with_answer boot.partitions sizes course k c (is_known j) (is_pending j)) ∙ ap (finish sizes course k c pending.session) over
+
+  -- what is kept after an event
+  pub event_kept : (kept : List (KeptChip W)) (events : ℕ) (notes : List Note) (k : ℕ) (c : ChipRun W) (e : PageEvent)
+      → Keeps boot.partitions course kept events notes → slice_get course.chips k ≡ Some c
+      → Keeps boot.partitions (after_chip_event k c e) (change_at kept k (λ x. with_news_told (after_event model e x))) (events + 1)
+        (notes ++ failure_notes k (events + 1) e (failure_told model c.chip e) ++ news_notes k (after_event model e (kept_as boot.partitions c)).news)
+  event_kept kept events notes k c e keeps at = record {
+    lit = refl;
+    of_chips = ap (λ xs. change_at xs k (λ x. with_news_told (after_event model e x))) keeps.of_chips
+        ∙ sym (mapped_change (kept_as boot.partitions) (λ old. advanced model c e) (λ x. with_news_told (after_event model e x)) course.chips k c at (kept_advanced boot.partitions model c e));
+    of_events = ap (λ n. n + 1) keeps.of_events;
+    of_notes = let failed : failure_notes k (events + 1) e (failure_told model c.chip e) ≡ notes_of_advance model k (course.events + 1) c e =
+            ap (λ n. failure_notes k (n + 1) e (failure_told model c.chip e)) keeps.of_events ∙ sym (failure_is boot.partitions model k (course.events + 1) c e) in
+        let news : news_notes k (after_event model e (kept_as boot.partitions c)).news ≡ attach_notes k c (advanced model c e) = sym (news_is boot.partitions model k c e) in
+        λ j. keeps.of_notes j ++ failed j ++ news j;
+  }
