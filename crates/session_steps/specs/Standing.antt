@@ -39,6 +39,10 @@ script_after reply tool = option_map (λ (t : Tool). after_last reply (left_of t
 abbrev pub standing : List Note → Session → Standing
 standing notes s = record { number = s.number; script = script_after (reply_at notes s.last) s.tool; outcomes = s.outcomes.items }
 
+-- where a session stands that has no last reply to hand over
+abbrev pub standing_alone : Session → Standing
+standing_alone s = record { number = s.number; script = script_after None s.tool; outcomes = s.outcomes.items }
+
 -- the outcome of a command that is over
 abbrev pub outcome_of : Option Script → List Outcome
 outcome_of None = []

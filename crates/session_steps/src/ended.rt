@@ -40,6 +40,17 @@ impl SessionEnd {
         }
     }
 
+    // The end of a session whose finished commands had these outcomes.
+    pub(crate) fn with_outcomes(session: u32, cut: bool, outcomes: Vec<Outcome>) -> SessionEnd
+        ensures { result ≡ record { session = session; cut = cut; outcomes = outcomes.items } }
+    {
+        SessionEnd {
+            session,
+            cut,
+            outcomes,
+        }
+    }
+
     /// Adds the outcome of a finished command. Where memory runs out, it is handed back and all is as before.
     pub fn push(&mut self, outcome: Outcome) -> Result<(), (Outcome, AllocError)>
         ensures ok { OnOk result (self.new ≡ with_outcome self.old outcome) }

@@ -1,5 +1,5 @@
 // A session that goes through its commands.
-ghost use Rattle.std.specs.Prelude.{◌≡◌, ℕ, [], List, length, slice_get, All, OnOk, IfOk, OnErr, option_copied};
+ghost use Rattle.std.specs.Prelude.{◌≡◌, ℕ, [], List, length, slice_get, OnOk, IfOk, OnErr, option_copied};
 ghost use Rattle.nand_model.specs.declared.geometry.Geometry.{Geometry as Sizes};
 ghost use Rattle.nand_model.specs.declared.words.Command.{Command as Ordered};
 ghost use Rattle.nand_model.specs.declared.words.Note.{Note as Noted};
@@ -8,8 +8,8 @@ ghost use Rattle.nand_model.specs.declared.words.Reply.{Reply as Replied};
 ghost use Rattle.run_model.specs.Command.{script_of};
 ghost use Rattle.run_model.specs.Course.{SessionRun, without_finished, with_reply, next_op_of, is_finished};
 ghost use Rattle.tool_steps.specs.Stage.{CanRun};
-ghost use Rattle.session_steps.specs.Mirrors.{Mirrors};
-ghost use Rattle.session_steps.specs.Standing.{standing, outcomes_by, commands_by, op_asked, put_down, begun, script_after, reply_at, end_of, number_of, IsBetween, First, IsWaiting};
+ghost use Rattle.session_steps.specs.Mirrors.{CanAllRun, Mirrors};
+ghost use Rattle.session_steps.specs.Standing.{standing, outcomes_by, commands_by, op_asked, put_down, begun, standing_alone, reply_at, end_of, number_of, IsBetween, First, IsWaiting};
 
 use crate::SessionEnd;
 use nand_iface::History;
@@ -31,7 +31,7 @@ pub struct Session {
 impl Session {
     /// A session at its start. It takes no memory.
     pub fn new(alloc: Global, number: u32) -> Session
-        ensures { (sizes : Ordered → Sizes) (commands : List Ordered) (notes : List Noted) → All (λ c. CanRun (sizes c) c) commands →
+        ensures { (sizes : Ordered → Sizes) (commands : List Ordered) (notes : List Noted) → CanAllRun sizes commands →
             Mirrors sizes commands notes result (without_finished sizes number commands [] []) }
     {
         Session {
@@ -82,7 +82,8 @@ impl Session {
             return Ok(op);
         }
         self.put_outcome_down()?;
-        self.begin(commands.get(self.outcomes.len()), g)
+        let place = self.outcomes.len();
+        self.begin(commands.get(place), g)
     }
 
     /// Tells the session that the reply to its operation is at place `at` of the notes. It takes no memory.
@@ -103,60 +104,49 @@ impl Session {
             session.put_outcome_down()?;
         }
         let Session { number, outcomes, .. } = session;
-        Ok(SessionEnd {
-            session: number,
-            cut,
-            outcomes,
-        })
+        Ok(SessionEnd::with_outcomes(number, cut, outcomes))
     }
     // The number of finished commands.
     fn finished(&self, notes: &History) -> usize
         ensures { result ≡ length (outcomes_by (standing notes.now.notes self.now)) }
     {
-        if self.tool_is_over(notes) {
+        let over = match &self.tool {
+            Some(tool) => tool.ends(last_reply(notes, self.last)),
+            None => false,
+        };
+        if over {
             self.outcomes.len() + 1
         } else {
             self.outcomes.len()
         }
     }
 
-    // The command begun last is over, with the reply that its tool may not have yet.
-    fn tool_is_over(&self, notes: &History) -> bool
-        ensures { result ≡ is_ended (standing notes.now.notes self.now).script }
-    {
-        match &self.tool {
-            Some(tool) => tool.ends(last_reply(notes, self.last)),
-            None => false,
-        }
-    }
-
-    // The tool is handed its last reply. Its operation is given again where it has had that reply; None comes exactly where no tool stands or it is over.
+    // The tool is handed its last reply, if there is one. It gives its operation; None comes exactly where no tool stands or its command is over.
     fn resume(&mut self, notes: &History) -> Result<Option<Op>, AllocError>
         ensures op { IfOk result (λ op. op ≡ op_asked (standing notes.now.notes self.old).script) }
-        ensures stands { OnOk result (standing [] self.new ≡ standing notes.now.notes self.old) }
+        ensures stands { OnOk result (standing_alone self.new ≡ standing notes.now.notes self.old) }
         ensures taken { OnOk result (self.new.last ≡ None) }
         ensures no_memory { OnErr result (self.new ≡ self.old) }
     {
         let last = last_reply(notes, self.last);
-        match &mut self.tool {
-            None => {
-                self.last = None;
-                Ok(None)
-            }
-            Some(tool) => {
-                let step = tool.next(last)?;
-                self.last = None;
-                Ok(op_of(step))
-            }
+        let Some(tool) = &mut self.tool else {
+            self.last = None;
+            return Ok(None);
+        };
+        let step = tool.next(last)?;
+        self.last = None;
+        match step {
+            Step::Do(op) => Ok(Some(op)),
+            Step::Done => Ok(None),
         }
     }
 
-    // The outcome of a tool that is over is put down, and no tool stands.
+    // The outcome of a command that is over is put down, and no tool stands.
     fn put_outcome_down(&mut self) -> Result<(), AllocError>
-        requires { IsBetween (script_after None self.old.tool) }
-        ensures done { OnOk result (standing [] self.new ≡ put_down (record { number = self.old.number; script = script_after None self.old.tool; outcomes = self.old.outcomes.items })) }
+        requires { IsBetween (standing_alone self.old).script }
+        ensures put_down { OnOk result (standing_alone self.new ≡ put_down (standing_alone self.old)) }
+        ensures no_memory { OnErr result (standing_alone self.new ≡ standing_alone self.old) }
         ensures last { self.new.last ≡ self.old.last }
-        ensures no_memory { OnErr result (self.new.tool ≡ self.old.tool) }
     {
         self.outcomes.reserve(1)?;
         if let Some(tool) = self.tool.take() {
@@ -168,6 +158,10 @@ impl Session {
     // The command is begun: its tool gives the first operation.
     fn begin(&mut self, command: &Command, g: &Geometry) -> Result<Op, AllocError>
         requires { CanRun g.now command.now }
+        ensures op { IfOk result (λ op. op_asked (Some (script_of g.now command.now)) ≡ Some op) }
+        ensures begun { OnOk result (standing_alone self.new ≡ begun (script_of g.now command.now) (standing_alone self.old)) }
+        ensures no_memory { OnErr result (standing_alone self.new ≡ standing_alone self.old) }
+        ensures last { self.new.last ≡ self.old.last }
     {
         let mut tool = Tool::start(*self.outcomes.allocator(), command, g)?;
         let step = tool.next(None)?;
@@ -176,5 +170,19 @@ impl Session {
             Step::Do(op) => Ok(op),
             Step::Done => unreachable!(),
         }
+    }
+}
+
+// The reply in the note at this place, if a place is given.
+fn last_reply(notes: &History, last: Option<usize>) -> Option<&Reply>
+    ensures { option_copied result ≡ reply_at notes.now.notes last }
+{
+    let place = last?;
+    if place >= notes.len() {
+        return None;
+    }
+    match notes.get(place) {
+        Note::Answered { reply, .. } => Some(reply),
+        _ => None,
     }
 }
