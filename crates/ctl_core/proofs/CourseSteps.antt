@@ -151,3 +151,27 @@ module _ {W : Type 0} (model : FaultModel W) (boot : Boot) (calm : IsCalm boot) 
         let news : news_notes k (after_event model e (kept_as boot.partitions c)).news ≡ attach_notes k c (advanced model c e) = sym (news_is boot.partitions model k c e) in
         λ j. keeps.of_notes j ++ failed j ++ news j;
   }
+
+  -- what is kept after an operation began
+  pub begin_kept : (kept : List (KeptChip W)) (events : ℕ) (notes : List Note) (session k : ℕ) (op : Op) (c : ChipRun W) (known : Known)
+      → Keeps boot.partitions course kept events notes → slice_get course.chips k ≡ Some c → c.known ≡ Some known → c.pending ≡ None
+      → Keeps boot.partitions (began course session k op) (change_at kept k (after_begin boot.partitions session op)) events (notes ++ Began session op ∷ [])
+  begin_kept kept events notes session k op c known keeps at is_known free = record {
+    lit = keeps.lit;
+    of_chips = ap (λ xs. change_at xs k (after_begin boot.partitions session op)) keeps.of_chips
+        ∙ sym (mapped_change (kept_as boot.partitions) (λ d. with_pending d session op) (after_begin boot.partitions session op) course.chips k c at (begun boot.partitions c known session op is_known free));
+    of_events = keeps.of_events;
+    of_notes = ap (λ zs. zs ++ Began session op ∷ []) keeps.of_notes;
+  }
+
+  -- what is kept after an operation is answered
+  pub answer_kept : (kept : List (KeptChip W)) (events : ℕ) (notes : List Note) (session k : ℕ) (c : ChipRun W) (finished : Finished)
+      → Keeps boot.partitions course kept events notes → slice_get course.chips k ≡ Some c
+      → Keeps boot.partitions (finish sizes course k c session (Some finished)) (change_at kept k (after_answer finished.known)) events (notes ++ Answered session finished.reply ∷ [])
+  answer_kept kept events notes session k c finished keeps at = record {
+    lit = keeps.lit;
+    of_chips = ap (λ xs. change_at xs k (after_answer finished.known)) keeps.of_chips
+        ∙ sym (mapped_change (kept_as boot.partitions) (λ old. with_finished c finished) (after_answer finished.known) course.chips k c at (answered boot.partitions c finished));
+    of_events = keeps.of_events;
+    of_notes = ap (λ zs. zs ++ Answered session finished.reply ∷ []) keeps.of_notes;
+  }

@@ -1,3 +1,4 @@
 pub mod ChipSteps
 pub mod Positions
 pub mod CourseSteps
+pub mod Pending
