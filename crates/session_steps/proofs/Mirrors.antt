@@ -68,6 +68,21 @@ pub next_there : (commands : List Command) (P : Command → Type 0) (st alone pu
 next_there commands P st alone put place command a p n first there =
     (first_is P (length (outcomes_by st)) commands command first (subst (λ (k : ℕ). slice_get commands k ≡ Some command) (place_of st alone put place a p n) there)).2
 
+-- an item stays at its place where others are added
+get_before : (notes more : List Note) (place : ℕ) → place < length notes → slice_get (notes ++ more) place ≡ slice_get notes place
+get_before [] more place h = absurd (omega arith)
+get_before (note ∷ notes) more zero h = refl
+get_before (note ∷ notes) more (suc place) h = get_before notes more place (omega arith)
+
+placed_later : (notes more : List Note) (last : Option ℕ) → IsPlaced (length notes) last → IsPlaced (length (notes ++ more)) last
+placed_later notes more None h = tt
+placed_later notes more (Some place) h = omega (arith, length-append notes more)
+
+-- the last reply stays where notes are added
+same_reply : (notes more : List Note) (last : Option ℕ) → IsPlaced (length notes) last → reply_at (notes ++ more) last ≡ reply_at notes last
+same_reply notes more None h = refl
+same_reply notes more (Some place) h = ap reply_in (get_before notes more place h)
+
 module _ (sizes : Command → Geometry) (commands : List Command) where
   -- a session with no last reply mirrors what it shows
   pub mirrors_alone : (notes : List Note) (s : Session) (run : SessionRun) → CanAllRun sizes commands → s.last ≡ None → Shows sizes commands (standing_alone s) run → Mirrors sizes commands notes s run
@@ -123,6 +138,15 @@ module _ (sizes : Command → Geometry) (commands : List Command) where
   next_mirrors (Err x) notes old mid new run g place command alone mirrors a p n none sized runs there ok err last =
       mirrors_alone notes new run mirrors.runnable last (subst (λ (st : Standing). Shows sizes commands st run) (sym (err ∙ p ∙ ap put_down a))
       (shows_put_down sizes commands (standing notes old) run (between (standing notes old).script none) mirrors.shows))
+
+  -- a session mirrors the same run where notes are added
+  pub mirrors_later : (notes more : List Note) (s : Session) (run : SessionRun) → Mirrors sizes commands notes s run → Mirrors sizes commands (notes ++ more) s run
+  mirrors_later notes more s run mirrors = record {
+    runnable = mirrors.runnable;
+    placed = placed_later notes more s.last mirrors.placed;
+    shows = subst (λ (r : Option Reply). Shows sizes commands (record { number = s.number; script = script_after r s.tool; outcomes = s.outcomes.items }) run)
+        (sym (same_reply notes more s.last mirrors.placed)) mirrors.shows;
+  }
 
 -- the operation with which the next command begins is the next one of the session of the course
 pub next_op_if : {E : Type 0} (result : Result Op E) (commands : List Command) (notes : List Note) (old : Session) (alone put : Standing) (g : Geometry) (place : ℕ) (command : Command)
