@@ -16,6 +16,17 @@ use Rattle.session_steps.specs.Standing.{Standing, outcome_of, outcomes_by, comm
 use Rattle.session_steps.specs.Mirrors.{GoesOn, CanAllRun, Shows}
 use Rattle.session_steps.proofs.Scripts.{before, within, none_finished, not_finished, one_finished, an_op}
 
+some_is : (x y : Command) → Some x ≡ Some y → x ≡ y
+some_is x y e = cc
+
+-- the first of some commands
+pub first_is : (P : Command → Type 0) (n : ℕ) (xs : List Command) (command : Command) → First P (drop n xs) → slice_get xs n ≡ Some command
+    → (rest : List Command) × (drop n xs ≡ command ∷ rest) × P command
+first_is P zero [] command h e = absurd h
+first_is P zero (x ∷ xs) command h e = (xs, ap (λ (y : Command). y ∷ xs) (some_is x command e), subst P (some_is x command e) h)
+first_is P (suc n) [] command h e = absurd h
+first_is P (suc n) (x ∷ xs) command h e = first_is P n xs command h e
+
 module _ (sizes : Command → Geometry) (commands : List Command) where
   -- between two commands there is no reply
   no_reply : (left : List Command) (replies : List Reply) (script : Option Script) → IsBetween script → GoesOn sizes left replies script → replies ≡ []
@@ -42,6 +53,11 @@ module _ (sizes : Command → Geometry) (commands : List Command) where
       true-not-false : true ≡ false → ⊥
       true-not-false e = cc
 
+  -- a session at its start
+  pub shows_new : (number : ℕ) → CanAllRun sizes commands → Shows sizes commands (record { number = number; script = None; outcomes = [] }) (without_finished sizes number commands [] [])
+  shows_new number runnable = subst (Shows sizes commands (record { number = number; script = None; outcomes = [] })) (sym (none_finished sizes number commands [] runnable))
+      (record { number = refl; outcomes = refl; left = refl; goes_on = refl })
+
   -- the first command is begun
   begins : (run : SessionRun) (number : ℕ) (outcomes : List Outcome) (command : Command) (rest : List Command) (op : Op) (go_on : Reply → Script)
       → run.number ≡ number → run.outcomes ≡ outcomes ++ [] → run.commands ≡ drop (length (outcomes ++ [])) commands → run.replies ≡ [] → run.commands ≡ command ∷ rest
@@ -54,6 +70,20 @@ module _ (sizes : Command → Geometry) (commands : List Command) where
     goes_on = subst (λ (cs : List Command). GoesOn sizes cs run.replies (Some (Ask op go_on))) (sym first)
         (subst (λ (rs : List Reply). Ask op go_on ≡ after_replies rs (script_of (sizes command) command)) (sym r) (sym asks));
   }
+
+  -- the next command is begun
+  pub shows_begun : (st : Standing) (run : SessionRun) (g : Geometry) (command : Command) → Shows sizes commands st run → IsBetween st.script
+      → First (λ c. sizes c ≡ g) run.commands → CanRun g command → slice_get commands (length (outcomes_by st)) ≡ Some command
+      → Shows sizes commands (begun (script_of g command) (put_down st)) run
+  shows_begun st run g command shows h sized runs there =
+      let sized_first : First (λ c. sizes c ≡ g) (commands_by commands st) = subst (First (λ c. sizes c ≡ g)) shows.left sized in
+      let first : (rest : List Command) × (commands_by commands st ≡ command ∷ rest) × (sizes command ≡ g) =
+          first_is (λ c. sizes c ≡ g) (length (outcomes_by st)) commands command sized_first there in
+      let asks : (op : Op) × (go_on : Reply → Script) × (script_of g command ≡ Ask op go_on) = script_asks g command runs (script_of g command) refl in
+      let put : Shows sizes commands (put_down st) run = shows_put_down st run h shows in
+      subst (λ (script : Script). Shows sizes commands (begun script (put_down st)) run) (sym asks.2)
+      (begins run st.number (outcomes_by st) command first.0 asks.0 asks.1 put.number put.outcomes put.left put.goes_on (shows.left ∙ first.1)
+      (ap (λ (k : Geometry). script_of k command) first.2 ∙ asks.2))
 
   -- the commands after the first one
   drop_first : (n : ℕ) (xs : List Command) (command : Command) (rest : List Command) → command ∷ rest ≡ drop n xs → rest ≡ drop (suc n) xs

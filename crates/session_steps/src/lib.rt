@@ -2,7 +2,9 @@
 #![tactic(auto)]
 
 mod ended;
+mod laws;
 mod session;
 
 pub use ended::{OutcomeList, SessionEnd, StatsList};
+pub use laws::notes_leave_sessions;
 pub use session::Session;

@@ -53,7 +53,7 @@ impl Session {
     pub fn is_over(&self, commands: &ItemList<Command>, notes: &History) -> bool
         ensures { result ≡ is_finished (commands_by commands.now (standing notes.now.notes self.now)) }
     {
-        self.finished(notes) >= commands.len()
+        self.next_command(commands, notes).is_none()
     }
 
     /// Lends the first command that is not finished, of which the next operation is. None comes exactly where all are. It takes no memory.
@@ -164,10 +164,11 @@ impl Session {
         ensures last { self.new.last ≡ self.old.last }
     {
         let mut tool = Tool::start(*self.outcomes.allocator(), command, g)?;
-        let step = tool.next(None)?;
-        self.tool = Some(tool);
-        match step {
-            Step::Do(op) => Ok(op),
+        match tool.next(None)? {
+            Step::Do(op) => {
+                self.tool = Some(tool);
+                Ok(op)
+            }
             Step::Done => unreachable!(),
         }
     }
