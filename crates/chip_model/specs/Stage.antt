@@ -94,6 +94,12 @@ finished_in (Attaches left quiet) = None
 finished_in (Rests known) = None
 finished_in (Works known left) = result_of left
 
+-- whether a chip is attached
+abbrev pub is_attached : Stage → Bool
+is_attached (Attaches left quiet) = false
+is_attached (Rests known) = true
+is_attached (Works known left) = true
+
 -- whether an operation is in flight
 abbrev pub is_working : Stage → Bool
 is_working (Attaches left quiet) = false
