@@ -2,3 +2,5 @@ pub mod ChipSteps
 pub mod Positions
 pub mod CourseSteps
 pub mod Pending
+pub mod Places
+pub mod Sessions

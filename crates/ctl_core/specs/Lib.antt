@@ -1,3 +1,4 @@
 pub mod Past
 pub mod KeptChip
 pub mod Keeps
+pub mod Sessions

@@ -1,0 +1,26 @@
+-- The sessions of a controller, beside those of the course that it is on.
+use Rattle.std.specs.Prelude.{◌≡◌, ℕ, ◌<◌, List, length, slice_get, Option, Some}
+use Rattle.nand_model.specs.declared.geometry.Geometry.{Geometry}
+use Rattle.nand_model.specs.declared.words.Command.{Command}
+use Rattle.nand_model.specs.declared.words.Note.{Note}
+use Rattle.run_model.specs.Course.{SessionRun}
+use Rattle.session_steps.specs.declared.session.Session.{Session}
+use Rattle.session_steps.specs.Standing.{number_of, IsWaiting}
+use Rattle.session_steps.specs.Mirrors.{Mirrors}
+use Rattle.ctl_core.specs.KeptChip.{KeptChip}
+
+-- the numbers of a boot's sessions ascend
+abbrev pub AreAscending : List (ℕ × List Command) → Type 0
+AreAscending begun = (i j : ℕ) (a b : ℕ × List Command) → i < j → slice_get begun i ≡ Some a → slice_get begun j ≡ Some b → a.0 < b.0
+
+-- each session of a controller mirrors the one at its place in the course
+pub record SessionsMirror (sizes : Command → Geometry) (begun : List (ℕ × List Command)) (notes : List Note) (sessions : List Session) (runs : List SessionRun) : Type 0 where
+  pub many : length sessions ≡ length begun
+  pub runs_many : length runs ≡ length begun
+  pub each : (i : ℕ) (b : ℕ × List Command) (s : Session) (run : SessionRun) → slice_get begun i ≡ Some b → slice_get sessions i ≡ Some s → slice_get runs i ≡ Some run
+      → (number_of s ≡ b.0) × Mirrors sizes b.1 notes s run
+
+-- each session that holds a chip waits for a reply
+abbrev pub HoldersWait : {W : Type 0} → List (KeptChip W) → List Session → Type 0
+HoldersWait {W} chips sessions =
+    (k i : ℕ) (c : KeptChip W) (s : Session) → slice_get chips k ≡ Some c → slice_get sessions i ≡ Some s → c.holder ≡ Some (number_of s) → IsWaiting s
