@@ -4,3 +4,4 @@ pub mod CourseSteps
 pub mod Pending
 pub mod Places
 pub mod Sessions
+pub mod Turns

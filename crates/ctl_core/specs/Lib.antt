@@ -2,3 +2,4 @@ pub mod Past
 pub mod KeptChip
 pub mod Keeps
 pub mod Sessions
+pub mod Follows

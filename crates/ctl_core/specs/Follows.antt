@@ -1,0 +1,15 @@
+-- A controller beside the course that it is on.
+use Rattle.std.specs.Prelude.{ℕ, List}
+use Rattle.nand_model.specs.Chip.{ChipState}
+use Rattle.nand_model.specs.declared.words.Note.{Note}
+use Rattle.run_model.specs.Course.{Boot, Course, sizes_of}
+use Rattle.session_steps.specs.declared.session.Session.{Session}
+use Rattle.ctl_core.specs.KeptChip.{KeptChip}
+use Rattle.ctl_core.specs.Keeps.{Keeps}
+use Rattle.ctl_core.specs.Sessions.{SessionsMirror, HoldersWait}
+
+-- chips, events, notes and sessions are those of a course
+pub record Follows {W : Type 0} (boot : Boot) (starts : List (ChipState W)) (course : Course W) (chips : List (KeptChip W)) (events : ℕ) (notes : List Note) (sessions : List Session) : Type 0 where
+  pub keeps : Keeps boot.partitions course chips events notes
+  pub mirrors : SessionsMirror (sizes_of boot starts) boot.sessions notes sessions course.sessions
+  pub wait : HoldersWait chips sessions
