@@ -1,12 +1,10 @@
 -- What a controller did so far in a boot, and the course that follows from it.
-use Rattle.std.specs.Prelude.{◌≡◌, ℕ, ◌+◌, Bool, true, false, ◌==◌, if◌then◌else◌, List, [], ◌∷◌, ◌++◌, length, map, find, slice_get, Option, Some, None, is_some, is_none}
+use Rattle.std.specs.Prelude.{ℕ, ◌+◌, Bool, true, List, [], ◌∷◌, ◌++◌, map, slice_get, Option, Some, None}
 use Rattle.nand_model.specs.Chip.{ChipState, FaultModel}
-use Rattle.nand_model.specs.Operation.{Partitions, device_of}
 use Rattle.nand_model.specs.ChipRun.{ChipRun, Pending}
 use Rattle.nand_model.specs.declared.geometry.Geometry.{Geometry}
 use Rattle.nand_model.specs.declared.words.Command.{Command}
-use Rattle.nand_model.specs.declared.words.Op.{Op}
-use Rattle.run_model.specs.Course.{Boot, Course, SessionRun, chip_of, session_run, next_op, pending_chip, is_finished, course_after, sizes_of}
+use Rattle.run_model.specs.Course.{Boot, Course, SessionRun, session_run, is_finished, course_after, sizes_of}
 
 -- a controller's boot, the flashes with which it was started, the number of its attach steps, and the sessions whose turns did something, in order
 pub record Past (F : Type 0) : Type 0 where
@@ -48,7 +46,7 @@ has_no_command (Some s) = is_finished s.commands
 abbrev pub is_done : {W : Type 0} → Course W → ℕ → Bool
 is_done course session = has_no_command (session_run course session)
 
--- the session that has a pending operation on a chip
+-- the session of a pending operation
 abbrev pub session_of : Option Pending → Option ℕ
 session_of None = None
 session_of (Some pending) = Some pending.session
@@ -57,20 +55,7 @@ abbrev pub session_on : {W : Type 0} → Option (ChipRun W) → Option ℕ
 session_on None = None
 session_on (Some c) = session_of c.pending
 
+-- the session that has an operation pending on a chip
 abbrev pub session_at : {W : Type 0} → Course W → Option ℕ → Option ℕ
 session_at course None = None
 session_at course (Some k) = session_on (slice_get course.chips k)
-
--- the session that has a pending operation on the chip of an operation
-abbrev pub session_in_way : {W : Type 0} → Partitions → Course W → Option Op → Option ℕ
-session_in_way partitions course None = None
-session_in_way partitions course (Some op) = session_at course (chip_of partitions (device_of op))
-
-abbrev pub unless_pending : Option ℕ → Option ℕ → Option ℕ
-unless_pending None by = by
-unless_pending (Some k) by = None
-
--- the session that holds another one up: this one has nothing pending, and that one has an operation pending on the chip of this one's next operation
-abbrev pub held_by : {W : Type 0} → Partitions → (Command → Geometry) → Course W → ℕ → Option ℕ
-held_by partitions sizes course session =
-    unless_pending (pending_chip course session) (session_in_way partitions course (next_op sizes (session_run course session)))

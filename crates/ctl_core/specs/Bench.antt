@@ -1,0 +1,47 @@
+-- What a controller keeps, as its course has it.
+use Rattle.std.specs.Prelude.{◌≡◌, ℕ, List, [], map, slice_get, Option, Some, None, option_and_then}
+use Rattle.nand_iface.specs.declared.flash.Flash.{Ghosts}
+use Rattle.nand_model.specs.Chip.{ChipState, PageEvent}
+use Rattle.run_model.specs.Course.{Course, unattached, course_after}
+use Rattle.run_model.specs.Laws.{IsCalm}
+use Rattle.run_laws.specs.Turns.{busy_turns}
+use Rattle.chip_core.specs.Chip.{chip_state, chip_stage, chip_news}
+use Rattle.chip_model.specs.Stage.{stage_event}
+use Rattle.ctl_core.specs.declared.bench.Slot.{Slot}
+use Rattle.ctl_core.specs.declared.bench.Bench.{Bench}
+use Rattle.ctl_core.specs.declared.journal.Journal.{Journal}
+use Rattle.ctl_core.specs.KeptChip.{KeptChip}
+use Rattle.ctl_core.specs.Follows.{Follows}
+use Rattle.ctl_core.specs.Past.{Past, starts_of, course_of}
+use Rattle.ctl_core.specs.Start.{CanStart}
+
+-- a chip in its slot
+abbrev pub kept_slot : {F : Type 0} {flash : Ghosts F} → Slot F flash → KeptChip flash.FaultState
+kept_slot slot = record { state = chip_state slot.chip; stage = chip_stage slot.chip; news = chip_news slot.chip; holder = slot.holder }
+
+-- the chips in their slots
+abbrev pub kept_chips : {F : Type 0} {flash : Ghosts F} → Bench F flash → List (KeptChip flash.FaultState)
+kept_chips bench = map kept_slot bench.slots.items
+
+-- the next event of a chip in its slot
+abbrev pub event_at : {F : Type 0} {flash : Ghosts F} → Bench F flash → ℕ → Option PageEvent
+event_at {F} {flash} bench k = option_and_then (λ (c : KeptChip flash.FaultState). stage_event c.stage) (slice_get (kept_chips bench) k)
+
+-- a bench stands where a course does
+abbrev pub StandsAt : {F : Type 0} {flash : Ghosts F} → Past F → Course flash.FaultState → Bench F flash → Type 0
+StandsAt {F} {flash} past course bench =
+    Follows past.boot (starts_of flash.state past) course (kept_chips bench) bench.events bench.notes.notes bench.sessions.items
+
+-- what was done so far
+abbrev pub past_of : {F : Type 0} → Journal F → Past F
+past_of journal = record { boot = journal.boot; started = journal.started.value; attaches = journal.attaches; turns = journal.turns.items }
+
+-- a bench stands where its controller's past has led: chips are attached before any turn, each attach step did an event, and each turn of the list did something
+pub record IsOnCourse {F : Type 0} {flash : Ghosts F} (past : Past F) (bench : Bench F flash) : Type 0 where
+  pub conditions : CanStart past.boot (starts_of flash.state past)
+  pub calm : IsCalm past.boot
+  pub stands : StandsAt past (course_of flash.fault_model flash.state past) bench
+  pub attached_first : (k : ℕ) → unattached (course_of flash.fault_model flash.state past) ≡ Some k → past.turns ≡ []
+  pub attach_events : (course_after flash.fault_model past.boot (starts_of flash.state past) past.attaches []).events ≡ past.attaches
+  pub all_busy : busy_turns flash.fault_model past.boot (starts_of flash.state past) past.turns
+      (course_after flash.fault_model past.boot (starts_of flash.state past) past.attaches []) ≡ past.turns
