@@ -1,6 +1,7 @@
 -- Sessions and the sessions of a course that they mirror.
 use Rattle.std.proofs.Common.{◌≡◌, ℕ, zero, suc, ◌+◌, ◌<◌, ◌≤◌, Bool, true, false, nat_le, List, [], ◌∷◌, ◌++◌, length, drop, Option, Some, None, Result, Ok, Err, OnOk, OnErr, IfOk, refl, sym, ap, ◌∙◌, subst, arith, append-nil, length-append, slice_get, not, is_some, option_copied, Bor}
 use Rattle.std.specs.Prelude.{⊤}
+use Rattle.std.proofs.lemmas.List.Elements.{All-drop}
 use Rattle.std.proofs.lemmas.Option.{slice_get_within}
 use Rattle.nand_model.specs.declared.geometry.Geometry.{Geometry}
 use Rattle.nand_model.specs.declared.words.Command.{Command}
@@ -139,6 +140,20 @@ module _ (sizes : Command → Geometry) (commands : List Command) where
       mirrors_alone notes new run mirrors.runnable last (subst (λ (st : Standing). Shows sizes commands st run) (sym (err ∙ p ∙ ap put_down a))
       (shows_put_down sizes commands (standing notes old) run (between (standing notes old).script none) mirrors.shows))
 
+  -- the commands that are left can be run
+  pub left_runs : (notes : List Note) (s : Session) (run : SessionRun) → Mirrors sizes commands notes s run → CanAllRun sizes run.commands
+  left_runs notes s run mirrors =
+      subst (CanAllRun sizes) (sym mirrors.shows.left) (All-drop (λ c. CanRun (sizes c) c) (length (outcomes_by (standing notes s))) commands mirrors.runnable)
+
+  -- the next command can be run with its own sizes
+  pub next_runs : (notes : List Note) (s : Session) (run : SessionRun) (g : Geometry) → Mirrors sizes commands notes s run → First (λ c. sizes c ≡ g) run.commands
+      → First (CanRun g) (commands_by commands (standing notes s))
+  next_runs notes s run g mirrors sized = subst (First (CanRun g)) mirrors.shows.left (by_commands run.commands (left_runs notes s run mirrors) sized)
+    where
+      by_commands : (left : List Command) → CanAllRun sizes left → First (λ c. sizes c ≡ g) left → First (CanRun g) left
+      by_commands [] h sized = absurd sized
+      by_commands (command ∷ left) h sized = subst (λ (k : Geometry). CanRun k command) sized (h 0 command (omega arith))
+
   -- a session mirrors the same run where notes are added
   pub mirrors_later : (notes more : List Note) (s : Session) (run : SessionRun) → Mirrors sizes commands notes s run → Mirrors sizes commands (notes ++ more) s run
   mirrors_later notes more s run mirrors = record {
@@ -154,7 +169,7 @@ pub next_op_if : {E : Type 0} (result : Result Op E) (commands : List Command) (
     → op_asked (standing notes old).script ≡ None → CanRun g command → slice_get commands place ≡ Some command
     → IfOk result (λ op. op_asked (Some (script_of g command)) ≡ Some op)
     → IfOk result (λ op. (sizes : Command → Geometry) (run : SessionRun) → Mirrors sizes commands notes old run → First (λ c. sizes c ≡ g) run.commands
-        → next_op_of sizes run.commands run.replies ≡ Some op)
+    → next_op_of sizes run.commands run.replies ≡ Some op)
 next_op_if (Err e) commands notes old alone put g place command a p n none runs there asks = tt
 next_op_if (Ok op) commands notes old alone put g place command a p n none runs there asks = λ sizes run mirrors sized.
     shows_op sizes commands (begun (script_of g command) put) run op

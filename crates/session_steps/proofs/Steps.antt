@@ -78,7 +78,7 @@ module _ (sizes : Command → Geometry) (commands : List Command) where
   shows_begun st run g command shows h sized runs there =
       let sized_first : First (λ c. sizes c ≡ g) (commands_by commands st) = subst (First (λ c. sizes c ≡ g)) shows.left sized in
       let first : (rest : List Command) × (commands_by commands st ≡ command ∷ rest) × (sizes command ≡ g) =
-          first_is (λ c. sizes c ≡ g) (length (outcomes_by st)) commands command sized_first there in
+      first_is (λ c. sizes c ≡ g) (length (outcomes_by st)) commands command sized_first there in
       let asks : (op : Op) × (go_on : Reply → Script) × (script_of g command ≡ Ask op go_on) = script_asks g command runs (script_of g command) refl in
       let put : Shows sizes commands (put_down st) run = shows_put_down st run h shows in
       subst (λ (script : Script). Shows sizes commands (begun script (put_down st)) run) (sym asks.2)
@@ -134,7 +134,7 @@ module _ (sizes : Command → Geometry) (commands : List Command) where
       by_commands [] e g = absurd g
       by_commands (command ∷ rest) e g =
           let script : go_on reply ≡ after_replies (run.replies ++ reply ∷ []) (script_of (sizes command) command) =
-              ap (after_replies (reply ∷ [])) g ∙ sym (after_replies-append run.replies (reply ∷ []) (script_of (sizes command) command)) in
+          ap (after_replies (reply ∷ [])) g ∙ sym (after_replies-append run.replies (reply ∷ []) (script_of (sizes command) command)) in
           subst (λ (cs : List Command). Shows sizes commands (at number outcomes (go_on reply)) (without_finished sizes run.number cs (run.replies ++ reply ∷ []) run.outcomes)) (sym e)
           (by_script command rest e (go_on reply) script)
 

@@ -6,5 +6,5 @@ mod laws;
 mod session;
 
 pub use ended::{OutcomeList, SessionEnd, StatsList};
-pub use laws::notes_leave_sessions;
+pub use laws::{next_operations_are_raw, notes_leave_sessions};
 pub use session::Session;

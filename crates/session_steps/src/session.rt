@@ -57,7 +57,11 @@ impl Session {
     }
 
     /// Lends the first command that is not finished, of which the next operation is. None comes exactly where all are. It takes no memory.
-    pub fn next_command<'a>(&self, commands: &'a ItemList<Command>, notes: &History) -> Option<&'a Command>
+    pub fn next_command<'a>(
+        &self,
+        commands: &'a ItemList<Command>,
+        notes: &History,
+    ) -> Option<&'a Command>
         ensures { option_copied result ≡ slice_get (commands_by commands.now (standing notes.now.notes self.now)) 0 }
     {
         let finished = self.finished(notes);
@@ -70,7 +74,12 @@ impl Session {
 
     /// The next operation, of the first command that is not finished; `g` are the sizes of that command's chip. The session stays where it stands,
     /// also where memory runs out, so that the call may be repeated before the reply comes.
-    pub fn next_op(&mut self, commands: &ItemList<Command>, g: &Geometry, notes: &History) -> Result<Op, AllocError>
+    pub fn next_op(
+        &mut self,
+        commands: &ItemList<Command>,
+        g: &Geometry,
+        notes: &History,
+    ) -> Result<Op, AllocError>
         requires { First (CanRun g.now) (commands_by commands.now (standing notes.now.notes self.old)) }
         ensures op { IfOk result (λ op. (sizes : Ordered → Sizes) (run : SessionRun) → Mirrors sizes commands.now notes.now.notes self.old run →
             First (λ c. sizes c ≡ g.now) run.commands → next_op_of sizes run.commands run.replies ≡ Some op) }
@@ -103,9 +112,14 @@ impl Session {
         if session.resume(notes)?.is_none() {
             session.put_outcome_down()?;
         }
-        let Session { number, outcomes, .. } = session;
+        let Session {
+            number,
+            outcomes,
+            ..
+        } = session;
         Ok(SessionEnd::with_outcomes(number, cut, outcomes))
     }
+
     // The number of finished commands.
     fn finished(&self, notes: &History) -> usize
         ensures { result ≡ length (outcomes_by (standing notes.now.notes self.now)) }
@@ -185,5 +199,108 @@ fn last_reply(notes: &History, last: Option<usize>) -> Option<&Reply>
     match notes.get(place) {
         Note::Answered { reply, .. } => Some(reply),
         _ => None,
+    }
+}
+
+#[cfg(test)]
+mod tests {
+    use super::*;
+    use nand_model::{BadMode, Bytes, PageKind, PageRead};
+    use std::test::Fail;
+
+    // `isbad` of a block, and then `nanddump` of the first page.
+    fn commands(alloc: Global) -> Result<ItemList<Command>, Fail> {
+        let mut commands = ItemList::new(alloc);
+        let asking = Command::IsBad {
+            dev: 3,
+            blocks: 16,
+            block: 5,
+        };
+        let dumping = Command::NandDump {
+            dev: 3,
+            blocks: 16,
+            off: 0,
+            len: 2048,
+            raw: true,
+            oob: false,
+            bad: BadMode::DumpBad,
+        };
+        commands.push(asking).map_err(|_e| "memory")?;
+        commands.push(dumping).map_err(|_e| "memory")?;
+        Ok(commands)
+    }
+
+    fn answered(notes: &mut History, reply: Reply) -> Result<usize, Fail> {
+        let place = notes.len();
+        notes.reserve(1)?;
+        notes.push(Note::Answered { session: 7, reply });
+        Ok(place)
+    }
+
+    #[test]
+    fn goes_through_two_commands(rt: HostRuntime) -> Result<(), Fail> {
+        let alloc = rt.alloc();
+        let g = Geometry::new(2048, 64, 64, 16, 4, 0, 0)
+            .ok()
+            .ok_or("sizes")?;
+        let commands = commands(alloc)?;
+        let mut notes = History::new(alloc);
+        let mut session = Session::new(alloc, 7);
+        assert_eq!(rt; session.number(), 7);
+
+        let op = session.next_op(&commands, &g, &notes)?;
+        assert!(rt; matches!(op, Op::IsBad { dev: 3, block: 5 }));
+        let again = session.next_op(&commands, &g, &notes)?;
+        assert!(rt; matches!(again, Op::IsBad { dev: 3, block: 5 }));
+        session.replied(answered(&mut notes, Reply::State(0))?);
+        assert!(rt; !session.is_over(&commands, &notes));
+        let next = session.next_command(&commands, &notes);
+        assert!(rt; matches!(next, Some(Command::NandDump { .. })));
+
+        let op = session.next_op(&commands, &g, &notes)?;
+        assert!(rt; matches!(op, Op::RawRead { dev: 3, page: 0 }));
+        let reply = Reply::Page {
+            kind: PageKind::Raw,
+            read: PageRead {
+                corrected: 0,
+                greatest: 0,
+                failed: 0,
+            },
+            image: Bytes::filled(alloc, 0xff, 2112)?,
+        };
+        session.replied(answered(&mut notes, reply)?);
+        assert!(rt; session.is_over(&commands, &notes));
+        assert!(rt; session.next_command(&commands, &notes).is_none());
+
+        let ended = session.finish(&notes, false)?;
+        assert_eq!(rt; ended.session(), 7);
+        assert!(rt; !ended.cut());
+        assert_eq!(rt; ended.len(), 2);
+        let asked = ended.get(0);
+        assert!(rt;
+            matches!(
+                asked,
+                Outcome::IsBad {
+                    reply: Reply::State(0)
+                }
+            )
+        );
+        let dumped = ended.get(1);
+        assert!(rt;
+            matches!(
+                dumped,
+                Outcome::NandDump {
+                    pages: 1,
+                    bad: 0,
+                    corrected: 0,
+                    failed: 0,
+                    ..
+                }
+            )
+        );
+        if let Outcome::NandDump { dump, .. } = dumped {
+            assert_eq!(rt; dump.as_slice().len(), 2048);
+        }
+        Ok(())
     }
 }
