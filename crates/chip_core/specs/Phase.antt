@@ -43,6 +43,6 @@ programs_left (Working task) = programs_of task
 
 -- the attach that a note is still to be handed out of, with its states
 abbrev pub news_in : Phase → Option (List ℕ) → Option (Bool × Attaching)
-news_in (IsAttaching scan) note = None
-news_in Resting note = option_map (λ states. (true, attached_by_markers states)) note
-news_in (Working task) note = option_map (λ states. (true, attached_by_markers states)) note
+news_in (IsAttaching scan) _ = None
+news_in Resting states = option_map (λ s. (true, attached_by_markers s)) states
+news_in (Working task) states = option_map (λ s. (true, attached_by_markers s)) states

@@ -10,6 +10,7 @@ use Rattle.chip_model.specs.Stage.{failure_told, path_after}
 use Rattle.nand_iface.specs.Flash.{FitsPage}
 use Rattle.nand_model.specs.declared.geometry.Geometry.{Geometry}
 use Rattle.nand_model.specs.declared.words.Fairness.{Fairness}
+use Rattle.nand_model.specs.declared.words.Fairness.TheVariants.{Plain}
 use Rattle.nand_model.specs.declared.words.Reply.TheVariants.{BadBlock, MarkerByte, ProgramFailed, EraseFailed}
 use Rattle.nand_model.specs.declared.words.Op.{Op}
 use Rattle.chip_core.specs.declared.table.Table.{Table}
@@ -50,10 +51,14 @@ programs_of (Programming page image) = 1
 programs_of (Erasing block) = 0
 programs_of (Ended reply) = 0
 
--- a task stands for the whole path of an operation on a chip with this table, and fits the chip
-pub record Begins (table : Table) (partitions : Partitions) (op : Op) (task : Task) : Type 0 where
-  pub path : (k : Known) → k.table ≡ table.states → task_left k task ≡ operation_path table.geometry partitions k op
+-- a task stands for this path on a chip with this table, and fits the chip
+pub record Follows (table : Table) (path : Known → Path Finished) (task : Task) : Type 0 where
+  pub follows : (k : Known) → k.table ≡ table.states → task_left k task ≡ path k
   pub fits : TaskFits table.geometry task
+
+-- a task stands for the whole path of an operation
+abbrev pub Begins : Table → Partitions → Op → Task → Type 0
+Begins table partitions op task = Follows table (λ k. operation_path table.geometry partitions k op) task
 
 -- a raw write into a page of the chip: a bad block is refused before a marker byte in the image
 abbrev pub program_path : Geometry → Known → ℕ → List ℕ → Path Finished
@@ -67,4 +72,5 @@ pub record Advances {W : Type 0} (model : FaultModel W) (before after : ChipStat
   pub state : after ≡ happens model before (Complete e)
   pub left : (k : Known) → task_left k new ≡ path_after (answer_to model before e) (task_left k old)
   pub told : failure ≡ failure_told model before e
+  pub plain : IfSome failure (λ fairness. fairness ≡ Plain)
   pub risen : IfSome failure (λ fairness. HasRisen before.faults after.faults)

@@ -6,7 +6,7 @@ ghost use Rattle.nand_model.specs.Counts.{HasRisen};
 ghost use Rattle.nand_model.specs.Path.{Data, answer_to, is_failure};
 ghost use Rattle.nand_model.specs.Quiet.{is_quiet};
 ghost use Rattle.nand_model.specs.declared.words.Fairness.TheVariants.{Plain};
-ghost use Rattle.chip_model.specs.Stage.{Rests, failure_told, finished_in, first_stage, is_resting, is_working, news_after, note_of_news, stage_after, stage_begun, stage_event, stage_statistics, stage_table};
+ghost use Rattle.chip_model.specs.Stage.{Rests, failure_told, finished_in, first_stage, is_attached, is_resting, is_working, news_after, note_of_news, stage_after, stage_begun, stage_event, stage_statistics, stage_table};
 ghost use Rattle.chip_core.specs.Begin.{CanBegin};
 ghost use Rattle.chip_core.specs.Calm.{HasNoFlips};
 ghost use Rattle.chip_core.specs.Phase.{PhaseFits, PhaseFits-prop, ScanFits, news_in, phase_stage, programs_left};
@@ -19,7 +19,7 @@ use crate::table::Table;
 use crate::task::Task;
 use mtd_part::Parts;
 use nand_iface::{Event, Fairness, Flash, Note, Op, Origin, Reply, Stats};
-use nand_model::Bytes;
+use nand_model::{Bytes, Geometry};
 use std::alloc::{AllocError, Global};
 use std::mem;
 
@@ -68,6 +68,13 @@ impl<F: Flash> Chip<F> {
         })
     }
 
+    /// The sizes of the chip.
+    pub fn geometry(&self) -> Geometry
+        ensures { result ≡ (chip_state self.now).geometry }
+    {
+        self.table.geometry
+    }
+
     /// The next event of the attach or of the operation in flight. None comes exactly where neither has an event left.
     pub fn next_event(&self) -> Option<Event>
         ensures { result ≡ option_map name_of (stage_event (chip_stage self.now)) }
@@ -114,6 +121,13 @@ impl<F: Flash> Chip<F> {
             quiet: true,
             states,
         })
+    }
+
+    /// Whether attaching is over.
+    pub fn is_attached(&self) -> bool
+        ensures { result ≡ is_attached (chip_stage self.now) }
+    {
+        !matches!(self.phase, Phase::Attaching(_))
     }
 
     /// Whether an operation is in flight.

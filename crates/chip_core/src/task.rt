@@ -1,17 +1,18 @@
 // What is left of an operation.
-ghost use Rattle.std.specs.Prelude.{◌≡◌, ◌≤◌, ◌<◌, ◌+◌, ◌/◌, ◌==◌, length, None, option_map, slice_index, IsSome, IfSome, IfOk};
+ghost use Rattle.std.specs.Prelude.{◌≡◌, ◌≤◌, ◌<◌, ◌+◌, ◌/◌, ◌==◌, length, option_map, slice_index, IsSome, IfSome, IfOk};
 ghost use Rattle.nand_iface.specs.Flash.{FitsPage};
 ghost use Rattle.nand_model.specs.Chip.{Complete, EraseEvent, ProgramEvent, happens};
 ghost use Rattle.nand_model.specs.ChipRun.{name_of};
 ghost use Rattle.nand_model.specs.Counts.{HasRisen};
-ghost use Rattle.nand_model.specs.Operation.{Known, done_or, raw_reply};
+ghost use Rattle.nand_model.specs.Operation.{done_or, raw_reply};
 ghost use Rattle.nand_model.specs.Path.{answer_to};
 ghost use Rattle.nand_model.specs.Sizes.{raw_len};
+ghost use Rattle.nand_model.specs.declared.words.Fairness.TheVariants.{Plain};
 ghost use Rattle.nand_model.specs.declared.words.Op.TheVariants.{RawRead, RawWrite, Erase, IsBad};
 ghost use Rattle.nand_model.specs.declared.words.Reply.TheVariants.{ProgramFailed as RepliesProgramFailed, EraseFailed as RepliesEraseFailed};
 ghost use Rattle.chip_model.specs.Stage.{failure_told};
 ghost use Rattle.chip_core.specs.Begin.{CanBegin, HasDevice};
-ghost use Rattle.chip_core.specs.Task.{Advances, Begins, TaskFits, program_path, programs_of, task_event, task_left};
+ghost use Rattle.chip_core.specs.Task.{Advances, Begins, Follows, TaskFits, program_path, programs_of, task_event};
 ghost use Rattle.chip_core.specs.declared.task.Task.TheVariants.{Ended};
 
 use crate::table::Table;
@@ -96,9 +97,8 @@ impl Task {
 
     // The program of an image into a page of the chip. A bad block is refused before a marker byte in the image.
     fn program(alloc: Global, table: &Table, page: u32, image: &[u8]) -> Result<Task, AllocError>
-        requires place { FitsPage table.now.geometry page image.now }
-        ensures path { IfOk result (λ task. (k : Known) → k.table ≡ table.now.states → task_left k task ≡ program_path table.now.geometry k page image.now) }
-        ensures fits { IfOk result (λ task. TaskFits table.now.geometry task) }
+        requires { FitsPage table.now.geometry page image.now }
+        ensures { IfOk result (λ task. Follows table.now (λ k. program_path table.now.geometry k page image.now) task) }
     {
         let g = &table.geometry;
         if !table.is_good(page / g.pages_per_block) {
@@ -163,8 +163,8 @@ impl Task {
         requires room { programs_of self ≤ F.room flash.old }
         requires event { IsSome (task_event self) }
         ensures advanced { IfSome (task_event self) (λ e. Advances F.fault_model (F.state flash.old) (F.state flash.new) e self result.0 result.1) }
-        ensures ended { (task_event result.0 ≡ None) × (programs_of result.0 ≡ 0) }
-        ensures room { F.room flash.old ≤ F.room flash.new + programs_of self }
+        ensures fits { TaskFits (F.state flash.old).geometry result.0 }
+        ensures room { F.room flash.old + programs_of result.0 ≤ F.room flash.new + programs_of self }
     {
         match self {
             Task::Reading { page, cells } => (read(flash, page, cells), None),
@@ -201,6 +201,7 @@ fn program<F: Flash>(flash: &mut F, page: u32, image: &[u8]) -> (Task, Option<Fa
     ensures state { F.state flash.new ≡ happens F.fault_model (F.state flash.old) (Complete (ProgramEvent page image.now)) }
     ensures reply { result.0 ≡ Ended (done_or RepliesProgramFailed (answer_to F.fault_model (F.state flash.old) (ProgramEvent page image.now))) }
     ensures told { result.1 ≡ failure_told F.fault_model (F.state flash.old) (ProgramEvent page image.now) }
+    ensures plain { IfSome result.1 (λ fairness. fairness ≡ Plain) }
     ensures risen { IfSome result.1 (λ fairness. HasRisen (F.state flash.old).faults (F.state flash.new).faults) }
     ensures room { F.room flash.old ≤ F.room flash.new + 1 }
 {
@@ -217,6 +218,7 @@ fn erase<F: Flash>(flash: &mut F, block: u32) -> (Task, Option<Fairness>)
     ensures state { F.state flash.new ≡ happens F.fault_model (F.state flash.old) (Complete (EraseEvent block)) }
     ensures reply { result.0 ≡ Ended (done_or RepliesEraseFailed (answer_to F.fault_model (F.state flash.old) (EraseEvent block))) }
     ensures told { result.1 ≡ failure_told F.fault_model (F.state flash.old) (EraseEvent block) }
+    ensures plain { IfSome result.1 (λ fairness. fairness ≡ Plain) }
     ensures risen { IfSome result.1 (λ fairness. HasRisen (F.state flash.old).faults (F.state flash.new).faults) }
     ensures room { F.room flash.old ≤ F.room flash.new }
 {

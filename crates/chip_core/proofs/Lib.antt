@@ -1,0 +1,5 @@
+pub mod Places
+pub mod Scanning
+pub mod Unflipped
+pub mod Beginning
+pub mod Advancing

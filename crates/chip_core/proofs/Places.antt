@@ -1,0 +1,20 @@
+-- Pages and blocks of a chip and their places.
+use Rattle.std.proofs.Common.{◌≡◌, ℕ, ◌+◌, ◌*◌, ◌/◌, ◌<◌, ◌≤◌, arith, inl, inr}
+use Rattle.std.proofs.Math.Nat.{mul-le-mul_right}
+use Rattle.std.proofs.lemmas.Nat.{mul-le}
+use Rattle.nand_model.specs.Sizes.{page_count, first_page}
+use Rattle.nand_model.specs.declared.geometry.Geometry.{Geometry}
+use Rattle.nand_model.proofs.Bounds.{bounds}
+
+pub pages-some : (g : Geometry) → 1 ≤ g.pages_per_block
+pages-some g = elim (bounds g).block [ inl e ↦ rw e (omega arith) | inr e ↦ rw e (omega arith) ]
+
+pub pages-le : (g : Geometry) → g.pages_per_block ≤ 128
+pages-le g = elim (bounds g).block [ inl e ↦ rw e (omega arith) | inr e ↦ rw e (omega arith) ]
+
+pub page_count-le : (g : Geometry) → page_count g ≤ 4096 * 128
+page_count-le g = mul-le g.blocks g.pages_per_block 4096 128 (bounds g).blocks_high (pages-le g)
+
+-- the first page of a block is there
+pub first_page-there : (g : Geometry) (block : ℕ) → block < g.blocks → first_page g block < page_count g
+first_page-there g block there = omega (arith, mul-le-mul_right g.pages_per_block there, pages-some g)

@@ -1,0 +1,13 @@
+use Rattle.std.proofs.Common.{◌≡◌, ◌∙◌, ap, sym, true, take, []}
+use Rattle.nand_model.specs.Path.{Path}
+use Rattle.nand_model.specs.Attach.{Attaching}
+use Rattle.nand_model.specs.declared.geometry.Geometry.{Geometry}
+use Rattle.chip_model.specs.Stage.{Attaches}
+use Rattle.chip_core.specs.Markers.{blocks_from, markers_left}
+use Rattle.chip_core.proofs.Scanning.{attach_path-markers}
+use Rattle.chip_core.proofs.chip.Chip.attach_start.Goals as goal
+
+pub returns-clause-stage : goal.returns-clause-stage
+returns-clause-stage g c =
+    rw (c.in_ok-new.ensures.geometry, c.in_ok-scan.ensures.next, c.geometry-geometry.ensures.sizes)
+    (ap (λ (left : Path Attaching). Attaches left true) (sym (attach_path-markers (g.F.Flash.state c.args.flash).geometry c.requires.without_tables)))

@@ -1,0 +1,18 @@
+use Rattle.std.proofs.Common.{◌≡◌, ◌∙◌, Option, Some, take, sym, ap, subst, refl}
+use Rattle.std.specs.Prelude.{option_map}
+use Rattle.nand_model.specs.Chip.{PageEvent}
+use Rattle.nand_model.specs.ChipRun.{name_of}
+use Rattle.chip_model.specs.Stage.{stage_event}
+use Rattle.chip_core.specs.Phase.{PhaseFits, phase_stage}
+use Rattle.chip_core.specs.declared.phase.Phase.{Phase}
+use Rattle.chip_core.proofs.Scanning.{next_read}
+use Rattle.chip_core.proofs.chip.Chip.next_event.Goals as goal
+
+pub returns-in-Attaching : goal.returns-in-Attaching
+returns-in-Attaching g c =
+    let table = c.args.self.now.table in
+    let scan = c.in-Attaching.scan in
+    let Fits : Phase → Type 0 = λ phase. PhaseFits table.geometry phase in
+    let fits = subst Fits c.in-Attaching.is c.args.self.now.fits in
+    ap Some c.event.ensures
+    ∙ rw (c.in-Attaching.is, next_read table.geometry (take scan.next table.states) scan.next fits.next) refl
