@@ -1,0 +1,4 @@
+mod Rounds
+mod Progress
+mod Pending
+mod Once

@@ -1,0 +1,6 @@
+//! A boot of a controller, run by a schedule and then round after round.
+#![tactic(auto)]
+
+mod laws;
+
+pub use laws::replays_end_alike;
