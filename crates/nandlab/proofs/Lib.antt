@@ -1,7 +1,6 @@
 mod RowSteps
 mod Joined
 mod Entries
-mod Notes
 mod FirstPage
 mod PlanNotes
 mod PlanReport

@@ -1,5 +1,5 @@
 use Rattle.report_model.specs.Report.{note_text}
-use Rattle.nandlab.proofs.Notes.{one_printed}
+use Rattle.report_model.proofs.Printed.{one_printed}
 use Rattle.nandlab.proofs.print.put_notes.Goals as goal
 
 pub loop-n-preserved : goal.loop-n-preserved

@@ -1,0 +1,8 @@
+pub mod Lists
+pub mod Texts
+pub mod Heads
+pub mod Numbers
+pub mod Checked
+pub mod Printing
+pub mod Lines
+pub mod Makes

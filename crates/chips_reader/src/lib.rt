@@ -1,0 +1,13 @@
+//! The reader of the several-chip plan.
+#![tactic(auto)]
+
+mod cursor;
+mod draft;
+mod head;
+mod legal;
+mod line;
+mod print;
+mod push;
+mod reader;
+
+pub use reader::read_several_chips;

@@ -1,0 +1,148 @@
+-- The several-chip plan: one controller with one to eight chips, and one to eight sessions under one list of turns.
+--
+--   nandlab 1
+--   controller
+--   chip 2048 64 64 BLOCKS T 0            for each chip: 8 or 16 blocks, T is 1 or 4
+--   part 0 COUNT                          and its partition, from 1 to BLOCKS blocks
+--   data img hex:DIGITS                   at most one such line, with 1 to 2,048 bytes
+--   boot
+--   session 0                             for each session, and then any number of commands:
+--   nandwrite -n -p mtdJ img                only with a data line
+--   nanddump -n --bb=dumpbad -l 2048 mtdJ
+--   flash_erase -N mtdJ 0 0
+--   isbad mtdJ BLOCK
+--   schedule SESSION SESSION ..           at most one such line, with at least one number
+--
+-- Each line ends with LF, words are separated by one space, and numbers are decimal without leading zeros. J is one of the devices, of which each chip has one.
+use Rattle.std.specs.Prelude.{◌≡◌, ℕ, ◌==◌, ◌<◌, ◌≤◌, ◌^◌, ◌⊎◌, Bool, true, false, List, [], ◌∷◌, ◌++◌, length, map, flat_map, slice_get, Option, Some, None, All, codes, decimal, refl}
+use Rattle.hex.specs.Hex.{IsBytes, encode_lower}
+use Rattle.report_model.specs.Plan.{PlanData, ChipPlan, BootPlan, SessionPlan}
+use Rattle.report_model.specs.Report.{line, device_name}
+use Rattle.nand_model.specs.declared.geometry.Geometry.{Geometry}
+use Rattle.nand_model.specs.declared.words.BadMode.TheVariants.{DumpBad}
+use Rattle.nand_model.specs.declared.words.Command.{Command}
+use Rattle.nand_model.specs.declared.words.Command.TheVariants.{FlashErase as ToErase, NandWrite as ToWrite, NandDump as ToDump, IsBad as ToAsk}
+use Rattle.several_chip_plan.specs.declared.lines.ChipLines.{ChipLines}
+use Rattle.several_chip_plan.specs.declared.lines.CommandLine.{CommandLine}
+use Rattle.several_chip_plan.specs.declared.lines.CommandLine.TheVariants.{NandWrite, NandDump, FlashErase, IsBad}
+use Rattle.several_chip_plan.specs.declared.lines.PlanLines.{PlanLines}
+
+-- the lines of a chip
+abbrev pub chip_text : ChipLines → List ℕ
+chip_text chip =
+    line (codes "chip 2048 64 64 " ++ decimal chip.blocks ++ codes " " ++ decimal chip.t ++ codes " 0") ++ line (codes "part 0 " ++ decimal chip.part)
+
+-- the data line, if there are data
+abbrev pub data_text : List ℕ → List ℕ
+data_text [] = []
+data_text (byte ∷ bytes) = line (codes "data img hex:" ++ encode_lower (byte ∷ bytes))
+
+-- the line of a command
+abbrev pub command_text : CommandLine → List ℕ
+command_text (NandWrite dev) = line (codes "nandwrite -n -p " ++ device_name dev ++ codes " img")
+command_text (NandDump dev) = line (codes "nanddump -n --bb=dumpbad -l 2048 " ++ device_name dev)
+command_text (FlashErase dev) = line (codes "flash_erase -N " ++ device_name dev ++ codes " 0 0")
+command_text (IsBad dev block) = line (codes "isbad " ++ device_name dev ++ codes " " ++ decimal block)
+
+-- the lines of a session
+abbrev pub session_text : List CommandLine → List ℕ
+session_text commands = line (codes "session 0") ++ flat_map command_text commands
+
+-- a number behind a space
+abbrev pub spaced_number : ℕ → List ℕ
+spaced_number n = codes " " ++ decimal n
+
+-- the schedule line, if there are numbers
+abbrev pub schedule_text : List ℕ → List ℕ
+schedule_text [] = []
+schedule_text (n ∷ numbers) = line (codes "schedule" ++ flat_map spaced_number (n ∷ numbers))
+
+-- the text of a plan
+abbrev pub plan_text : PlanLines → List ℕ
+plan_text plan =
+    line (codes "nandlab 1") ++ line (codes "controller") ++ flat_map chip_text plan.chips ++ data_text plan.payload
+    ++ line (codes "boot") ++ flat_map session_text plan.sessions ++ schedule_text plan.schedule
+
+-- a chip that the form allows
+pub record IsChip (chip : ChipLines) : Type 0 where
+  pub blocks : (chip.blocks ≡ 8) ⊎ (chip.blocks ≡ 16)
+  pub t : (chip.t ≡ 1) ⊎ (chip.t ≡ 4)
+  pub some : 1 ≤ chip.part
+  pub within : chip.part ≤ chip.blocks
+
+-- a command that the form allows, with so many devices and bytes of data
+abbrev pub IsCommand : (devices bytes : ℕ) → CommandLine → Type 0
+IsCommand devices bytes (NandWrite dev) = (dev < devices) × (1 ≤ bytes)
+IsCommand devices bytes (NandDump dev) = dev < devices
+IsCommand devices bytes (FlashErase dev) = dev < devices
+IsCommand devices bytes (IsBad dev block) = (dev < devices) × (block < 2 ^ 32)
+
+-- numbers of items from a least to a greatest
+abbrev pub IsCount : (least greatest n : ℕ) → Type 0
+IsCount least greatest n = (least ≤ n) × (n ≤ greatest)
+
+-- the data are those of a plan of the form
+pub record IsPlan (plan : PlanLines) : Type 0 where
+  pub chip_count : IsCount 1 8 (length plan.chips)
+  pub chips : All IsChip plan.chips
+  pub payload_fits : length plan.payload ≤ 2048
+  pub payload_bytes : IsBytes plan.payload
+  pub session_count : IsCount 1 8 (length plan.sessions)
+  pub commands : All (All (IsCommand (length plan.chips) (length plan.payload))) plan.sessions
+  pub schedule : All (λ session. session < length plan.sessions) plan.schedule
+
+-- the greatest number of bytes
+abbrev pub most_bytes : ℕ
+most_bytes = 8192
+
+-- the bytes are the text of the plan with these data
+pub record IsSeveralChipPlan (bytes : List ℕ) (plan : PlanLines) : Type 0 where
+  pub text : bytes ≡ plan_text plan
+  pub short : length bytes ≤ most_bytes
+  pub legal : IsPlan plan
+
+-- the bytes are the text of such a plan
+abbrev pub IsOfTheForm : List ℕ → Type 0
+IsOfTheForm bytes = (plan : PlanLines) × IsSeveralChipPlan bytes plan
+
+-- the sizes of a chip with 8 or 16 blocks, and a code that corrects 1 or 4 bits
+abbrev pub sizes_of : (is_large is_strong : Bool) → Geometry
+sizes_of false false = record { page = 2048; spare = 64; pages_per_block = 64; blocks = 8; t = 1; bbt = 0; threshold = 1; in_bounds = refl }
+sizes_of false true = record { page = 2048; spare = 64; pages_per_block = 64; blocks = 8; t = 4; bbt = 0; threshold = 3; in_bounds = refl }
+sizes_of true false = record { page = 2048; spare = 64; pages_per_block = 64; blocks = 16; t = 1; bbt = 0; threshold = 1; in_bounds = refl }
+sizes_of true true = record { page = 2048; spare = 64; pages_per_block = 64; blocks = 16; t = 4; bbt = 0; threshold = 3; in_bounds = refl }
+
+-- the sizes of a chip
+abbrev pub geometry_of : ChipLines → Geometry
+geometry_of chip = sizes_of (chip.blocks == 16) (chip.t == 4)
+
+-- a chip without bad blocks and weak places, and with its partition
+abbrev pub chip_of : ChipLines → ChipPlan
+chip_of chip = record { geometry = geometry_of chip; bad = []; weak = []; parts = record { start = 0; count = chip.part } ∷ [] }
+
+-- the blocks of a device
+abbrev pub blocks_of : List ChipLines → ℕ → ℕ
+blocks_of chips dev = go (slice_get chips dev)
+  where
+    go : Option ChipLines → ℕ
+    go None = 0
+    go (Some chip) = chip.part
+
+-- the command of a line
+abbrev pub command_of : List ChipLines → List ℕ → CommandLine → Command
+command_of chips payload (NandWrite dev) = ToWrite dev (blocks_of chips dev) false true false true 0 payload
+command_of chips payload (NandDump dev) = ToDump dev (blocks_of chips dev) 0 2048 true false DumpBad
+command_of chips payload (FlashErase dev) = ToErase dev (blocks_of chips dev) true 0 0
+command_of chips payload (IsBad dev block) = ToAsk dev (blocks_of chips dev) block
+
+-- a session of controller 0
+abbrev pub session_of : List ChipLines → List ℕ → List CommandLine → SessionPlan
+session_of chips payload commands = record { controller = 0; commands = map (command_of chips payload) commands }
+
+-- the boot, without flips and cuts
+abbrev pub boot_of : PlanLines → BootPlan
+boot_of plan = record { flips = []; cuts = []; sessions = map (session_of plan.chips plan.payload) plan.sessions; schedule = plan.schedule }
+
+-- the plan that the lines stand for
+abbrev pub plan_of : PlanLines → PlanData
+plan_of plan = record { controllers = map chip_of plan.chips ∷ []; boots = boot_of plan ∷ [] }
