@@ -11,7 +11,7 @@ use Rattle.nand_model.specs.declared.words.Fairness.{Fairness}
 use Rattle.nand_model.specs.declared.words.Op.{Op}
 use Rattle.chip_model.specs.Stage.{Stage, Attaches, Rests, Works, stage_by, stage_of, stage_event, stage_begun, path_after, attach_stage, stage_after, news_after, attach_end, failure_told, fairness_where_failed, finished_in}
 use Rattle.run_laws.proofs.Traces.{geometry_happens}
-use Rattle.ctl_core.specs.KeptChip.{KeptChip, kept_as, holder_by, after_event, after_begin, after_answer, with_news_told, failure_notes, news_notes, is_attaching}
+use Rattle.ctl_core.specs.KeptChip.{KeptChip, kept_as, holder_by, after_event, after_begin, after_answer, with_news_told, failure_notes, news_notes}
 
 -- one more answer takes one more step along a path
 pub after_one_more : {A : Type 0} (path : Path A) (answers : List Answer) (answer : Answer)

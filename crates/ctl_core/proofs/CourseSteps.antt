@@ -12,9 +12,9 @@ use Rattle.nand_model.specs.Operation.{Partitions, Known, Finished, device_of}
 use Rattle.nand_model.specs.ChipRun.{ChipRun, Pending, next_chip_event, advanced, attach_notes, notes_of_advance, with_pending, with_finished, finished_by}
 use Rattle.run_model.specs.Laws.{IsCalm}
 use Rattle.run_model.specs.Course.{Boot, Course, SessionRun, change_at, chip_of, next_op, session_run, pending_chip, unattached, is_pending_of, began, finish, with_answer, is_free, is_free_at, can_begin, is_idle, tear_at, with_flip, with_flips_before, event_done, event_on, event_step, event_or_answer, chip_step, begin_on, begin_at, begin_step, session_step, turn_unless, turn_step, attach_first, attach_step, replied}
-use Rattle.chip_model.specs.Stage.{stage_event, stage_of, stage_by, failure_told, finished_in, is_resting}
+use Rattle.chip_model.specs.Stage.{stage_event, stage_of, stage_by, failure_told, finished_in, is_resting, is_attached}
 use Rattle.run_laws.proofs.Places.{position_none}
-use Rattle.ctl_core.specs.KeptChip.{KeptChip, kept_as, all_kept, is_attaching, is_held_by, first_attaching, first_held_by, after_event, after_begin, after_answer, with_news_told, failure_notes, news_notes, holder_by}
+use Rattle.ctl_core.specs.KeptChip.{KeptChip, kept_as, all_kept, is_held_by, first_attaching, first_held_by, after_event, after_begin, after_answer, with_news_told, failure_notes, news_notes, holder_by}
 use Rattle.ctl_core.specs.Keeps.{Keeps}
 use Rattle.ctl_core.proofs.ChipSteps.{works, next_is, begun, answered, kept_advanced, failure_is, news_is}
 use Rattle.ctl_core.proofs.Positions.{position_kept, mapped_change, mapped_at}
@@ -36,13 +36,13 @@ resting_by (Some known) (Some pending) h i = cc
 
 -- a search for a chip by what its controller keeps of it
 module _ {W : Type 0} (partitions : Partitions) where
-  attaching_by : (c : ChipRun W) (k : Option Known) (p : Option Pending) → is_none k ≡ is_attaching (stage_by partitions c k p)
+  attaching_by : (c : ChipRun W) (k : Option Known) (p : Option Pending) → is_none k ≡ not (is_attached (stage_by partitions c k p))
   attaching_by c None p = refl
   attaching_by c (Some known) None = refl
   attaching_by c (Some known) (Some pending) = refl
 
   pub unattached_is : (course : Course W) → unattached course ≡ first_attaching (all_kept partitions course.chips)
-  unattached_is course = position_kept (λ (c : ChipRun W). is_none c.known) (λ (c : KeptChip W). is_attaching c.stage) (kept_as partitions) course.chips
+  unattached_is course = position_kept (λ (c : ChipRun W). is_none c.known) (λ (c : KeptChip W). not (is_attached c.stage)) (kept_as partitions) course.chips
       (λ k c h. attaching_by c c.known c.pending)
 
   pub pending_is : (course : Course W) (session : ℕ) → unattached course ≡ None → pending_chip course session ≡ first_held_by session (all_kept partitions course.chips)

@@ -5,3 +5,4 @@ pub mod Pending
 pub mod Places
 pub mod Sessions
 pub mod Turns
+pub mod Slots

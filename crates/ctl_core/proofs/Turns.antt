@@ -20,7 +20,7 @@ use Rattle.run_laws.proofs.Places.{position_is, position_none}
 use Rattle.session_steps.specs.declared.session.Session.{Session}
 use Rattle.session_steps.specs.Standing.{number_of, IsWaiting}
 use Rattle.session_steps.specs.Mirrors.{Mirrors}
-use Rattle.ctl_core.specs.KeptChip.{KeptChip, kept_as, all_kept, is_attaching, is_held_by, first_attaching, first_held_by, after_event, after_begin, after_answer, with_news_told, failure_notes, news_notes}
+use Rattle.ctl_core.specs.KeptChip.{KeptChip, kept_as, all_kept, is_held_by, first_attaching, first_held_by, after_event, after_begin, after_answer, with_news_told, failure_notes, news_notes}
 use Rattle.ctl_core.specs.Keeps.{Keeps}
 use Rattle.ctl_core.specs.Sessions.{AreAscending, SessionsMirror, HoldersWait}
 use Rattle.ctl_core.specs.Follows.{Follows}

@@ -1,16 +1,16 @@
 -- What a controller keeps, as its course has it.
-use Rattle.std.specs.Prelude.{◌≡◌, ℕ, List, [], map, slice_get, Option, Some, None, option_and_then}
+use Rattle.std.specs.Prelude.{◌≡◌, ℕ, ◌+◌, ◌++◌, List, [], map, slice_get, Option, Some, None, option_and_then}
 use Rattle.nand_iface.specs.declared.flash.Flash.{Ghosts}
 use Rattle.nand_model.specs.Chip.{ChipState, PageEvent}
-use Rattle.run_model.specs.Course.{Course, unattached, course_after}
+use Rattle.run_model.specs.Course.{Course, change_at, unattached, course_after}
 use Rattle.run_model.specs.Laws.{IsCalm}
 use Rattle.run_laws.specs.Turns.{busy_turns}
 use Rattle.chip_core.specs.Chip.{chip_state, chip_stage, chip_news}
-use Rattle.chip_model.specs.Stage.{stage_event}
+use Rattle.chip_model.specs.Stage.{stage_event, failure_told}
 use Rattle.ctl_core.specs.declared.bench.Slot.{Slot}
 use Rattle.ctl_core.specs.declared.bench.Bench.{Bench}
 use Rattle.ctl_core.specs.declared.journal.Journal.{Journal}
-use Rattle.ctl_core.specs.KeptChip.{KeptChip}
+use Rattle.ctl_core.specs.KeptChip.{KeptChip, after_event, with_news_told, failure_notes, news_notes}
 use Rattle.ctl_core.specs.Follows.{Follows}
 use Rattle.ctl_core.specs.Past.{Past, starts_of, course_of}
 use Rattle.ctl_core.specs.Start.{CanStart}
@@ -45,3 +45,10 @@ pub record IsOnCourse {F : Type 0} {flash : Ghosts F} (past : Past F) (bench : B
   pub attach_events : (course_after flash.fault_model past.boot (starts_of flash.state past) past.attaches []).events ≡ past.attaches
   pub all_busy : busy_turns flash.fault_model past.boot (starts_of flash.state past) past.turns
       (course_after flash.fault_model past.boot (starts_of flash.state past) past.attaches []) ≡ past.turns
+
+-- event e of chip k, which stood so, is done and noted
+pub record DidEvent {F : Type 0} {flash : Ghosts F} (k : ℕ) (c : KeptChip flash.FaultState) (e : PageEvent) (old new : Bench F flash) : Type 0 where
+  pub chips : kept_chips new ≡ change_at (kept_chips old) k (λ x. with_news_told (after_event flash.fault_model e x))
+  pub events : new.events ≡ old.events + 1
+  pub notes : new.notes.notes ≡ old.notes.notes ++ failure_notes k (old.events + 1) e (failure_told flash.fault_model c.state e) ++ news_notes k (after_event flash.fault_model e c).news
+  pub sessions : new.sessions.items ≡ old.sessions.items

@@ -1,5 +1,5 @@
 -- A chip as its controller keeps it: its state and its stage, an attach note that is still to be written, and the session that holds it.
-use Rattle.std.specs.Prelude.{◌≡◌, ℕ, Bool, true, false, ◌==◌, List, [], ◌∷◌, map, position, Option, Some, None}
+use Rattle.std.specs.Prelude.{◌≡◌, ℕ, Bool, false, not, ◌==◌, List, [], ◌∷◌, map, position, Option, Some, None}
 use Rattle.nand_model.specs.Chip.{ChipState, FaultModel, PageEvent, Complete, happens}
 use Rattle.nand_model.specs.Path.{answer_to}
 use Rattle.nand_model.specs.Attach.{Attaching}
@@ -10,7 +10,7 @@ use Rattle.nand_model.specs.declared.words.Fairness.{Fairness}
 use Rattle.nand_model.specs.declared.words.Note.{Note}
 use Rattle.nand_model.specs.declared.words.Note.TheVariants.{Torn}
 use Rattle.nand_model.specs.declared.words.Op.{Op}
-use Rattle.chip_model.specs.Stage.{Stage, Attaches, Rests, Works, first_stage, stage_of, stage_after, stage_begun, news_after, note_of_news}
+use Rattle.chip_model.specs.Stage.{Stage, Rests, is_attached, first_stage, stage_of, stage_after, stage_begun, news_after, note_of_news}
 
 -- a chip in a controller
 pub record KeptChip (W : Type 0) : Type 0 where
@@ -36,12 +36,6 @@ all_kept partitions chips = map (kept_as partitions) chips
 abbrev pub kept_first : {W : Type 0} → ChipState W → KeptChip W
 kept_first s = record { state = s; stage = first_stage s.geometry; news = None; holder = None }
 
--- a chip that is still to be attached
-abbrev pub is_attaching : Stage → Bool
-is_attaching (Attaches left quiet) = true
-is_attaching (Rests known) = false
-is_attaching (Works known left) = false
-
 -- a chip that a session holds
 abbrev pub is_held_by : ℕ → Option ℕ → Bool
 is_held_by session None = false
@@ -49,7 +43,7 @@ is_held_by session (Some by) = by == session
 
 -- the first chip that is still to be attached, and the first that a session holds
 abbrev pub first_attaching : {W : Type 0} → List (KeptChip W) → Option ℕ
-first_attaching {W} chips = position (λ (c : KeptChip W). is_attaching c.stage) chips
+first_attaching {W} chips = position (λ (c : KeptChip W). not (is_attached c.stage)) chips
 
 abbrev pub first_held_by : {W : Type 0} → ℕ → List (KeptChip W) → Option ℕ
 first_held_by {W} session chips = position (λ (c : KeptChip W). is_held_by session c.holder) chips
@@ -85,3 +79,8 @@ failure_notes k n e (Some fairness) = Torn k n (name_of e) false fairness ∷ []
 abbrev pub news_notes : ℕ → Option (Bool × Attaching) → List Note
 news_notes k None = []
 news_notes k (Some news) = note_of_news k news ∷ []
+
+-- a note, if there is one
+abbrev pub noted : Option Note → List Note
+noted None = []
+noted (Some note) = note ∷ []

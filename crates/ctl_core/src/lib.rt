@@ -1,2 +1,8 @@
 //! One controller of a boot: its chips, its sessions and its notes, one step a turn.
 #![tactic(auto)]
+
+mod bench;
+mod journal;
+mod turn;
+
+pub use turn::Turn;

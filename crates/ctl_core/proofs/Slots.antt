@@ -1,0 +1,42 @@
+-- Slots and their notes.
+use Rattle.std.proofs.Common.{◌≡◌, ℕ, ◌+◌, Bool, List, [], ◌∷◌, ◌++◌, Option, Some, None, refl, ap, sym, ◌∙◌, subst, get_or}
+use Rattle.std.specs.Prelude.{slice_get, map, option_map, IsSome, IfSome}
+use Rattle.std.proofs.lemmas.Option.{get_or_from_slice_get}
+use Rattle.nand_model.specs.Chip.{PageEvent}
+use Rattle.nand_model.specs.Attach.{Attaching}
+use Rattle.nand_model.specs.ChipRun.{name_of}
+use Rattle.nand_model.specs.declared.words.Event.{Event}
+use Rattle.nand_model.specs.declared.words.Fairness.{Fairness}
+use Rattle.nand_model.specs.declared.words.Note.{Note}
+use Rattle.chip_model.specs.Stage.{note_of_news}
+use Rattle.ctl_core.specs.KeptChip.{failure_notes, news_notes, noted}
+use Rattle.ctl_core.proofs.Positions.{mapped_at}
+
+-- what holds of an item that is there
+pub at_some : {A : Type 0} (P : A → Type 0) (o : Option A) (x : A) → IfSome o P → o ≡ Some x → P x
+at_some P None x h e = cc
+at_some P (Some y) x h e = let same : y ≡ x = cc in subst P same h
+
+noted_news : (k : ℕ) (news : Option (Bool × Attaching)) → noted (option_map (note_of_news k) news) ≡ news_notes k news
+noted_news k None = refl
+noted_news k (Some news) = refl
+
+-- the notes of an event
+pub notes_of_event : (o : Option PageEvent) (event : Option Event) (told : PageEvent → Option Fairness) (got : Option Fairness) (news : PageEvent → Option (Bool × Attaching)) (now : Option (Bool × Attaching))
+    (k n : ℕ) (first second : Option Note) (before middle after : List Note)
+    → event ≡ option_map name_of o → IfSome o (λ e. got ≡ told e) → IfSome o (λ e. now ≡ news e)
+    → ((e : PageEvent) → event ≡ Some (name_of e) → noted first ≡ failure_notes k n e got) → middle ≡ before ++ noted first
+    → second ≡ option_map (note_of_news k) now → after ≡ middle ++ noted second
+    → IfSome o (λ e. after ≡ before ++ failure_notes k n e (told e) ++ news_notes k (news e))
+notes_of_event None event told got news now k n first second before middle after h i j f m s a = tt
+notes_of_event (Some e) event told got news now k n first second before middle after h i j f m s a =
+    let one : noted first ≡ failure_notes k n e (told e) = f e h ∙ ap (failure_notes k n e) i in
+    let two : noted second ≡ news_notes k (news e) = ap noted s ∙ noted_news k now ∙ ap (news_notes k) j in
+    a ∙ (λ d. (m ∙ ap (λ zs. before ++ zs) one) d ++ two d)
+
+-- the item at a place of a list, by what is kept of it
+pub kept_at : {A B : Type 0} (f : A → B) (xs : List A) (k : ℕ) (x : A) (y : B) → x ≡ get_or xs k x → slice_get (map f xs) k ≡ Some y → (slice_get xs k ≡ Some x) × (f x ≡ y)
+kept_at f xs k x y is h =
+    let m = mapped_at f xs k y h in
+    let same : m.0 ≡ x = sym (is ∙ get_or_from_slice_get xs k m.0 x m.1) in
+    (m.1 ∙ ap Some same, ap f (sym same) ∙ m.2)

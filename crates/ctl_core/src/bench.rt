@@ -1,0 +1,155 @@
+// The chips, sessions and notes of a controller.
+ghost use Rattle.std.specs.Prelude.{◌≡◌, ◌≤◌, ◌<◌, ◌+◌, ◌-◌, ◌^◌, ◌++◌, ◌==◌, ℕ, List, true, None, not, length, position, slice_get, option_map, IsSome, IfSome, OnOk, OnErr, IfOk};
+ghost use Rattle.nand_model.specs.Chip.{ChipState, PageEvent};
+ghost use Rattle.nand_model.specs.ChipRun.{name_of};
+ghost use Rattle.chip_model.specs.Stage.{stage_event, failure_told, finished_in, is_attached, is_resting, is_working};
+ghost use Rattle.chip_core.specs.Begin.{CanBegin};
+ghost use Rattle.chip_core.specs.Chip.{chip_stage};
+ghost use Rattle.ctl_core.specs.KeptChip.{KeptChip, is_held_by, after_event, after_begin, after_answer, with_news_told, failure_notes, news_notes, noted};
+
+use crate::Turn;
+use chip_core::Chip;
+use mtd_part::Parts;
+use nand_iface::{Event, Fairness, Flash, History, Note, Op, Reply};
+use session_steps::Session;
+use std::alloc::AllocError;
+
+/// A chip, and the session whose operation is in flight on it.
+#[derive(Drop)]
+pub struct Slot<F: Flash> {
+    pub chip: Chip<F>,
+    pub holder: Option<u32>,
+}
+
+impl<F: Flash> Slot<F> {
+    ghost use Rattle.ctl_core.specs.Bench.{kept_slot};
+
+    // Does the chip's next event, as event `number` of the controller, and puts down what there is to note of it.
+    pub fn advance(&mut self, chip: u32, number: u32, notes: &mut History)
+        requires event { IsSome (stage_event (kept_slot self.old).stage) }
+        requires room { 2 ≤ notes.old.room }
+        ensures slot { IfSome (stage_event (kept_slot self.old).stage) (λ e. kept_slot self.new ≡ with_news_told (after_event F.fault_model e (kept_slot self.old))) }
+        ensures notes { IfSome (stage_event (kept_slot self.old).stage) (λ e. notes.new.notes ≡ notes.old.notes
+            ++ failure_notes chip number e (failure_told F.fault_model (kept_slot self.old).state e) ++ news_notes chip (after_event F.fault_model e (kept_slot self.old)).news) }
+    {
+        let event = self.chip.next_event();
+        let told = self.chip.advance();
+        put_down(notes, failure_note(chip, number, event, told));
+        put_down(notes, self.chip.attach_note(chip));
+    }
+
+    // The session begins an operation on the chip. Where memory runs out, the chip is as before.
+    pub fn begin(&mut self, session: u32, parts: &Parts, op: &Op) -> Result<(), AllocError>
+        requires rests { is_resting (kept_slot self.old).stage ≡ true }
+        requires can { CanBegin (kept_slot self.old).state.geometry parts.now op.now }
+        ensures begun { OnOk result (kept_slot self.new ≡ after_begin parts.now session op.now (kept_slot self.old)) }
+        ensures no_memory { OnErr result (kept_slot self.new ≡ kept_slot self.old) }
+    {
+        self.chip.begin(parts, op)?;
+        self.holder = Some(session);
+        Ok(())
+    }
+
+    // The reply to the operation in flight, which has no event left. The chip is free then.
+    pub fn answer(&mut self) -> Reply
+        requires { IsSome (finished_in (kept_slot self.old).stage) }
+        ensures reply { IfSome (finished_in (kept_slot self.old).stage) (λ finished. result ≡ finished.reply) }
+        ensures slot { IfSome (finished_in (kept_slot self.old).stage) (λ finished. kept_slot self.new ≡ after_answer finished.known (kept_slot self.old)) }
+    {
+        self.holder = None;
+        self.chip.answer()
+    }
+}
+
+// The note of an event of this name that failed, where it did.
+fn failure_note(
+    chip: u32,
+    number: u32,
+    event: Option<Event>,
+    told: Option<Fairness>,
+) -> Option<Note>
+    ensures { (e : PageEvent) → event ≡ Some (name_of e) → noted result ≡ failure_notes chip number e told }
+{
+    let fairness = told?;
+    Some(Note::Torn {
+        chip,
+        number,
+        event: event?,
+        cut: false,
+        fairness,
+    })
+}
+
+// Puts a note down, if there is one.
+fn put_down(notes: &mut History, note: Option<Note>)
+    requires { 0 < notes.old.room }
+    ensures notes { notes.new.notes ≡ notes.old.notes ++ noted note }
+    ensures room { notes.old.room ≤ notes.new.room + 1 }
+{
+    if let Some(note) = note {
+        notes.push(note);
+    }
+}
+
+// Whether the holder is this session.
+fn is_held_by(holder: Option<u32>, session: u32) -> bool
+    ensures { result ≡ is_held_by session holder }
+{
+    match holder {
+        None => false,
+        Some(by) => by == session,
+    }
+}
+
+/// What the steps of a controller change: its chips, the number of page events so far, its notes and its sessions.
+#[derive(Drop)]
+pub struct Bench<F: Flash> {
+    pub slots: Vec<Slot<F>>,
+    pub events: u32,
+    pub notes: History,
+    pub sessions: Vec<Session>,
+}
+
+impl<F: Flash> Bench<F> {
+    ghost use Rattle.session_steps.specs.Standing.{number_of};
+    ghost use Rattle.ctl_core.specs.Bench.{kept_chips, event_at, DidEvent};
+
+    // The first chip that is not attached.
+    pub fn first_attaching(&self) -> Option<usize>
+        ensures { result ≡ position (λ slot. not (is_attached (chip_stage slot.chip))) self.now.slots.items }
+    {
+        self.slots
+            .iter()
+            .position(|slot| !slot.chip.is_attached())
+    }
+
+    // The chip that a session holds.
+    pub fn held_by(&self, session: u32) -> Option<usize>
+        ensures { result ≡ position (λ slot. is_held_by session slot.holder) self.now.slots.items }
+    {
+        self.slots
+            .iter()
+            .position(|slot| is_held_by(slot.holder, session))
+    }
+
+    // The place of a session.
+    pub fn place_of(&self, session: u32) -> Option<usize>
+        ensures { result ≡ position (λ s. number_of s == session) self.now.sessions.items }
+    {
+        self.sessions
+            .iter()
+            .position(|one| one.number() == session)
+    }
+
+    // Does the next event of a chip.
+    pub fn do_event(&mut self, k: usize)
+        requires few { length self.old.slots.items ≤ 8 }
+        requires event { IsSome (event_at self.old k) }
+        requires room { 2 ≤ self.old.notes.room }
+        requires number { self.old.events < 2 ^ 32 - 1 }
+        ensures { (c : KeptChip F.FaultState) (e : PageEvent) → slice_get (kept_chips self.old) k ≡ Some c → stage_event c.stage ≡ Some e → DidEvent k c e self.old self.new }
+    {
+        self.events += 1;
+        self.slots[k].advance(k as u32, self.events, &mut self.notes);
+    }
+}
