@@ -1,0 +1,4 @@
+pub mod Sums
+pub mod Paths
+pub mod Costs
+pub mod Turns
