@@ -2,3 +2,4 @@ pub mod Sums
 pub mod Paths
 pub mod Costs
 pub mod Turns
+pub mod Bounds

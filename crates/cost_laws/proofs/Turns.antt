@@ -229,7 +229,7 @@ module _ {W : Type 0} (model : FaultModel W) (boot : Boot) (starts : List (ChipS
             (chip_spends k c.0 c.1 c.0.known c.0.pending refl refl (position_none (λ (z : ChipRun W). is_none z.known) course.chips all k c.0 c.1) session c.2)
 
   -- in the dark no turn does anything
-  dark_turns : (turns : List ℕ) (course : Course W) → course.dark ≡ true → length (busy_turns model boot starts turns course) ≡ 0
+  pub dark_turns : (turns : List ℕ) (course : Course W) → course.dark ≡ true → length (busy_turns model boot starts turns course) ≡ 0
   dark_turns [] course dark = refl
   dark_turns (session ∷ turns) course dark =
       let idle : is_idle boot.partitions (sizes_of boot starts) course session ≡ true =
