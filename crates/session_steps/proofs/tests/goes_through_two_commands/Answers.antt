@@ -1,20 +1,17 @@
-use Rattle.std.proofs.Common.{rules, ◌≡◌, ℕ, zero, suc, ◌*◌, ◌%◌, ◌+◌, ◌<◌, true, false, List, [], ◌∷◌, ◌++◌, All, slice_index_or, refl, sym, ap, ◌∙◌, subst, arith}
+use Rattle.std.proofs.Common.{◌≡◌, ℕ, zero, suc, ◌<◌, true, false, List, [], ◌∷◌, slice_index_or, refl, sym, ◌∙◌, subst, arith}
 use Rattle.std.proofs.Math.Nat.{zero-mod}
 use Rattle.nand_model.specs.declared.geometry.Geometry.{Geometry}
 use Rattle.nand_model.specs.declared.words.BadMode.TheVariants.{DumpBad}
 use Rattle.nand_model.specs.declared.words.Command.{Command}
 use Rattle.nand_model.specs.declared.words.Command.TheVariants.{NandDump, IsBad}
-use Rattle.nand_model.specs.declared.words.Note.{Note}
-use Rattle.nand_model.specs.declared.words.Outcome.{Outcome}
 use Rattle.nand_model.specs.declared.words.Reply.{Reply}
 use Rattle.nand_model.specs.declared.words.Reply.TheVariants.{State}
-use Rattle.run_model.specs.Command.{Next, Do, Over, next_step, block_size}
+use Rattle.run_model.specs.Command.{Next, Do, Over, next_step}
 use Rattle.run_model.specs.Course.{SessionRun, without_finished, with_reply}
 use Rattle.tool_steps.specs.Stage.{CanRun}
 use Rattle.tool_steps.proofs.Scripts.{pages_positive}
-use Rattle.session_steps.specs.declared.session.Session.{Session}
-use Rattle.session_steps.specs.Standing.{First, standing, commands_by}
-use Rattle.session_steps.specs.Mirrors.{CanAllRun, Mirrors}
+use Rattle.session_steps.specs.Standing.{First}
+use Rattle.session_steps.specs.Mirrors.{CanAllRun}
 use Rattle.session_steps.proofs.Scripts.{none_finished, one_finished, not_finished}
 use Rattle.session_steps.proofs.Mirrors.{next_runs}
 use Rattle.session_steps.proofs.tests.goes_through_two_commands.Goals as goal
