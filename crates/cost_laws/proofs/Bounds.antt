@@ -1,5 +1,5 @@
 -- How many turns of a boot do anything, and how many events they do.
-use Rattle.std.proofs.Common.{◌≡◌, ◌⊎◌, inl, inr, ℕ, zero, suc, ◌+◌, ◌*◌, ◌≤◌, Bool, true, false, not, ◌&&◌, ◌||◌, List, [], ◌∷◌, ◌++◌, length, Option, Some, None, refl, ap, sym, ◌∙◌, subst, arith}
+use Rattle.std.proofs.Common.{◌≡◌, inl, inr, ℕ, zero, suc, ◌+◌, ◌≤◌, Bool, true, false, List, [], ◌∷◌, ◌++◌, length, Option, Some, None, refl, ap, sym, ◌∙◌, subst, arith}
 use Rattle.std.specs.Prelude.{slice_get, is_none, if◌then◌else◌}
 use Rattle.std.proofs.lemmas.Bool.{false≢true}
 use Rattle.nand_model.specs.declared.geometry.Geometry.{Geometry}
@@ -13,10 +13,10 @@ use Rattle.run_model.specs.Run.{HaveOneNumberEach}
 use Rattle.run_laws.specs.Turns.{IsStep, Begins, DoesEvent, Answers, busy_turns}
 use Rattle.run_laws.proofs.Places.{position_is}
 use Rattle.run_laws.proofs.Turns.{turn_is_step}
-use Rattle.run_laws.proofs.Courses.{IsLive, Holds}
+use Rattle.run_laws.proofs.Courses.{Holds}
 use Rattle.run_laws.proofs.Faithful.{course_holds}
 use Rattle.cost_laws.specs.Cost.{boot_cost, CanRunBoot}
-use Rattle.cost_laws.specs.Laws.{BusyTurnsAreFew, EventsAreTurns}
+use Rattle.cost_laws.specs.Laws.{BusyTurnsAreFew}
 use Rattle.cost_laws.proofs.Costs.{EachGood, all_left, start_good, start_left}
 use Rattle.cost_laws.proofs.Turns.{dark_turns, turns_taken_few}
 
@@ -73,7 +73,7 @@ module _ {W : Type 0} (model : FaultModel W) (boot : Boot) (starts : List (ChipS
           let good : EachGood (sizes_of boot starts) course.sessions = subst (EachGood (sizes_of boot starts)) (sym as_at_start) (start_good (sizes_of boot starts) boot.sessions runs) in
           let few = turns_taken_few model boot starts one turns course live good in
           let left : all_left (sizes_of boot starts) course.sessions ≤ boot_cost boot starts =
-              subst (λ (sessions : List SessionRun). all_left (sizes_of boot starts) sessions ≤ boot_cost boot starts) (sym as_at_start) (start_left (sizes_of boot starts) boot.sessions) in
+          subst (λ (sessions : List SessionRun). all_left (sizes_of boot starts) sessions ≤ boot_cost boot starts) (sym as_at_start) (start_left (sizes_of boot starts) boot.sessions) in
           omega (arith, few, left)
 
   -- a turn does at most one event

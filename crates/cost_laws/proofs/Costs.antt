@@ -1,5 +1,5 @@
 -- How many operations are left of sessions.
-use Rattle.std.proofs.Common.{◌≡◌, ℕ, zero, suc, ◌+◌, ◌-◌, ◌≤◌, ◌<◌, ◌⊎◌, inl, inr, Bool, true, false, List, [], ◌∷◌, ◌++◌, length, map, Option, Some, None, cond, refl, ap, sym, ◌∙◌, subst, arith, length-append}
+use Rattle.std.proofs.Common.{◌≡◌, ℕ, suc, ◌+◌, ◌-◌, ◌≤◌, ◌<◌, ◌⊎◌, inl, inr, Bool, true, false, List, [], ◌∷◌, ◌++◌, length, map, Option, Some, None, refl, ap, sym, ◌∙◌, subst, arith, length-append}
 use Rattle.std.specs.Prelude.{⊤, sum_by, find, ◌==◌, if◌then◌else◌, All}
 use Rattle.std.proofs.lemmas.Bool.{cases_lt, cond-true, cond-false}
 use Rattle.std.proofs.lemmas.Option.{none-some, same_Some}
@@ -9,10 +9,10 @@ use Rattle.nand_model.specs.declared.words.Command.{Command}
 use Rattle.nand_model.specs.declared.words.Op.{Op}
 use Rattle.nand_model.specs.declared.words.Outcome.{Outcome}
 use Rattle.nand_model.specs.declared.words.Reply.{Reply}
-use Rattle.run_model.specs.Command.{Next, Do, Over, next_in, next_step, after_replies, script_of}
+use Rattle.run_model.specs.Command.{Next, Do, Over, next_step}
 use Rattle.run_model.specs.Course.{SessionRun, without_finished, with_reply, replied, next_op_of}
 use Rattle.run_model.specs.Laws.{IsOver}
-use Rattle.tool_steps.specs.Stage.{CanRun, device_size}
+use Rattle.tool_steps.specs.Stage.{CanRun}
 use Rattle.tool_steps.proofs.Ends.{command_ends_at_last}
 use Rattle.cost_laws.specs.Cost.{command_cost, commands_cost, sessions_cost}
 
@@ -109,7 +109,7 @@ module _ (sizes : Command → Geometry) where
           subst (λ (commands : List Command). ops_left (without_finished sizes s.number commands (s.replies ++ reply ∷ []) s.outcomes) ≤ ops_left s) (sym e) (omega arith)
       by_commands (command ∷ commands) e good =
           let next : next_op_of sizes s.commands s.replies ≡ Some good.1.0 =
-              subst (λ (cs : List Command). next_op_of sizes cs s.replies ≡ Some good.1.0) (sym e) (ap next_op_in good.1.1) in
+          subst (λ (cs : List Command). next_op_of sizes cs s.replies ≡ Some good.1.0) (sym e) (ap next_op_in good.1.1) in
           let whole : Good s = subst (λ (cs : List Command). EachRuns cs × Settled cs s.replies) (sym e) good in
           omega (arith, reply_costs s reply good.1.0 whole next)
         where
@@ -180,5 +180,10 @@ module _ (sizes : Command → Geometry) where
   pub start_left : (sessions : List (ℕ × List Command)) → all_left (at_start sessions) ≤ sessions_cost sizes sessions
   start_left [] = omega arith
   start_left (s ∷ sessions) =
-      omega (arith, left_without s.0 s.1 [], start_left sessions, sum_by-cons ops_left (without_finished sizes s.0 s.1 [] []) (at_start sessions),
-      sum_by-cons (λ (t : ℕ × List Command). commands_cost sizes t.1) s sessions)
+      omega (
+        arith,
+        left_without s.0 s.1 [],
+        start_left sessions,
+        sum_by-cons ops_left (without_finished sizes s.0 s.1 [] []) (at_start sessions),
+        sum_by-cons (λ (t : ℕ × List Command). commands_cost sizes t.1) s sessions,
+      )

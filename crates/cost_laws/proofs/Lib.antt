@@ -3,3 +3,4 @@ pub mod Paths
 pub mod Costs
 pub mod Turns
 pub mod Bounds
+pub mod Attaches

@@ -7,16 +7,15 @@ use Rattle.nand_model.specs.declared.geometry.Geometry.{Geometry}
 use Rattle.nand_model.specs.declared.words.Part.{Part}
 use Rattle.nand_model.specs.declared.words.Op.{Op}
 use Rattle.nand_model.specs.declared.words.Op.TheVariants.{Read, Write, RawRead, RawWrite, Erase, IsBad, Mark, Stats}
-use Rattle.nand_model.specs.declared.words.Reply.{Reply}
 use Rattle.nand_model.specs.declared.words.Reply.TheVariants.{Done, OutOfRange, BadBlock, MarkerByte, ProgramFailed, EraseFailed, MarkerFailed, TableFailed, Reserved, Copies, State}
 use Rattle.nand_model.specs.declared.words.Which.TheVariants.{Primary, Mirror}
 use Rattle.nand_model.specs.Chip.{ChipState, FaultModel, ChipEvent, Complete, PowerCut, Flipped, PageEvent, ReadEvent, ProgramEvent, EraseEvent, happens}
-use Rattle.nand_model.specs.Path.{Answer, Path, Over, Then, either, is_good, is_failure, cells_of, after_answers, first_event, next_event, answer_to, GoesAlong, answers_of}
+use Rattle.nand_model.specs.Path.{Answer, Path, Over, Then, either, is_good, is_failure, cells_of, next_event, answer_to, GoesAlong, answers_of}
 use Rattle.nand_model.specs.Attach.{has_tables, write_copy, read_first_pages, attach_path, attach_by}
 use Rattle.nand_model.specs.Sizes.{numbers_from, first_page}
 use Rattle.nand_model.specs.Page.{decoded, page_image}
 use Rattle.nand_model.specs.Table.{table_page}
-use Rattle.nand_model.specs.Operation.{Partitions, part_of, Known, Finished, device_of, answer, only_if, done_or, has_page, has_block, chip_page, chip_block, entry_of, is_good_block, raw_reply, after_read, mark_reply, after_marker_alone, write_tables, with_mark, mark_path, mark_block, operation_in, operation_by, operation_path}
+use Rattle.nand_model.specs.Operation.{Partitions, part_of, Known, Finished, device_of, answer, only_if, done_or, has_page, has_block, chip_page, chip_block, entry_of, is_good_block, raw_reply, after_read, mark_reply, write_tables, with_mark, mark_path, mark_block, operation_in, operation_by, operation_path}
 
 -- whatever the answers, a path has no more events than this
 abbrev pub Within : {A : Type 0} → ℕ → Path A → Type 0
@@ -159,3 +158,14 @@ module _ {W : Type 0} (model : FaultModel W) {A : Type 0} (n : ℕ) (path : Path
       let few : 0 + length (answers_of model s trace) ≤ n = along_within s [] trace g (omega arith) in
       let same : length answers ≡ length (answers_of model s trace) = ap length e in
       omega (arith, few, same)
+
+-- the first pages of so many blocks are read with so many events
+reads_within : {A : Type 0} (g : Geometry) (n first : ℕ) (pages : List (List ℕ)) (result : List (List ℕ) → A) → Within n (read_first_pages g (numbers_from first n) pages (λ seen. Over (result seen)))
+reads_within g zero first pages result = tt
+reads_within g (suc n) first pages result = λ answer. reads_within g n (first + 1) (pages ++ cells_of answer ∷ []) result
+
+-- without tables an attach reads a page of each block
+pub attach_within : (g : Geometry) → g.bbt ≡ 0 → Within g.blocks (attach_path g)
+attach_within g none =
+    let untabled : has_tables g ≡ false = ap (λ (n : ℕ). not (n == 0)) none in
+    subst (λ (b : Bool). Within g.blocks (attach_by b g)) (sym untabled) (reads_within g g.blocks 0 [] _)

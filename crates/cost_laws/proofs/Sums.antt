@@ -1,5 +1,5 @@
 -- Sums over lists of which one item changes.
-use Rattle.std.proofs.Common.{◌≡◌, ℕ, zero, suc, ◌+◌, ◌*◌, ◌≤◌, List, [], ◌∷◌, length, map, Option, Some, None, refl, ap, sym, ◌∙◌, subst, arith}
+use Rattle.std.proofs.Common.{◌≡◌, ℕ, zero, suc, ◌+◌, ◌*◌, ◌≤◌, List, [], ◌∷◌, length, Some, None, refl, ap, sym, subst, arith}
 use Rattle.std.specs.Prelude.{slice_get, sum_by}
 use Rattle.std.proofs.lemmas.List.Sums.{sum_by-cons}
 use Rattle.run_model.specs.Course.{change_at}
@@ -51,3 +51,24 @@ sum-below f n (y ∷ ys) (suc k) x h e less =
     let here : f y ≤ n = h 0 y refl in
     let later : sum_by f ys + 1 ≤ n * length ys = sum-below f n ys k x (λ j z at. h (suc j) z at) e less in
     omega (arith, sum_by-cons f y ys)
+
+-- where no item counts more by one count than by another
+pub sum-under : {A : Type 0} (f g : A → ℕ) (xs : List A) → ((k : ℕ) (x : A) → slice_get xs k ≡ Some x → f x ≤ g x) → sum_by f xs ≤ sum_by g xs
+sum-under f g [] h = omega arith
+sum-under f g (y ∷ ys) h =
+    let later : sum_by f ys ≤ sum_by g ys = sum-under f g ys (λ k x e. h (suc k) x e) in
+    let here : f y ≤ g y = h 0 y refl in
+    omega (arith, sum_by-cons f y ys, sum_by-cons g y ys)
+
+-- and one counts less
+pub sum-less : {A : Type 0} (f g : A → ℕ) (xs : List A) (k : ℕ) (x : A) → ((j : ℕ) (y : A) → slice_get xs j ≡ Some y → f y ≤ g y) → slice_get xs k ≡ Some x → f x + 1 ≤ g x
+    → sum_by f xs + 1 ≤ sum_by g xs
+sum-less f g [] k x h e less = absurd (none_is_not x e)
+sum-less f g (y ∷ ys) zero x h e less =
+    let here : f y + 1 ≤ g y = subst (λ z. f z + 1 ≤ g z) (sym (some_is y x e)) less in
+    let later : sum_by f ys ≤ sum_by g ys = sum-under f g ys (λ k z at. h (suc k) z at) in
+    omega (arith, sum_by-cons f y ys, sum_by-cons g y ys)
+sum-less f g (y ∷ ys) (suc k) x h e less =
+    let here : f y ≤ g y = h 0 y refl in
+    let later : sum_by f ys + 1 ≤ sum_by g ys = sum-less f g ys k x (λ j z at. h (suc j) z at) e less in
+    omega (arith, sum_by-cons f y ys, sum_by-cons g y ys)

@@ -1,27 +1,24 @@
 -- Each turn that is not idle uses up something of what the commands of a boot cost.
 use Rattle.std.proofs.Common.{◌≡◌, ◌⊎◌, inl, inr, ℕ, zero, suc, ◌+◌, ◌*◌, ◌≤◌, ◌<◌, Bool, true, false, not, ◌&&◌, ◌||◌, List, [], ◌∷◌, ◌++◌, length, Option, Some, None, refl, ap, sym, ◌∙◌, subst, arith, length-append}
-use Rattle.std.specs.Prelude.{⊤, slice_get, sum_by, fold, filter, find, is_none, is_some, ◌==◌, if◌then◌else◌, Contains}
+use Rattle.std.specs.Prelude.{slice_get, sum_by, fold, filter, find, is_none, is_some, ◌==◌, if◌then◌else◌}
 use Rattle.std.proofs.lemmas.Bool.{cases_lt, false≢true, or_parts}
-use Rattle.std.proofs.lemmas.Option.{none-some, same_Some, slice_get_within, slice_get-get_or}
-use Rattle.nand_model.specs.declared.geometry.Geometry.{Geometry}
+use Rattle.std.proofs.lemmas.Option.{none-some, same_Some, slice_get_within}
 use Rattle.nand_model.specs.declared.tear.Tear.{Tear}
-use Rattle.nand_model.specs.declared.words.Command.{Command}
 use Rattle.nand_model.specs.declared.words.Flip.{Flip}
 use Rattle.nand_model.specs.declared.words.Op.{Op}
-use Rattle.nand_model.specs.declared.words.Reply.{Reply}
 use Rattle.nand_model.specs.declared.words.Note.{Note}
 use Rattle.nand_model.specs.Chip.{ChipState, FaultModel, ChipEvent, PageEvent, Complete, happens}
-use Rattle.nand_model.specs.Path.{Answer, answer_to}
+use Rattle.nand_model.specs.Path.{answer_to}
 use Rattle.nand_model.specs.Operation.{Known, Finished, device_of, operation_path}
-use Rattle.nand_model.specs.ChipRun.{ChipRun, Pending, next_event_by, next_chip_event, finished_by, with_pending, with_finished, with_flips, answered_by, pending_after, advanced}
-use Rattle.run_model.specs.Course.{Boot, Course, SessionRun, change_at, chip_of, can_begin, is_free_at, is_free, is_idle, is_pending_of, pending_chip, unattached, began, next_op, session_run, next_op_of, tear_at, with_flip, with_flips_before, with_answer, finish, event_done, event_on, event_or_answer, chip_step, begin_on, begin_at, begin_step, session_step, turn_unless, turn_step, sizes_of}
+use Rattle.nand_model.specs.ChipRun.{ChipRun, Pending, next_event_by, next_chip_event, with_pending, with_finished, with_flips, answered_by, pending_after, advanced}
+use Rattle.run_model.specs.Course.{Boot, Course, SessionRun, chip_of, can_begin, is_free_at, is_free, is_idle, is_pending_of, pending_chip, unattached, began, next_op, session_run, next_op_of, tear_at, with_flip, with_flips_before, with_answer, finish, event_done, event_on, event_or_answer, chip_step, begin_on, begin_at, begin_step, session_step, turn_unless, turn_step, sizes_of}
 use Rattle.run_model.specs.History.{notes_of_chip, events_in}
 use Rattle.run_model.specs.Run.{HaveOneNumberEach}
 use Rattle.run_laws.specs.Turns.{busy_turns}
 use Rattle.run_laws.proofs.Paths.{result_by}
 use Rattle.run_laws.proofs.Places.{none_there, position_is, position_none}
 use Rattle.run_laws.proofs.Life.{ChipLawAt}
-use Rattle.run_laws.proofs.Courses.{rest, rest_of, Rest, due_rest, place_start, asked_by, asked_on, asked_at, LawOf, by_log, IsLive, Holds}
+use Rattle.run_laws.proofs.Courses.{rest, rest_of, Rest, due_rest, place_start, asked_by, asked_on, LawOf, by_log, IsLive, Holds}
 use Rattle.run_laws.proofs.Steps.{turn_step_holds}
 use Rattle.cost_laws.proofs.Sums.{sum-change, sum-change_same, sum-bound, sum-below}
 use Rattle.cost_laws.proofs.Paths.{operation_within, some_left, answers_within}
@@ -65,8 +62,8 @@ module _ {W : Type 0} (model : FaultModel W) (boot : Boot) (starts : List (ChipS
   used_at k s c notes whole (Some known) None e law = omega arith
   used_at k s c notes whole (Some known) (Some pending) e law =
       let few : length pending.answers ≤ 6 =
-          answers_within model 6 (operation_path law.rested.geometry boot.partitions known pending.op) (operation_within law.rested.geometry boot.partitions known pending.op)
-          law.rested (events_in law.trace) pending.answers law.goes.along law.goes.answers_are in
+      answers_within model 6 (operation_path law.rested.geometry boot.partitions known pending.op) (operation_within law.rested.geometry boot.partitions known pending.op)
+      law.rested (events_in law.trace) pending.answers law.goes.along law.goes.answers_are in
       omega (arith, few)
 
   module _ (course : Course W) (live : IsLive model boot starts course) where
@@ -84,7 +81,7 @@ module _ {W : Type 0} (model : FaultModel W) (boot : Boot) (starts : List (ChipS
         by_chip (Some s) e p at less = absurd (omega (arith, slice_get_within starts (length starts) s e))
         by_chip None e (Some c) at less =
             let q = place_start (LawOf model boot starts (by_log model boot starts live.log) (length starts)) (notes_of_chip boot.partitions (length starts) course.notes)
-                (slice_get starts (length starts)) (slice_get course.chips (length starts)) c at (live.chips (length starts)) in
+            (slice_get starts (length starts)) (slice_get course.chips (length starts)) c at (live.chips (length starts)) in
             absurd (none-some q.0 (sym e ∙ q.1))
         by_chip None e None at less = absurd (some_there course.chips (length starts) less at)
 
@@ -233,8 +230,8 @@ module _ {W : Type 0} (model : FaultModel W) (boot : Boot) (starts : List (ChipS
   dark_turns [] course dark = refl
   dark_turns (session ∷ turns) course dark =
       let idle : is_idle boot.partitions (sizes_of boot starts) course session ≡ true =
-          ap (λ (b : Bool). b || is_some (unattached course)
-          || (is_none (pending_chip course session) && not (can_begin boot.partitions course (next_op (sizes_of boot starts) (session_run course session))))) dark in
+      ap (λ (b : Bool). b || is_some (unattached course)
+      || (is_none (pending_chip course session) && not (can_begin boot.partitions course (next_op (sizes_of boot starts) (session_run course session))))) dark in
       let stays : turn_step model boot (sizes_of boot starts) course session ≡ course = ap (λ (b : Bool). turn_unless model boot b (sizes_of boot starts) course session) idle in
       ap (λ (b : Bool). length ((if b then [] else session ∷ []) ++ busy_turns model boot starts turns (turn_step model boot (sizes_of boot starts) course session))) idle
       ∙ dark_turns turns (turn_step model boot (sizes_of boot starts) course session) (ap (λ (c : Course W). c.dark) stays ∙ dark)
