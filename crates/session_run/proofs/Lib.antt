@@ -2,3 +2,4 @@ mod Rounds
 mod Progress
 mod Pending
 mod Once
+mod Sessions
