@@ -4,6 +4,7 @@ use Rattle.std.specs.List.{concat}
 use Rattle.nand_model.specs.Chip.{ChipState, FaultModel}
 use Rattle.nand_model.specs.declared.words.Command.{Command}
 use Rattle.run_model.specs.Course.{Boot, Course, course_after, is_over}
+use Rattle.ctl_core.specs.Past.{Past}
 
 -- the numbers of a boot's sessions, in order
 abbrev pub session_numbers : Boot → List ℕ
@@ -19,3 +20,8 @@ pub record IsReplayed {W : Type 0} (model : FaultModel W) (boot : Boot) (starts 
   pub rounds : ℕ
   pub steps : course ≡ course_after model boot starts attaches (rounds_after schedule (session_numbers boot) rounds)
   pub over : is_over course ≡ true
+
+-- a controller of the same boot, started with the same flashes
+pub record IsOfTheSameStart {F : Type 0} (one other : Past F) : Type 0 where
+  pub boot : other.boot ≡ one.boot
+  pub started : other.started ≡ one.started

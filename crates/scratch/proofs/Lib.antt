@@ -1,0 +1,2 @@
+mod NoReads
+mod Turns
