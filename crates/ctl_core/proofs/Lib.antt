@@ -6,3 +6,5 @@ pub mod Places
 pub mod Sessions
 pub mod Turns
 pub mod Slots
+pub mod Devices
+pub mod OnCourse

@@ -3,6 +3,7 @@
 
 mod bench;
 mod journal;
+mod steps;
 mod turn;
 
 pub use turn::Turn;
