@@ -8,3 +8,4 @@ pub mod Turns
 pub mod Slots
 pub mod Devices
 pub mod OnCourse
+pub mod BenchSteps

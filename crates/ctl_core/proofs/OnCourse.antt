@@ -1,6 +1,6 @@
 -- What a bench that stands on its course knows, and what a step makes of it.
-use Rattle.std.proofs.Common.{◌≡◌, ◌<◌, ◌≤◌, ◌+◌, arith, ℕ, zero, suc, Bool, true, false, not, List, [], ◌∷◌, ◌++◌, length, Option, Some, None, Result, Ok, Err, OnErr, refl, ap, sym, ◌∙◌, subst, get_or}
-use Rattle.std.specs.Prelude.{slice_get, All, map, option_map, option_and_then, is_none, is_some, position, ⊤}
+use Rattle.std.proofs.Common.{◌≡◌, ◌<◌, ◌≤◌, ◌+◌, arith, ℕ, zero, suc, Bool, true, false, not, List, [], ◌∷◌, ◌++◌, length, Option, Some, None, Result, Ok, Err, OnErr, Bor, refl, ap, sym, ◌∙◌, subst, get_or}
+use Rattle.std.specs.Prelude.{slice_get, option_copied, All, map, option_map, option_and_then, is_none, is_some, position, ⊤}
 use Rattle.std.proofs.Math.ListN.{set}
 use Rattle.std.proofs.lemmas.Option.{slice_get_within, get_or_from_slice_get, slice_get-map}
 use Rattle.nand_iface.specs.declared.flash.Flash.{Ghosts}
@@ -27,7 +27,8 @@ use Rattle.session_steps.specs.Standing.{number_of, standing, outcomes_by, comma
 use Rattle.session_steps.specs.Mirrors.{Mirrors}
 use Rattle.session_steps.proofs.RawOps.{next_raw}
 use Rattle.chip_model.specs.Raw.{IsRaw}
-use Rattle.chip_model.specs.Stage.{Stage, Attaches, Rests, Works, failure_told, stage_event, finished_in, is_working, is_resting, is_attached}
+use Rattle.chip_model.specs.Stage.{Stage, Attaches, Rests, Works, failure_told, stage_event, finished_in, is_working, is_resting, is_attached, stage_by}
+use Rattle.chip_core.specs.Chip.{chip_stage}
 use Rattle.ctl_core.specs.declared.turn.Turn.{Turn}
 use Rattle.ctl_core.specs.declared.turn.Turn.TheVariants.{Did, Held, Done}
 use Rattle.ctl_core.specs.declared.bench.Bench.{Bench}
@@ -63,6 +64,14 @@ first_of_list (y ∷ ys) x h = let same : y ≡ x = cc in (ys, ap (λ z. z ∷ y
 pub no_first : {A : Type 0} (xs : List A) → None ≡ slice_get xs 0 → xs ≡ []
 no_first [] h = refl
 no_first (y ∷ ys) h = cc
+
+pub none_lent : {A : Type 0} (lent : Option (Bor A)) (o : Option A) → option_copied lent ≡ o → lent ≡ None → None ≡ o
+none_lent None o h e = h
+none_lent (Some x) o h e = cc
+
+pub some_lent : {A : Type 0} (lent : Option (Bor A)) (o : Option A) (x : Bor A) → option_copied lent ≡ o → lent ≡ Some x → o ≡ Some x.now
+some_lent None o x h e = cc
+some_lent {A} (Some y) o x h e = let same : y ≡ x = cc in sym h ∙ ap (λ (z : Bor A). Some z.now) same
 
 -- what is answered where memory runs out
 pub where_err : {T E : Type 0} (result : Result T E) (P : Type 0) → P → OnErr result P
@@ -177,6 +186,36 @@ module _ {F : Type 0} {flash : Ghosts F} (past : Past F) (bench : Bench F flash)
             ap (next_op (sizes_in flash.state past)) run_found ∙ ap (λ cs. next_op_of (sizes_in flash.state past) cs own_place.run.replies) h in
         (ap (option_and_then (λ (op : Op). chip_of past.boot.partitions (device_of op))) none, ap has_no_command run_found ∙ ap is_finished h)
 
+    -- where a chip is next, a command is
+    pub begins_with : (k : ℕ) → next_chip past.boot.partitions (sizes_in flash.state past) (course_of flash.fault_model flash.state past) session ≡ Some k
+        → (command : Command) × (first : FirstLeft command) × (first.is_ready.part.chip ≡ k)
+    begins_with k h = by_commands own_place.run.commands refl
+      where
+        by_commands : (cs : List Command) → own_place.run.commands ≡ cs → (command : Command) × (first : FirstLeft command) × (first.is_ready.part.chip ≡ k)
+        by_commands [] e = let none : None ≡ Some k = sym (done_where_none e).0 ∙ h in cc
+        by_commands (command ∷ rest) e =
+            let first = first_left command (ap (λ cs. slice_get cs 0) e) in
+            let both : Some first.is_ready.part.chip ≡ Some k = chip_next command first ∙ h in
+            (command, first, cc)
+
+    -- the next command, as it is lent
+    pub none_next : (commands : List Command) (lent : Option (Bor Command)) → commands_at past.boot place ≡ Some commands
+        → option_copied lent ≡ slice_get (commands_by commands (standing bench.notes.notes s)) 0 → lent ≡ None
+        → (next_chip past.boot.partitions (sizes_in flash.state past) (course_of flash.fault_model flash.state past) session ≡ None)
+        × (is_done (course_of flash.fault_model flash.state past) session ≡ true)
+    none_next commands lent h copied none = done_where_none
+        (no_first own_place.run.commands (none_lent lent (slice_get own_place.run.commands 0) (copied ∙ ap (λ cs. slice_get cs 0) (sym (run_left commands h))) none))
+
+    pub some_next : (commands : List Command) (lent : Option (Bor Command)) (command : Bor Command) → commands_at past.boot place ≡ Some commands
+        → option_copied lent ≡ slice_get (commands_by commands (standing bench.notes.notes s)) 0 → lent ≡ Some command → FirstLeft command.now
+    some_next commands lent command h copied some = first_left command.now
+        (some_lent lent (slice_get own_place.run.commands 0) command (copied ∙ ap (λ cs. slice_get cs 0) (sym (run_left commands h))) some)
+
+    -- the part of its device, as it is lent
+    pub part_next : (command : Command) (first : FirstLeft command) (partitions : Partitions) (dev : ℕ) (lent : Option (Bor Part)) → partitions ≡ past.boot.partitions → dev ≡ command_device command
+        → option_copied lent ≡ part_of partitions dev → option_copied lent ≡ Some first.is_ready.part
+    part_next command first partitions dev lent p d copied = copied ∙ (λ i. part_of (p i) (d i)) ∙ first.is_ready.part_is
+
   -- the answers of a turn
   pub answers_done : is_done (course_of flash.fault_model flash.state past) session ≡ true
       → Done ≡ turn_answer past.boot.partitions (sizes_in flash.state past) (course_of flash.fault_model flash.state past) session
@@ -213,6 +252,16 @@ module _ {F : Type 0} {flash : Ghosts F} (past : Past F) (bench : Bench F flash)
           turn.on_course.stands ∙ turn.attached in
       turn_is_idle flash.fault_model past.boot (sizes_in flash.state past) (course_of flash.fault_model flash.state past) session lit attached
       (idle_else flash.fault_model past.boot (sizes_in flash.state past) (course_of flash.fault_model flash.state past) session lit attached (pending_is_none i) blocked)
+
+  -- a chip that no session holds is at rest
+  pub rests_here : (k : ℕ) (slot : Slot F flash) → slice_get bench.slots.items k ≡ Some slot → slot.holder ≡ None → is_resting (chip_stage slot.chip) ≡ true
+  rests_here k slot at holder =
+      let c = chip_of_slot k slot at in
+      let attached = unattached_there flash.fault_model past.boot turn.on_course.calm (starts_of flash.state past) (course_of flash.fault_model flash.state past) (kept_chips bench) bench.events bench.notes.notes bench.sessions.items
+          turn.on_course.stands ∙ turn.attached in
+      let known = position_none (λ (d : ChipRun flash.FaultState). is_none d.known) (course_of flash.fault_model flash.state past).chips attached k c.0 c.1 in
+      let r = resting past.boot.partitions c.0 known (ap (λ (y : KeptChip flash.FaultState). y.holder) c.2 ∙ holder) in
+      ap (λ (y : KeptChip flash.FaultState). is_resting y.stage) (sym c.2) ∙ (λ d. is_resting (stage_by past.boot.partitions c.0 (r.1 d) (r.2 d)))
 
   pub answers_held : (k by : ℕ) (slot : Slot F flash) → is_done (course_of flash.fault_model flash.state past) session ≡ false → first_held_by session (kept_chips bench) ≡ None
       → next_chip past.boot.partitions (sizes_in flash.state past) (course_of flash.fault_model flash.state past) session ≡ Some k → slice_get bench.slots.items k ≡ Some slot → slot.holder ≡ Some by
