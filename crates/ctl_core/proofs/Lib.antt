@@ -9,3 +9,7 @@ pub mod Slots
 pub mod Devices
 pub mod OnCourse
 pub mod BenchSteps
+pub mod Known
+pub mod PastSteps
+pub mod Limits
+pub mod CoreSteps

@@ -8,6 +8,7 @@ use Rattle.nand_model.specs.declared.geometry.Geometry.{Geometry}
 use Rattle.nand_model.specs.declared.words.Command.{Command}
 use Rattle.nand_model.specs.declared.words.Op.{Op}
 use Rattle.nand_model.specs.declared.words.Part.{Part}
+use Rattle.nand_model.specs.declared.words.Reply.{Reply}
 use Rattle.nand_model.specs.declared.words.Note.{Note}
 use Rattle.nand_model.specs.declared.words.Note.TheVariants.{Began, Answered}
 use Rattle.nand_model.specs.Chip.{ChipState, FaultModel, PageEvent}
@@ -19,7 +20,7 @@ use Rattle.run_model.specs.Command.{command_device}
 use Rattle.run_model.specs.Course.{Boot, Course, SessionRun, change_at, chip_of, chip_of_part, sizes_of, session_run, next_op, next_op_of, is_finished, pending_chip, unattached, can_begin, is_free_at, is_free, is_idle, turn_step}
 use Rattle.run_laws.proofs.Courses.{Holds}
 use Rattle.run_laws.proofs.Faithful.{course_holds}
-use Rattle.run_laws.proofs.Places.{position_none}
+use Rattle.run_laws.proofs.Places.{position_is, position_none}
 use Rattle.tool_steps.specs.Boot.{commands_at}
 use Rattle.tool_steps.specs.Stage.{CanRun}
 use Rattle.session_steps.specs.declared.session.Session.{Session}
@@ -39,7 +40,7 @@ use Rattle.ctl_core.specs.Answer.{next_chip, held_unless_pending, held_by, held_
 use Rattle.ctl_core.specs.Bench.{kept_slot, kept_chips, StandsAt, IsOnCourse, IsAtTurn, DidEvent}
 use Rattle.ctl_core.specs.Follows.{Follows}
 use Rattle.ctl_core.proofs.Positions.{mapped_length, at_mapped}
-use Rattle.ctl_core.proofs.CourseSteps.{resting, holding, idle_else, turn_is_idle}
+use Rattle.ctl_core.proofs.CourseSteps.{resting, holding, idle_else, turn_is_idle, busy_where_pending, busy_where_begins}
 use Rattle.ctl_core.proofs.Sessions.{Placed, placed, found}
 use Rattle.ctl_core.proofs.Devices.{Ready, ready, first_at, next_of, drop_all}
 use Rattle.ctl_core.proofs.Turns.{chip_there, unattached_there, pending_there, follows_as, follows_turn_event, held_next, found_held}
@@ -117,6 +118,20 @@ module _ {F : Type 0} {flash : Ghosts F} (past : Past F) (bench : Bench F flash)
       bench.sessions.items new.sessions.items did.chips did.events did.notes did.sessions
       (follows_turn_event flash.fault_model past.boot on.calm (starts_of flash.state past) (course_of flash.fault_model flash.state past) (kept_chips bench) bench.events bench.notes.notes bench.sessions.items
       on.stands session k x e attached held at has)
+
+  -- a session that holds a chip has commands left
+  pub held_not_done : (session k : ℕ) → first_held_by session (kept_chips bench) ≡ Some k → is_done (course_of flash.fault_model flash.state past) session ≡ false
+  held_not_done session k h =
+      let x = position_is (λ (y : KeptChip flash.FaultState). is_held_by session y.holder) (kept_chips bench) k h in
+      let holder = found_held flash.fault_model past.boot on.calm (starts_of flash.state past) (course_of flash.fault_model flash.state past) (kept_chips bench) bench.events bench.notes.notes bench.sessions.items on.stands
+          on.conditions.ascending holds session k x.0 h x.1 in
+      let n = held_next flash.fault_model past.boot on.calm (starts_of flash.state past) (course_of flash.fault_model flash.state past) (kept_chips bench) bench.events bench.notes.notes bench.sessions.items on.stands
+          on.conditions.ascending holds k session x.0 x.1 holder in
+      ap has_no_command n.2 ∙ asks_on n.0.replies n.1 n.0.commands n.3
+    where
+      asks_on : (replies : List Reply) (op : Op) (cs : List Command) → next_op_of (sizes_in flash.state past) cs replies ≡ Some op → is_finished cs ≡ false
+      asks_on replies op [] e = cc
+      asks_on replies op (command ∷ rest) e = refl
 
 module _ {F : Type 0} {flash : Ghosts F} (past : Past F) (bench : Bench F flash) (session place : ℕ) (turn : IsAtTurn past session place bench) where
   -- the session whose turn it is
@@ -242,16 +257,34 @@ module _ {F : Type 0} {flash : Ghosts F} (past : Past F) (bench : Bench F flash)
   chip_of_slot k slot h = chip_there flash.fault_model past.boot turn.on_course.calm (starts_of flash.state past) (course_of flash.fault_model flash.state past) (kept_chips bench) bench.events bench.notes.notes bench.sessions.items
       turn.on_course.stands k (kept_slot slot) (at_mapped kept_slot bench.slots.items k slot h)
 
-  -- nothing is done where the next operation cannot begin
-  pub stays_where_blocked : first_held_by session (kept_chips bench) ≡ None
+  idle_where_blocked : first_held_by session (kept_chips bench) ≡ None
       → can_begin past.boot.partitions (course_of flash.fault_model flash.state past) (next_op (sizes_in flash.state past) (session_run (course_of flash.fault_model flash.state past) session)) ≡ false
-      → next_course flash.fault_model flash.state past session ≡ course_of flash.fault_model flash.state past
-  stays_where_blocked i blocked =
-      let lit = turn.on_course.stands.keeps.lit in
+      → is_idle past.boot.partitions (sizes_in flash.state past) (course_of flash.fault_model flash.state past) session ≡ true
+  idle_where_blocked i blocked =
       let attached = unattached_there flash.fault_model past.boot turn.on_course.calm (starts_of flash.state past) (course_of flash.fault_model flash.state past) (kept_chips bench) bench.events bench.notes.notes bench.sessions.items
           turn.on_course.stands ∙ turn.attached in
-      turn_is_idle flash.fault_model past.boot (sizes_in flash.state past) (course_of flash.fault_model flash.state past) session lit attached
-      (idle_else flash.fault_model past.boot (sizes_in flash.state past) (course_of flash.fault_model flash.state past) session lit attached (pending_is_none i) blocked)
+      idle_else flash.fault_model past.boot (sizes_in flash.state past) (course_of flash.fault_model flash.state past) session turn.on_course.stands.keeps.lit attached (pending_is_none i) blocked
+
+  pub busy_pending : (k : ℕ) → first_held_by session (kept_chips bench) ≡ Some k → is_idle past.boot.partitions (sizes_in flash.state past) (course_of flash.fault_model flash.state past) session ≡ false
+  busy_pending k h =
+      let attached = unattached_there flash.fault_model past.boot turn.on_course.calm (starts_of flash.state past) (course_of flash.fault_model flash.state past) (kept_chips bench) bench.events bench.notes.notes bench.sessions.items
+          turn.on_course.stands ∙ turn.attached in
+      busy_where_pending flash.fault_model past.boot (sizes_in flash.state past) (course_of flash.fault_model flash.state past) session turn.on_course.stands.keeps.lit attached k
+      (pending_there flash.fault_model past.boot turn.on_course.calm (starts_of flash.state past) (course_of flash.fault_model flash.state past) (kept_chips bench) bench.events bench.notes.notes bench.sessions.items
+      turn.on_course.stands session turn.attached ∙ h)
+
+  -- nothing is done where the next operation cannot begin
+  stays_where_blocked : first_held_by session (kept_chips bench) ≡ None
+      → can_begin past.boot.partitions (course_of flash.fault_model flash.state past) (next_op (sizes_in flash.state past) (session_run (course_of flash.fault_model flash.state past) session)) ≡ false
+      → next_course flash.fault_model flash.state past session ≡ course_of flash.fault_model flash.state past
+  stays_where_blocked i blocked = turn_is_idle_by (idle_where_blocked i blocked)
+    where
+      turn_is_idle_by : is_idle past.boot.partitions (sizes_in flash.state past) (course_of flash.fault_model flash.state past) session ≡ true
+          → next_course flash.fault_model flash.state past session ≡ course_of flash.fault_model flash.state past
+      turn_is_idle_by h =
+          let attached = unattached_there flash.fault_model past.boot turn.on_course.calm (starts_of flash.state past) (course_of flash.fault_model flash.state past) (kept_chips bench) bench.events bench.notes.notes bench.sessions.items
+              turn.on_course.stands ∙ turn.attached in
+          turn_is_idle flash.fault_model past.boot (sizes_in flash.state past) (course_of flash.fault_model flash.state past) session turn.on_course.stands.keeps.lit attached h
 
   -- a chip that no session holds is at rest
   pub rests_here : (k : ℕ) (slot : Slot F flash) → slice_get bench.slots.items k ≡ Some slot → slot.holder ≡ None → is_resting (chip_stage slot.chip) ≡ true
@@ -267,6 +300,7 @@ module _ {F : Type 0} {flash : Ghosts F} (past : Past F) (bench : Bench F flash)
       → next_chip past.boot.partitions (sizes_in flash.state past) (course_of flash.fault_model flash.state past) session ≡ Some k → slice_get bench.slots.items k ≡ Some slot → slot.holder ≡ Some by
       → (Held by ≡ turn_answer past.boot.partitions (sizes_in flash.state past) (course_of flash.fault_model flash.state past) session)
       × (next_course flash.fault_model flash.state past session ≡ course_of flash.fault_model flash.state past)
+      × (is_idle past.boot.partitions (sizes_in flash.state past) (course_of flash.fault_model flash.state past) session ≡ true)
   answers_held k by slot h i j at holder =
       let c = chip_of_slot k slot at in
       let p = holding past.boot.partitions c.0 by (ap (λ (y : KeptChip flash.FaultState). y.holder) c.2 ∙ holder) in
@@ -274,12 +308,13 @@ module _ {F : Type 0} {flash : Ghosts F} (past : Past F) (bench : Bench F flash)
       let op = and_then_some (λ (op : Op). chip_of past.boot.partitions (device_of op)) (next_op (sizes_in flash.state past) (session_run (course_of flash.fault_model flash.state past) session)) k j in
       let blocked : can_begin past.boot.partitions (course_of flash.fault_model flash.state past) (next_op (sizes_in flash.state past) (session_run (course_of flash.fault_model flash.state past) session)) ≡ false =
           ap (can_begin past.boot.partitions (course_of flash.fault_model flash.state past)) op.1 ∙ ap (is_free_at (course_of flash.fault_model flash.state past)) op.2 ∙ ap is_free c.1 ∙ ap (λ (q : Option Pending). is_none q) p.1 in
-      (ap held_or_did (sym found) ∙ answers_else None (Some k) h (pending_is_none i) j, stays_where_blocked i blocked)
+      (ap held_or_did (sym found) ∙ answers_else None (Some k) h (pending_is_none i) j, stays_where_blocked i blocked, idle_where_blocked i blocked)
 
   -- a session that holds no chip begins on a free chip
   pub answers_did_begin : (k : ℕ) (slot : Slot F flash) → is_done (course_of flash.fault_model flash.state past) session ≡ false → first_held_by session (kept_chips bench) ≡ None
       → next_chip past.boot.partitions (sizes_in flash.state past) (course_of flash.fault_model flash.state past) session ≡ Some k → slice_get bench.slots.items k ≡ Some slot → slot.holder ≡ None
-      → Did ≡ turn_answer past.boot.partitions (sizes_in flash.state past) (course_of flash.fault_model flash.state past) session
+      → (Did ≡ turn_answer past.boot.partitions (sizes_in flash.state past) (course_of flash.fault_model flash.state past) session)
+      × (is_idle past.boot.partitions (sizes_in flash.state past) (course_of flash.fault_model flash.state past) session ≡ false)
   answers_did_begin k slot h i j at holder =
       let c = chip_of_slot k slot at in
       let attached = unattached_there flash.fault_model past.boot turn.on_course.calm (starts_of flash.state past) (course_of flash.fault_model flash.state past) (kept_chips bench) bench.events bench.notes.notes bench.sessions.items
@@ -287,17 +322,24 @@ module _ {F : Type 0} {flash : Ghosts F} (past : Past F) (bench : Bench F flash)
       let known = position_none (λ (d : ChipRun flash.FaultState). is_none d.known) (course_of flash.fault_model flash.state past).chips attached k c.0 c.1 in
       let r = resting past.boot.partitions c.0 known (ap (λ (y : KeptChip flash.FaultState). y.holder) c.2 ∙ holder) in
       let found : session_at (course_of flash.fault_model flash.state past) (Some k) ≡ None = ap session_on c.1 ∙ ap session_of r.2 in
-      ap held_or_did (sym found) ∙ answers_else None (Some k) h (pending_is_none i) j
+      let op = and_then_some (λ (op : Op). chip_of past.boot.partitions (device_of op)) (next_op (sizes_in flash.state past) (session_run (course_of flash.fault_model flash.state past) session)) k j in
+      let begins : can_begin past.boot.partitions (course_of flash.fault_model flash.state past) (next_op (sizes_in flash.state past) (session_run (course_of flash.fault_model flash.state past) session)) ≡ true =
+          ap (can_begin past.boot.partitions (course_of flash.fault_model flash.state past)) op.1 ∙ ap (is_free_at (course_of flash.fault_model flash.state past)) op.2 ∙ ap is_free c.1 ∙ ap (λ (q : Option Pending). is_none q) r.2 in
+      (ap held_or_did (sym found) ∙ answers_else None (Some k) h (pending_is_none i) j,
+      busy_where_begins flash.fault_model past.boot (sizes_in flash.state past) (course_of flash.fault_model flash.state past) session turn.on_course.stands.keeps.lit attached begins)
 
-  -- nothing is done where no chip is next
+  -- nothing is done where no command is left
   pub stays_where_done : first_held_by session (kept_chips bench) ≡ None → is_done (course_of flash.fault_model flash.state past) session ≡ true
-      → next_course flash.fault_model flash.state past session ≡ course_of flash.fault_model flash.state past
-  stays_where_done i h = stays_where_blocked i (blocked_by (session_run (course_of flash.fault_model flash.state past) session) h)
+      → (next_course flash.fault_model flash.state past session ≡ course_of flash.fault_model flash.state past)
+      × (is_idle past.boot.partitions (sizes_in flash.state past) (course_of flash.fault_model flash.state past) session ≡ true)
+  stays_where_done i h =
+      let blocked = blocked_by (session_run (course_of flash.fault_model flash.state past) session) h in
+      (stays_where_blocked i blocked, idle_where_blocked i blocked)
     where
+      by_commands : (run : SessionRun) (cs : List Command) → is_finished cs ≡ true → can_begin past.boot.partitions (course_of flash.fault_model flash.state past) (next_op_of (sizes_in flash.state past) cs run.replies) ≡ false
+      by_commands run [] e = refl
+      by_commands run (command ∷ rest) e = cc
+
       blocked_by : (o : Option SessionRun) → has_no_command o ≡ true → can_begin past.boot.partitions (course_of flash.fault_model flash.state past) (next_op (sizes_in flash.state past) o) ≡ false
       blocked_by None e = refl
-      blocked_by (Some run) e = by_commands run.commands e
-        where
-          by_commands : (cs : List Command) → is_finished cs ≡ true → can_begin past.boot.partitions (course_of flash.fault_model flash.state past) (next_op_of (sizes_in flash.state past) cs run.replies) ≡ false
-          by_commands [] e = refl
-          by_commands (command ∷ rest) e = cc
+      blocked_by (Some run) e = by_commands run run.commands e

@@ -1,4 +1,4 @@
-use Rattle.std.proofs.Common.{◌≡◌, ◌<◌, ℕ, List, length, false, Option, Some, None, refl, sym, ap, ◌∙◌, subst, get_or}
+use Rattle.std.proofs.Common.{◌≡◌, ◌<◌, not, ℕ, List, length, false, Option, Some, None, refl, sym, ap, ◌∙◌, subst, get_or}
 use Rattle.std.specs.Prelude.{slice_get, is_none, option_map}
 use Rattle.ctl_core.specs.Bench.{past_of, kept_slot, StandsAt}
 use Rattle.ctl_core.specs.KeptChip.{KeptChip}
@@ -16,7 +16,7 @@ pub returns-in_default-clause-stands : goal.returns-in_default-clause-stands
 returns-in_default-clause-stands g c =
     let past = past_of c.args.journal.now in
     subst (λ course. StandsAt past course c.args.self.now)
-    (sym (stays_where_done past c.args.self.now c.args.session c.args.place c.requires.turn c.requires.free (sym c.next_chip.ensures.over ∙ ap is_none c.in_default.is)))
+    (sym (stays_where_done past c.args.self.now c.args.session c.args.place c.requires.turn c.requires.free (sym c.next_chip.ensures.over ∙ ap is_none c.in_default.is)).0)
     c.requires.turn.on_course.stands
 
 pub returns-in-Some-holder-clause-answer : goal.returns-in-Some-holder-clause-answer
@@ -49,5 +49,26 @@ returns-clause-answer g c =
     let past = past_of c.args.journal.now in
     let within = at_some (λ k. k < length c.args.self.now.slots.items) c.next_chip.result c.in-Some.k c.next_chip.ensures.there c.in-Some.is in
     let slot = lent_within c.args.self.now.slots.items c.in-Some.k c.index.result.now within c.index.ensures in
-    answers_did_begin past c.args.self.now c.args.session c.args.place c.requires.turn c.in-Some.k c.index.result.now
-    (sym c.next_chip.ensures.over ∙ ap is_none c.in-Some.is) c.requires.free (sym c.next_chip.ensures.chip ∙ c.in-Some.is) slot c.in_default-holder.is
+    (answers_did_begin past c.args.self.now c.args.session c.args.place c.requires.turn c.in-Some.k c.index.result.now
+    (sym c.next_chip.ensures.over ∙ ap is_none c.in-Some.is) c.requires.free (sym c.next_chip.ensures.chip ∙ c.in-Some.is) slot c.in_default-holder.is).0
+
+pub returns-clause-idle : goal.returns-clause-idle
+returns-clause-idle g c =
+    let past = past_of c.args.journal.now in
+    let within = at_some (λ k. k < length c.args.self.now.slots.items) c.next_chip.result c.in-Some.k c.next_chip.ensures.there c.in-Some.is in
+    let slot = lent_within c.args.self.now.slots.items c.in-Some.k c.index.result.now within c.index.ensures in
+    ap not (sym (answers_did_begin past c.args.self.now c.args.session c.args.place c.requires.turn c.in-Some.k c.index.result.now
+    (sym c.next_chip.ensures.over ∙ ap is_none c.in-Some.is) c.requires.free (sym c.next_chip.ensures.chip ∙ c.in-Some.is) slot c.in_default-holder.is).1)
+
+pub returns-in-Some-holder-clause-idle : goal.returns-in-Some-holder-clause-idle
+returns-in-Some-holder-clause-idle g c =
+    let past = past_of c.args.journal.now in
+    let within = at_some (λ k. k < length c.args.self.now.slots.items) c.next_chip.result c.in-Some.k c.next_chip.ensures.there c.in-Some.is in
+    let slot = lent_within c.args.self.now.slots.items c.in-Some.k c.index.result.now within c.index.ensures in
+    ap not (sym (answers_held past c.args.self.now c.args.session c.args.place c.requires.turn c.in-Some.k c.in-Some-holder.by c.index.result.now
+    (sym c.next_chip.ensures.over ∙ ap is_none c.in-Some.is) c.requires.free (sym c.next_chip.ensures.chip ∙ c.in-Some.is) slot c.in-Some-holder.is).2)
+
+pub returns-in_default-clause-idle : goal.returns-in_default-clause-idle
+returns-in_default-clause-idle g c =
+    let past = past_of c.args.journal.now in
+    ap not (sym (stays_where_done past c.args.self.now c.args.session c.args.place c.requires.turn c.requires.free (sym c.next_chip.ensures.over ∙ ap is_none c.in_default.is)).1)
