@@ -56,6 +56,10 @@ module _ {F : Type 0} {flash : Ghosts F} (past : Past F) (bench : Bench F flash)
         bench.notes.notes notes.notes bench.sessions.items bench.sessions.items refl refl same refl on.stands;
   }
 
+  -- with other lists of the same turns and notes
+  pub relisted : (turns : List ℕ) (notes : NotesAndRoom) → turns ≡ past.turns → notes.notes ≡ bench.notes.notes → IsOnCourse (record past { turns = turns }) (record bench { notes = notes })
+  relisted turns notes same_turns same_notes = subst (λ ts. IsOnCourse (record past { turns = ts }) (record bench { notes = notes })) (sym same_turns) (renoted notes same_notes)
+
   -- at the same course with other chips, notes or sessions
   pub stayed_on : (new : Bench F flash) → StandsAt past (course_of flash.fault_model flash.state past) new → IsOnCourse past new
   stayed_on new stands = record {
