@@ -3,3 +3,5 @@ pub mod Scanning
 pub mod Unflipped
 pub mod Beginning
 pub mod Advancing
+pub mod Performing
+pub mod Attached

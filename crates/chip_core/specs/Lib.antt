@@ -4,3 +4,4 @@ pub mod Begin
 pub mod Task
 pub mod Phase
 pub mod Chip
+pub mod Whole

@@ -6,7 +6,9 @@ mod phase;
 mod scan;
 mod table;
 mod task;
+mod whole;
 
 pub use chip::Chip;
 pub use mtd_part::Parts;
 pub use nand_iface::{Event, Fairness, Flash, Note, Op, Reply, Stats};
+pub use whole::{attach, perform};

@@ -6,3 +6,10 @@ pub mod Places
 pub mod Sessions
 pub mod Turns
 pub mod Slots
+pub mod Devices
+pub mod OnCourse
+pub mod BenchSteps
+pub mod Known
+pub mod PastSteps
+pub mod Limits
+pub mod CoreSteps

@@ -11,7 +11,7 @@ same_or_len p q f [] h = refl
 same_or_len p q f (x ∷ xs) h =
     ap (λ b. cond (not b) (1 + position_or_len p xs) 0) (h zero x refl) ∙ ap (λ n. cond (not (q (f x))) (1 + n) 0) (same_or_len p q f xs (λ k y e. h (suc k) y e))
 
-mapped_length : {A B : Type 0} (f : A → B) (xs : List A) → length (map f xs) ≡ length xs
+pub mapped_length : {A B : Type 0} (f : A → B) (xs : List A) → length (map f xs) ≡ length xs
 mapped_length f [] = refl
 mapped_length f (x ∷ xs) = ap suc (mapped_length f xs)
 

@@ -41,6 +41,15 @@ finished_stage (Attaches left quiet) finished h = cc
 finished_stage (Rests known) finished h = cc
 finished_stage (Works known left) finished h = finished_path left finished h
 
+-- the same controller
+pub follows_as : {W : Type 0} (boot : Boot) (starts : List (ChipState W)) (course : Course W) (chips now_chips : List (KeptChip W)) (events now_events : ℕ) (notes now_notes : List Note) (sessions now_sessions : List Session)
+    → now_chips ≡ chips → now_events ≡ events → now_notes ≡ notes → now_sessions ≡ sessions → Follows boot starts course chips events notes sessions → Follows boot starts course now_chips now_events now_notes now_sessions
+follows_as boot starts course chips now_chips events now_events notes now_notes sessions now_sessions c e n s f =
+    subst (λ z. Follows boot starts course z now_events now_notes now_sessions) (sym c)
+    (subst (λ z. Follows boot starts course chips z now_notes now_sessions) (sym e)
+    (subst (λ z. Follows boot starts course chips events z now_sessions) (sym n)
+    (subst (λ z. Follows boot starts course chips events notes z) (sym s) f)))
+
 module _ {W : Type 0} (model : FaultModel W) (boot : Boot) (calm : IsCalm boot) (starts : List (ChipState W)) (course : Course W)
     (chips : List (KeptChip W)) (events : ℕ) (notes : List Note) (sessions : List Session) (follows : Follows boot starts course chips events notes sessions) where
   -- a kept chip is one of the course
@@ -161,7 +170,8 @@ module _ {W : Type 0} (model : FaultModel W) (boot : Boot) (calm : IsCalm boot) 
     pub follows_begin : (i k : ℕ) (s new : Session) (changed : List Session) (x : KeptChip W) (op : Op) → first_attaching chips ≡ None → slice_get sessions i ≡ Some s
         → first_held_by (number_of s) chips ≡ None → slice_get chips k ≡ Some x → x.holder ≡ None → OneChanged sessions i new changed → IsWaiting new
         → next_op (sizes_of boot starts) (session_run course (number_of s)) ≡ Some op → chip_of boot.partitions (device_of op) ≡ Some k
-        → ((commands : List Command) (run : SessionRun) → slice_get course.sessions i ≡ Some run → Mirrors (sizes_of boot starts) commands notes s run → Mirrors (sizes_of boot starts) commands notes new run)
+        → ((own : ℕ × List Command) (run : SessionRun) → slice_get boot.sessions i ≡ Some own → slice_get course.sessions i ≡ Some run → Mirrors (sizes_of boot starts) own.1 notes s run
+            → Mirrors (sizes_of boot starts) own.1 notes new run)
         → Follows boot starts (turn_step model boot (sizes_of boot starts) course (number_of s)) (change_at chips k (after_begin boot.partitions (number_of s) op)) events
           (notes ++ Began (number_of s) op ∷ []) changed
     follows_begin i k s new changed x op attached is_at held at free o waits next of_chip resumed =
@@ -170,10 +180,10 @@ module _ {W : Type 0} (model : FaultModel W) (boot : Boot) (calm : IsCalm boot) 
         let r = resting boot.partitions c.0 known (ap (λ (y : KeptChip W). y.holder) c.2 ∙ free) in
         let is = turn_begins model boot (sizes_of boot starts) course (number_of s) follows.keeps.lit (unattached_there ∙ attached) k c.0 op (pending_there (number_of s) attached ∙ held) next of_chip c.1 r.2 in
         let placed_s = placed (sizes_of boot starts) boot.sessions notes sessions course.sessions follows.mirrors i s is_at in
-        let m = resumed placed_s.own.1 placed_s.run placed_s.run_at placed_s.mirrors in
+        let m = resumed placed_s.own placed_s.run placed_s.begun_at placed_s.run_at placed_s.mirrors in
         let number_new : number_of new ≡ number_of s = sym m.shows.number ∙ placed_s.mirrors.shows.number in
         let mirrors_now = one_resumed (sizes_of boot starts) boot.sessions notes sessions course.sessions follows.mirrors i s new changed is_at o
-            (λ own run b at_run. resumed own.1 run at_run (follows.mirrors.each i own s run b is_at at_run).1) in
+            (λ own run b at_run. resumed own run b at_run (follows.mirrors.each i own s run b is_at at_run).1) in
         subst (λ d. Follows boot starts d (change_at chips k (after_begin boot.partitions (number_of s) op)) events (notes ++ Began (number_of s) op ∷ []) changed) (sym is) (record {
           keeps = begin_kept model boot calm (sizes_of boot starts) course chips events notes (number_of s) k op c.0 r.0 follows.keeps c.1 r.1 r.2;
           mirrors = all_later (sizes_of boot starts) boot.sessions notes changed course.sessions mirrors_now (Began (number_of s) op ∷ []);
@@ -183,15 +193,16 @@ module _ {W : Type 0} (model : FaultModel W) (boot : Boot) (calm : IsCalm boot) 
 
     -- a session that could not begin for want of memory
     pub follows_resumed : (i : ℕ) (s new : Session) (changed : List Session) → slice_get sessions i ≡ Some s → first_held_by (number_of s) chips ≡ None → OneChanged sessions i new changed
-        → ((commands : List Command) (run : SessionRun) → slice_get course.sessions i ≡ Some run → Mirrors (sizes_of boot starts) commands notes s run → Mirrors (sizes_of boot starts) commands notes new run)
+        → ((own : ℕ × List Command) (run : SessionRun) → slice_get boot.sessions i ≡ Some own → slice_get course.sessions i ≡ Some run → Mirrors (sizes_of boot starts) own.1 notes s run
+            → Mirrors (sizes_of boot starts) own.1 notes new run)
         → Follows boot starts course chips events notes changed
     follows_resumed i s new changed is_at held o resumed =
         let placed_s = placed (sizes_of boot starts) boot.sessions notes sessions course.sessions follows.mirrors i s is_at in
-        let m = resumed placed_s.own.1 placed_s.run placed_s.run_at placed_s.mirrors in
+        let m = resumed placed_s.own placed_s.run placed_s.begun_at placed_s.run_at placed_s.mirrors in
         let number_new : number_of new ≡ number_of s = sym m.shows.number ∙ placed_s.mirrors.shows.number in
         record {
           keeps = follows.keeps;
           mirrors = one_resumed (sizes_of boot starts) boot.sessions notes sessions course.sessions follows.mirrors i s new changed is_at o
-              (λ own run b at_run. resumed own.1 run at_run (follows.mirrors.each i own s run b is_at at_run).1);
+              (λ own run b at_run. resumed own run b at_run (follows.mirrors.each i own s run b is_at at_run).1);
           wait = wait_beside chips sessions follows.wait i new changed o (λ j y at e. none_held (number_of s) held j y at (e ∙ ap Some number_new));
         }

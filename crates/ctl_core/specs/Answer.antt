@@ -34,6 +34,13 @@ done_or false turn = turn
 abbrev pub turn_answer : {W : Type 0} → Partitions → (Command → Geometry) → Course W → ℕ → Turn
 turn_answer partitions sizes course session = done_or (is_done course session) (held_or_did (held_by partitions sizes course session))
 
+-- a turn that did something
+abbrev pub is_did : Turn → Bool
+is_did Did = true
+is_did (Held by) = false
+is_did Done = false
+is_did Dark = false
+
 -- an attach turn is answered Did where a chip is not attached, else Done
 abbrev pub attach_answer : Option ℕ → Turn
 attach_answer None = Done

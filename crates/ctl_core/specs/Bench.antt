@@ -1,16 +1,18 @@
 -- What a controller keeps, as its course has it.
-use Rattle.std.specs.Prelude.{◌≡◌, ℕ, ◌+◌, ◌++◌, List, [], map, slice_get, Option, Some, None, option_and_then}
+use Rattle.std.specs.Prelude.{◌≡◌, ℕ, ◌+◌, ◌++◌, List, [], map, slice_get, Option, Some, None, option_map, option_and_then}
 use Rattle.nand_iface.specs.declared.flash.Flash.{Ghosts}
 use Rattle.nand_model.specs.Chip.{ChipState, PageEvent}
 use Rattle.run_model.specs.Course.{Course, change_at, unattached, course_after}
 use Rattle.run_model.specs.Laws.{IsCalm}
 use Rattle.run_laws.specs.Turns.{busy_turns}
 use Rattle.chip_core.specs.Chip.{chip_state, chip_stage, chip_news}
-use Rattle.chip_model.specs.Stage.{stage_event, failure_told}
+use Rattle.chip_model.specs.Stage.{stage_event, finished_in, failure_told}
+use Rattle.nand_model.specs.Operation.{Finished}
+use Rattle.session_steps.specs.Standing.{number_of}
 use Rattle.ctl_core.specs.declared.bench.Slot.{Slot}
 use Rattle.ctl_core.specs.declared.bench.Bench.{Bench}
 use Rattle.ctl_core.specs.declared.journal.Journal.{Journal}
-use Rattle.ctl_core.specs.KeptChip.{KeptChip, after_event, with_news_told, failure_notes, news_notes}
+use Rattle.ctl_core.specs.KeptChip.{KeptChip, first_attaching, after_event, with_news_told, failure_notes, news_notes}
 use Rattle.ctl_core.specs.Follows.{Follows}
 use Rattle.ctl_core.specs.Past.{Past, starts_of, course_of}
 use Rattle.ctl_core.specs.Start.{CanStart}
@@ -52,3 +54,13 @@ pub record DidEvent {F : Type 0} {flash : Ghosts F} (k : ℕ) (c : KeptChip flas
   pub events : new.events ≡ old.events + 1
   pub notes : new.notes.notes ≡ old.notes.notes ++ failure_notes k (old.events + 1) e (failure_told flash.fault_model c.state e) ++ news_notes k (after_event flash.fault_model e c).news
   pub sessions : new.sessions.items ≡ old.sessions.items
+
+-- how the operation in flight on a chip has ended, where no event of it is left
+abbrev pub finished_at : {F : Type 0} {flash : Ghosts F} → Bench F flash → ℕ → Option Finished
+finished_at {F} {flash} bench k = option_and_then (λ (c : KeptChip flash.FaultState). finished_in c.stage) (slice_get (kept_chips bench) k)
+
+-- a bench whose chips are all attached, with a session at its place
+pub record IsAtTurn {F : Type 0} {flash : Ghosts F} (past : Past F) (session place : ℕ) (bench : Bench F flash) : Type 0 where
+  pub on_course : IsOnCourse past bench
+  pub attached : first_attaching (kept_chips bench) ≡ None
+  pub own : option_map number_of (slice_get bench.sessions.items place) ≡ Some session

@@ -3,7 +3,6 @@ pub mod KeptChip
 pub mod Keeps
 pub mod Sessions
 pub mod Follows
-pub mod CostDraft
 pub mod Start
 pub mod Answer
 pub mod Bench

@@ -4,7 +4,7 @@ use Rattle.nand_model.specs.Chip.{ChipState, FaultModel}
 use Rattle.nand_model.specs.ChipRun.{ChipRun, Pending}
 use Rattle.nand_model.specs.declared.geometry.Geometry.{Geometry}
 use Rattle.nand_model.specs.declared.words.Command.{Command}
-use Rattle.run_model.specs.Course.{Boot, Course, SessionRun, session_run, is_finished, course_after, sizes_of}
+use Rattle.run_model.specs.Course.{Boot, Course, SessionRun, session_run, is_finished, course_after, turn_step, sizes_of}
 
 -- a controller's boot, the flashes with which it was started, the number of its attach steps, and the sessions whose turns did something, in order
 pub record Past (F : Type 0) : Type 0 where
@@ -36,6 +36,10 @@ sizes_in state past = sizes_of past.boot (starts_of state past)
 -- the course that a controller is on
 abbrev pub course_of : {F W : Type 0} → FaultModel W → (F → ChipState W) → Past F → Course W
 course_of model state past = course_after model past.boot (starts_of state past) past.attaches past.turns
+
+-- the course after one more turn
+abbrev pub next_course : {F W : Type 0} → FaultModel W → (F → ChipState W) → Past F → ℕ → Course W
+next_course model state past session = turn_step model past.boot (sizes_in state past) (course_of model state past) session
 
 -- no command of a session is left (nor of one that is not there)
 abbrev pub has_no_command : Option SessionRun → Bool

@@ -1,12 +1,12 @@
 -- The sessions of a controller, beside those of the course that it is on.
-use Rattle.std.specs.Prelude.{◌≡◌, ℕ, ◌<◌, List, length, slice_get, Option, Some}
+use Rattle.std.specs.Prelude.{◌≡◌, ℕ, ◌<◌, true, List, [], length, slice_get, Option, Some}
 use Rattle.nand_model.specs.declared.geometry.Geometry.{Geometry}
 use Rattle.nand_model.specs.declared.words.Command.{Command}
 use Rattle.nand_model.specs.declared.words.Note.{Note}
-use Rattle.run_model.specs.Course.{SessionRun}
+use Rattle.run_model.specs.Course.{SessionRun, without_finished, is_finished}
 use Rattle.session_steps.specs.declared.session.Session.{Session}
-use Rattle.session_steps.specs.Standing.{number_of, IsWaiting}
-use Rattle.session_steps.specs.Mirrors.{Mirrors}
+use Rattle.session_steps.specs.Standing.{number_of, standing, commands_by, IsWaiting}
+use Rattle.session_steps.specs.Mirrors.{CanAllRun, Mirrors}
 use Rattle.ctl_core.specs.KeptChip.{KeptChip}
 
 -- the numbers of a boot's sessions ascend
@@ -24,3 +24,18 @@ pub record SessionsMirror (sizes : Command → Geometry) (begun : List (ℕ × L
 abbrev pub HoldersWait : {W : Type 0} → List (KeptChip W) → List Session → Type 0
 HoldersWait {W} chips sessions =
     (k i : ℕ) (c : KeptChip W) (s : Session) → slice_get chips k ≡ Some c → slice_get sessions i ≡ Some s → c.holder ≡ Some (number_of s) → IsWaiting s
+
+-- a session that has begun nothing
+abbrev pub IsFresh : ℕ → Session → Type 0
+IsFresh number s = (sizes : Command → Geometry) (commands : List Command) (notes : List Note) → CanAllRun sizes commands →
+    Mirrors sizes commands notes s (without_finished sizes number commands [] [])
+
+-- the sessions of a boot at their start
+pub record AreFresh (begun : List (ℕ × List Command)) (sessions : List Session) : Type 0 where
+  pub many : length sessions ≡ length begun
+  pub each : (i : ℕ) (b : ℕ × List Command) (s : Session) → slice_get begun i ≡ Some b → slice_get sessions i ≡ Some s → IsFresh b.0 s
+
+-- the commands of each session are over
+abbrev pub AreAllDone : List (ℕ × List Command) → List Note → List Session → Type 0
+AreAllDone begun notes sessions = (i : ℕ) (b : ℕ × List Command) (s : Session) → slice_get begun i ≡ Some b → slice_get sessions i ≡ Some s
+    → is_finished (commands_by b.1 (standing notes s)) ≡ true

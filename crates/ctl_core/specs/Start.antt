@@ -9,7 +9,7 @@ use Rattle.run_model.specs.Command.{command_device}
 use Rattle.run_model.specs.Course.{Boot}
 use Rattle.tool_steps.specs.Stage.{device_size}
 use Rattle.tool_steps.specs.Boot.{session_number}
-use Rattle.ctl_core.specs.CostDraft.{boot_cost, CanRunBoot}
+use Rattle.cost_laws.specs.Cost.{boot_cost, CanRunBoot}
 use Rattle.chip_core.specs.Calm.{HasNoFlips}
 use Rattle.ctl_core.specs.Sessions.{AreAscending}
 

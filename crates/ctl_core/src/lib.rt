@@ -2,7 +2,11 @@
 #![tactic(auto)]
 
 mod bench;
+mod controller;
 mod journal;
+mod starting;
+mod steps;
 mod turn;
 
+pub use controller::Core;
 pub use turn::Turn;

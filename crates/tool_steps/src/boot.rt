@@ -1,6 +1,7 @@
 // A controller's part of one boot.
 ghost use Rattle.std.specs.Prelude.{◌≡◌, ◌<◌, [], ℕ, List, length, All, OnOk, OnErr, IfErr, option_copied};
 ghost use Rattle.nand_model.specs.declared.words.Command.{Command as Ordered};
+ghost use Rattle.run_model.specs.Laws.{IsCalm};
 ghost use Rattle.tool_steps.specs.Boot.{calm_boot, with_session, with_command, session_number, commands_at, command_at};
 
 use mtd_part::Parts;
@@ -82,9 +83,10 @@ impl ControllerBoot {
         &self.partitions
     }
 
-    /// The number of the session at place `k`, counted from 0. None comes exactly where there is none.
+    /// The number of the session at place `k`, counted from 0. None comes exactly where there is none. The boot has no flip and no cut.
     pub fn session(&self, k: usize) -> Option<u32>
-        ensures { result ≡ session_number self.now k }
+        ensures number { result ≡ session_number self.now k }
+        ensures calm { IsCalm self.now }
     {
         if k < self.order.len() {
             Some(self.order[k].number)

@@ -1,0 +1,116 @@
+-- A whole attach without tables, block after block.
+use Rattle.std.proofs.Common.{◌≡◌, ℕ, ◌+◌, ◌<◌, ◌≤◌, Bool, true, List, [], ◌∷◌, ◌++◌, Option, Some, None, refl, ap, sym, subst, ◌∙◌, arith, zero, suc, add-one, add-zero}
+use Rattle.std.specs.Prelude.{map, IsSome, IfSome}
+use Rattle.std.proofs.lemmas.List.{map-append}
+use Rattle.nand_model.proofs.Bounds.{bounds}
+use Rattle.nand_model.specs.Attach.{Attaching, marker_table}
+use Rattle.nand_model.specs.Chip.{ChipState, Complete, FaultModel, PageEvent, ReadEvent, happens}
+use Rattle.nand_model.specs.Path.{Path, Over, Data, answer_to, first_event}
+use Rattle.nand_model.specs.Quiet.{is_quiet}
+use Rattle.nand_model.specs.Sizes.{numbers_from, first_page}
+use Rattle.chip_model.specs.Stage.{Stage, Attaches, Rests, attach_end, attach_stage, first_stage, news_after, path_after, stage_after, stage_event}
+use Rattle.chip_core.specs.Calm.{HasNoFlips}
+use Rattle.chip_core.specs.Markers.{attached_by_markers, blocks_from, known_by_markers, marker_page, marker_state, markers_left}
+use Rattle.chip_core.specs.Whole.{marker_states}
+use Rattle.chip_core.proofs.Scanning.{attach_path-markers, blocks_from-end, blocks_from-head, next_read, no_end_yet, still_attaches}
+use Rattle.chip_core.proofs.Unflipped.{quiet}
+
+-- the states of the blocks before this one
+abbrev pub states_before : {W : Type 0} → ChipState W → ℕ → List ℕ
+states_before s block = marker_table s.geometry (map (marker_page s) (numbers_from 0 block))
+
+-- what is left of the attach from this block on
+abbrev pub left_from : {W : Type 0} → ChipState W → ℕ → Path Attaching
+left_from s block = markers_left s.geometry (states_before s block) (blocks_from s.geometry block)
+
+-- a chip of which the blocks before this one are read
+pub record IsAttachedTo {W : Type 0} (start : ChipState W) (block : ℕ) (now : ChipState W) (stage : Stage) (news : Option (Bool × Attaching)) : Type 0 where
+  pub same : now ≡ start
+  pub stage_is : stage ≡ attach_stage (left_from start block) true
+  pub news_is : news ≡ attach_end (left_from start block) true
+
+-- one more number
+numbers_from-suc : (first count : ℕ) → numbers_from first (suc count) ≡ numbers_from first count ++ (first + count) ∷ []
+numbers_from-suc first zero = ap (λ n. n ∷ []) (sym (add-zero first))
+numbers_from-suc first (suc count) =
+    let e : first + 1 + count ≡ first + suc count = omega arith in
+    ap (λ ns. first ∷ ns) (numbers_from-suc (first + 1) count ∙ ap (λ n. numbers_from (first + 1) count ++ n ∷ []) e)
+
+at_some : {T : Type 0} (x : Option T) (v : T) (P : T → Type 0) → x ≡ Some v → IfSome x P → P v
+at_some x v P is h = subst (λ o. IfSome o P) is h
+
+module _ {W : Type 0} (start : ChipState W) where
+  one_more_state : (block : ℕ) → states_before start (block + 1) ≡ states_before start block ++ marker_state start.geometry (marker_page start block) ∷ []
+  one_more_state block =
+      let place : 0 + block ≡ block = omega arith in
+      let more : numbers_from 0 (block + 1) ≡ numbers_from 0 block ++ block ∷ [] =
+      ap (numbers_from 0) (add-one block) ∙ numbers_from-suc 0 block ∙ ap (λ k. numbers_from 0 block ++ k ∷ []) place in
+      ap (λ blocks. marker_table start.geometry (map (marker_page start) blocks)) more ∙ ap (marker_table start.geometry) (map-append (marker_page start) (numbers_from 0 block) (block ∷ []))
+      ∙ map-append (marker_state start.geometry) (map (marker_page start) (numbers_from 0 block)) (marker_page start block ∷ [])
+
+  -- the first block is there
+  first_there : 0 < start.geometry.blocks
+  first_there = let low = (bounds start.geometry).blocks_low in omega arith
+
+  pub begins : start.geometry.bbt ≡ 0 → (now : ChipState W) (stage : Stage) (news : Option (Bool × Attaching)) → now ≡ start → stage ≡ first_stage start.geometry → news ≡ None
+      → IsAttachedTo start 0 now stage news
+  begins none now stage news same stage_is news_is = record {
+    same = same;
+    stage_is = stage_is ∙ ap (λ left. Attaches left true) (attach_path-markers start.geometry none) ∙ sym (still_attaches start.geometry [] 0 first_there true);
+    news_is = news_is ∙ sym (no_end_yet start.geometry [] 0 first_there true);
+  }
+
+  module _ (block : ℕ) (now : ChipState W) (stage : Stage) (news : Option (Bool × Attaching)) (at : IsAttachedTo start block now stage news) where
+    module _ (there : block < start.geometry.blocks) where
+      attaches : stage ≡ Attaches (left_from start block) true
+      attaches = at.stage_is ∙ still_attaches start.geometry (states_before start block) block there true
+
+      reads : stage_event stage ≡ Some (ReadEvent (first_page start.geometry block))
+      reads = ap stage_event attaches ∙ next_read start.geometry (states_before start block) block there
+
+      pub has_next : IsSome (stage_event stage)
+      has_next = subst IsSome (sym reads) refl
+
+      path_goes_on : path_after (Data (marker_page start block)) (left_from start block) ≡ left_from start (block + 1)
+      path_goes_on =
+          ap (λ blocks. path_after (Data (marker_page start block)) (markers_left start.geometry (states_before start block) blocks)) (blocks_from-head start.geometry block there)
+          ∙ ap (λ states. markers_left start.geometry states (blocks_from start.geometry (block + 1))) (sym (one_more_state block))
+
+      module _ (model : FaultModel W) (none : start.geometry.bbt ≡ 0) (calm : HasNoFlips start) where
+        is_calm : is_quiet now.geometry now.pages ≡ true
+        is_calm = ap (λ (s : ChipState W). is_quiet s.geometry s.pages) at.same ∙ quiet start none calm
+
+        saw : answer_to model now (ReadEvent (first_page start.geometry block)) ≡ Data (marker_page start block)
+        saw = ap (λ s. answer_to model s (ReadEvent (first_page start.geometry block))) at.same
+
+        -- one more block is read
+        pub goes_on : (after : ChipState W) (stage_then : Stage) (news_then : Option (Bool × Attaching))
+            → IfSome (stage_event stage) (λ e. after ≡ happens model now (Complete e))
+            → IfSome (stage_event stage) (λ e. stage_then ≡ stage_after (is_quiet now.geometry now.pages) (answer_to model now e) stage)
+            → IfSome (stage_event stage) (λ e. news_then ≡ news_after (is_quiet now.geometry now.pages) (answer_to model now e) stage news)
+            → IsAttachedTo start (block + 1) after stage_then news_then
+        goes_on after stage_then news_then state_is stage_is news_is =
+            let read : PageEvent = ReadEvent (first_page start.geometry block) in
+            record {
+              same = at_some (stage_event stage) read (λ e. after ≡ happens model now (Complete e)) reads state_is ∙ at.same;
+              stage_is =
+                  at_some (stage_event stage) read (λ e. stage_then ≡ stage_after (is_quiet now.geometry now.pages) (answer_to model now e) stage) reads stage_is
+                  ∙ ap (λ q. stage_after q (answer_to model now read) stage) is_calm ∙ ap (λ answer. stage_after true answer stage) saw
+                  ∙ ap (stage_after true (Data (marker_page start block))) attaches ∙ ap (λ left. attach_stage left true) path_goes_on;
+              news_is =
+                  at_some (stage_event stage) read (λ e. news_then ≡ news_after (is_quiet now.geometry now.pages) (answer_to model now e) stage news) reads news_is
+                  ∙ ap (λ q. news_after q (answer_to model now read) stage news) is_calm ∙ ap (λ answer. news_after true answer stage news) saw
+                  ∙ ap (λ stage. news_after true (Data (marker_page start block)) stage news) attaches ∙ ap (λ left. attach_end left true) path_goes_on;
+            }
+
+    module _ (last : block ≡ start.geometry.blocks) where
+      all_read : left_from start block ≡ Over (attached_by_markers (marker_states start))
+      all_read =
+          let past : start.geometry.blocks ≤ start.geometry.blocks = omega arith in
+          ap (left_from start) last ∙ ap (markers_left start.geometry (marker_states start)) (blocks_from-end start.geometry start.geometry.blocks past)
+
+      pub now_rests : stage ≡ Rests (known_by_markers (marker_states start))
+      now_rests = at.stage_is ∙ ap (λ left. attach_stage left true) all_read
+
+      pub now_news : news ≡ Some (true, attached_by_markers (marker_states start))
+      now_news = at.news_is ∙ ap (λ left. attach_end left true) all_read

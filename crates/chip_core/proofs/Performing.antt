@@ -1,0 +1,250 @@
+-- A whole raw operation: it is over at once, or after one event.
+use Rattle.std.proofs.Common.{◌≡◌, ℕ, ◌+◌, ◌-◌, ◌/◌, ◌^◌, ◌<◌, ◌≤◌, Bool, true, false, List, [], ◌∷◌, Option, Some, None, refl, ap, sym, subst, ◌∙◌, inl, inr, arith}
+use Rattle.std.specs.Prelude.{IsSome, IfSome, is_some, option_map, slice_index, ◌==◌}
+use Rattle.std.proofs.Math.Nat.{min-eq_left, min-eq_right}
+use Rattle.std.proofs.lemmas.Bool.{false≢true, true≢false, both_ways, cases_lt}
+use Rattle.nand_model.specs.Attach.{Attaching}
+use Rattle.nand_model.specs.Chip.{ChipState, Complete, DoneBits, EraseCall, EraseEvent, FaultModel, PageEvent, ProgramCall, ProgramEvent, ReadEvent, counted, erase_block, failure_of, happens, program_page, saturating_increment}
+use Rattle.nand_model.specs.ChipRun.{name_of}
+use Rattle.nand_model.specs.Counts.{HasRisen}
+use Rattle.nand_model.specs.Operation.{Finished, Known, Partitions, answer, chip_block, chip_page, device_of, done_or, entry_of, has_block, has_page, is_good_block, only_if, operation_by, operation_in, operation_path, part_of, raw_reply}
+use Rattle.nand_model.specs.Path.{Answer, Data, Failed, Good, Path, Over, Then, after_answers, answer_to, cells_of, first_event, good_or_failed, is_failure, result_of}
+use Rattle.nand_model.specs.declared.geometry.Geometry.{Geometry}
+use Rattle.nand_model.specs.declared.words.Op.{Op}
+use Rattle.nand_model.specs.declared.words.Op.TheVariants.{Read, Write, RawRead, RawWrite, Erase, IsBad, Mark, Stats}
+use Rattle.nand_model.specs.declared.words.Part.{Part}
+use Rattle.nand_model.specs.declared.words.Reply.{Reply}
+use Rattle.nand_model.specs.declared.words.Reply.TheVariants.{OutOfRange, BadBlock, MarkerByte, ProgramFailed, EraseFailed, State}
+use Rattle.chip_model.specs.Raw.{IsRaw}
+use Rattle.chip_model.specs.Stage.{Stage, Attaches, Rests, Works, finished_in, is_resting, news_after, stage_after, stage_begun, stage_event}
+use Rattle.chip_core.specs.Whole.{HasCause, HasPerformed, is_fault, is_refusal, known_at_rest, refusal_in, refusal_of, refused_unless}
+
+-- an operation ended with this reply
+abbrev pub ended : Known → Reply → Finished
+ended k reply = record { reply = reply; known = k }
+
+-- a path with this refusal, which is over at once or after one event and changes nothing that is known
+pub data IsShort (k : Known) : Option Reply → Path Finished → Type 0 where
+  refused : (refusal : Reply) → is_fault refusal ≡ false → IsShort k (Some refusal) (Over (ended k refusal))
+  over_at_once : (reply : Reply) → is_refusal reply ≡ false → is_fault reply ≡ false → IsShort k None (Over (ended k reply))
+  over_after_one : (e : PageEvent) (reply : Answer → Reply) → ((a : Answer) → is_refusal (reply a) ≡ false) → ((a : Answer) → is_fault (reply a) ≡ true → is_failure a ≡ true)
+      → IsShort k None (Then e (λ answer. Over (ended k (reply answer))))
+
+only_if-short : (k : Known) (b : Bool) (refusal : Reply) (later : Option Reply) (go_on : Unit {0} → Path Finished) → is_fault refusal ≡ false → IsShort k later (go_on tt)
+    → IsShort k (refused_unless b refusal later) (only_if b k refusal go_on)
+only_if-short k true refusal later go_on no_fault rest = rest
+only_if-short k false refusal later go_on no_fault rest = refused refusal no_fault
+
+-- the reply to a program or an erase
+module _ (failure : Reply) (no_refusal : is_refusal failure ≡ false) where
+  outcome_taken : (a : Answer) → is_refusal (done_or failure a) ≡ false
+  outcome_taken Failed = no_refusal
+  outcome_taken Good = refl
+  outcome_taken (Data cells) = refl
+
+  outcome_failed : (a : Answer) → is_fault (done_or failure a) ≡ true → is_failure a ≡ true
+  outcome_failed Failed fault = refl
+  outcome_failed Good fault = fault
+  outcome_failed (Data cells) fault = fault
+
+module _ (g : Geometry) (k : Known) (part : Part) where
+  read-short : (page : ℕ) → IsShort k None (Then (ReadEvent page) (λ seen. answer k (raw_reply (cells_of seen))))
+  read-short page = over_after_one (ReadEvent page) (λ seen. raw_reply (cells_of seen)) (λ a. refl) (λ a fault. absurd (false≢true fault))
+
+  program-short : (page : ℕ) (image : List ℕ) → IsShort k None (Then (ProgramEvent page image) (λ outcome. answer k (done_or ProgramFailed outcome)))
+  program-short page image =
+      over_after_one (ProgramEvent page image) (λ outcome. done_or ProgramFailed outcome) (outcome_taken ProgramFailed refl) (outcome_failed ProgramFailed refl)
+
+  erase-short : (block : ℕ) → IsShort k None (Then (EraseEvent block) (λ outcome. answer k (done_or EraseFailed outcome)))
+  erase-short block =
+      over_after_one (EraseEvent block) (λ outcome. done_or EraseFailed outcome) (outcome_taken EraseFailed refl) (outcome_failed EraseFailed refl)
+
+  operation_in-short : (op : Op) → IsRaw g op → IsShort k (refusal_in g k part op) (operation_in g k part op)
+  operation_in-short (RawRead dev page) raw =
+      only_if-short k (has_page g part page) OutOfRange None (λ u. Then (ReadEvent (chip_page g part page)) (λ seen. answer k (raw_reply (cells_of seen)))) refl
+      (read-short (chip_page g part page))
+  operation_in-short (RawWrite dev page image) raw =
+      let good = is_good_block k (chip_block part (page / g.pages_per_block)) in
+      let marker = slice_index image g.page == 0xff in
+      let program : Path Finished = Then (ProgramEvent (chip_page g part page) image) (λ outcome. answer k (done_or ProgramFailed outcome)) in
+      only_if-short k (has_page g part page) OutOfRange (refused_unless good BadBlock (refused_unless marker MarkerByte None))
+      (λ u. only_if good k BadBlock (λ u. only_if marker k MarkerByte (λ u. program))) refl
+      (only_if-short k good BadBlock (refused_unless marker MarkerByte None) (λ u. only_if marker k MarkerByte (λ u. program)) refl
+      (only_if-short k marker MarkerByte None (λ u. program) refl (program-short (chip_page g part page) image)))
+  operation_in-short (Erase dev block) raw =
+      let good = is_good_block k (chip_block part block) in
+      let erase : Path Finished = Then (EraseEvent (chip_block part block)) (λ outcome. answer k (done_or EraseFailed outcome)) in
+      only_if-short k (has_block part block) OutOfRange (refused_unless good BadBlock None) (λ u. only_if good k BadBlock (λ u. erase)) refl
+      (only_if-short k good BadBlock None (λ u. erase) refl (erase-short (chip_block part block)))
+  operation_in-short (IsBad dev block) raw =
+      only_if-short k (has_block part block) OutOfRange None (λ u. answer k (State (entry_of k (chip_block part block)))) refl
+      (over_at_once (State (entry_of k (chip_block part block))) refl refl)
+  operation_in-short (Read dev page) raw = absurd raw
+  operation_in-short (Write dev page body free) raw = absurd raw
+  operation_in-short (Mark dev block) raw = absurd raw
+  operation_in-short (Stats dev) raw = absurd raw
+
+operation_by-short : (g : Geometry) (k : Known) (found : Option Part) (op : Op) → IsRaw g op → IsShort k (refusal_of g k found op) (operation_by g k found op)
+operation_by-short g k None op raw = refused OutOfRange refl
+operation_by-short g k (Some part) op raw = operation_in-short g k part op raw
+
+-- each raw operation is short
+pub raw_is_short : (g : Geometry) (partitions : Partitions) (k : Known) (op : Op) → IsRaw g op
+    → IsShort k (refusal_of g k (part_of partitions (device_of op)) op) (operation_path g partitions k op)
+raw_is_short g partitions k op raw = operation_by-short g k (part_of partitions (device_of op)) op raw
+
+-- a count of faults that is one higher, or stands at the end of its type
+risen : (n : ℕ) → HasRisen n (saturating_increment n)
+risen n =
+    elim (cases_lt (n + 1) (2 ^ 64 - 1)) [
+      | inl below ↦ let within : n + 1 ≤ 2 ^ 64 - 1 = omega arith in inl (rw (min-eq_left within) (omega arith))
+      | inr past ↦ inr (min-eq_right past)
+    ]
+
+module _ {W : Type 0} (model : FaultModel W) (s : ChipState W) where
+  program_counts : (page : ℕ) (image : List ℕ) (failure : Option DoneBits) → is_failure (good_or_failed failure) ≡ true
+      → HasRisen s.faults (counted model failure (program_page model s page image failure)).faults
+  program_counts page image None failed = absurd (false≢true failed)
+  program_counts page image (Some done) failed = risen s.faults
+
+  erase_counts : (block : ℕ) (failure : Option DoneBits) → is_failure (good_or_failed failure) ≡ true
+      → HasRisen s.faults (counted model failure (erase_block model s block failure)).faults
+  erase_counts block None failed = absurd (false≢true failed)
+  erase_counts block (Some done) failed = risen s.faults
+
+  -- a failed event is counted
+  pub failure_counts : (e : PageEvent) → is_failure (answer_to model s e) ≡ true → HasRisen s.faults (happens model s (Complete e)).faults
+  failure_counts (ReadEvent page) failed = absurd (false≢true failed)
+  failure_counts (ProgramEvent page image) failed = program_counts page image (failure_of model s (ProgramCall page)) failed
+  failure_counts (EraseEvent block) failed = erase_counts block (failure_of model s (EraseCall block)) failed
+
+module _ {W : Type 0} (model : FaultModel W) (partitions : Partitions) (op : Op) (s : ChipState W) where
+  -- an operation that began at rest and has no event left
+  pub record Ends (after : ChipState W) (first last : Stage) : Type 0 where
+    pub known : Known
+    pub reply : Reply
+    pub rested : first ≡ Rests known
+    pub finished : finished_in last ≡ Some (ended known reply)
+    pub performed : HasPerformed model partitions known op s after reply
+    pub cause : HasCause (refusal_of s.geometry known (part_of partitions (device_of op)) op) s after reply
+
+  module _ (k : Known) where
+    nothing_done : (reply : Reply) → operation_path s.geometry partitions k op ≡ Over (ended k reply) → HasPerformed model partitions k op s s reply
+    nothing_done reply is = record { trace = []; leads = refl; performs = record { along = tt; uncut = refl; over = ap result_of is } }
+
+    at_once : (path : Path Finished) → operation_path s.geometry partitions k op ≡ path → is_some (option_map name_of (first_event path)) ≡ false
+        → (refusal : Option Reply) → IsShort k refusal path
+        → refusal_of s.geometry k (part_of partitions (device_of op)) op ≡ refusal → Ends s (Rests k) (Works k path)
+    at_once path is none refusal (refused reply no_fault) why = record {
+      known = k;
+      reply = reply;
+      rested = refl;
+      finished = refl;
+      performed = nothing_done reply is;
+      cause = subst (λ refusal. HasCause refusal s s reply) (sym why)
+      (record { refused = (refl, refl); taken = tt; failed = λ fault. absurd (both_ways (is_fault reply) no_fault fault) });
+    }
+    at_once path is none refusal (over_at_once reply taken no_fault) why = record {
+      known = k;
+      reply = reply;
+      rested = refl;
+      finished = refl;
+      performed = nothing_done reply is;
+      cause = subst (λ refusal. HasCause refusal s s reply) (sym why)
+      (record { refused = tt; taken = taken; failed = λ fault. absurd (both_ways (is_fault reply) no_fault fault) });
+    }
+    at_once path is none refusal (over_after_one e reply taken fault) why = absurd (true≢false none)
+
+    after_one : (path : Path Finished) (quiet : Bool) (after : ChipState W) (last : Stage)
+        → operation_path s.geometry partitions k op ≡ path → is_some (option_map name_of (first_event path)) ≡ true
+        → IfSome (first_event path) (λ e. after ≡ happens model s (Complete e))
+        → IfSome (first_event path) (λ e. last ≡ stage_after quiet (answer_to model s e) (Works k path))
+        → (refusal : Option Reply) → IsShort k refusal path
+        → refusal_of s.geometry k (part_of partitions (device_of op)) op ≡ refusal → Ends after (Rests k) last
+    after_one path quiet after last is some state stage refusal (refused reply no_fault) why = absurd (false≢true some)
+    after_one path quiet after last is some state stage refusal (over_at_once reply taken no_fault) why = absurd (false≢true some)
+    after_one path quiet after last is some state stage refusal (over_after_one e reply taken fault) why = record {
+      known = k;
+      reply = reply (answer_to model s e);
+      rested = refl;
+      finished = ap finished_in stage;
+      performed = record {
+        trace = Complete e ∷ [];
+        leads = state;
+        performs = record {
+          along = (ap first_event is, tt);
+          uncut = refl;
+          over = ap (λ path. result_of (after_answers (answer_to model s e ∷ []) path)) is;
+        };
+      };
+      cause = subst (λ refusal. HasCause refusal s after (reply (answer_to model s e))) (sym why)
+      (record {
+        refused = tt;
+        taken = taken (answer_to model s e);
+        failed = λ failed. subst (λ (now : ChipState W). HasRisen s.faults now.faults) (sym state) (failure_counts model s e (fault (answer_to model s e) failed));
+      });
+    }
+
+  news_stay : (quiet : Bool) (answer : Answer) (first begun : Stage) (news : Option (Bool × Attaching)) → is_resting first ≡ true → begun ≡ stage_begun s.geometry partitions op first
+      → news_after quiet answer begun news ≡ news
+  news_stay quiet answer (Attaches left q) begun news rests is = absurd (false≢true rests)
+  news_stay quiet answer (Works k left) begun news rests is = absurd (false≢true rests)
+  news_stay quiet answer (Rests k) begun news rests is = ap (λ stage. news_after quiet answer stage news) is
+
+  -- an event of an operation brings no news
+  pub news_kept : (quiet : Bool) (now : ChipState W) (first begun : Stage) (before after : Option (Bool × Attaching)) → is_resting first ≡ true
+      → begun ≡ stage_begun s.geometry partitions op first → (event : Option PageEvent) → is_some (option_map name_of event) ≡ true
+      → IfSome event (λ e. after ≡ news_after quiet (answer_to model now e) begun before) → after ≡ before
+  news_kept quiet now first begun before after rests is None some news = absurd (false≢true some)
+  news_kept quiet now first begun before after rests is (Some e) some news = news ∙ news_stay quiet (answer_to model now e) first begun before rests is
+
+  -- an operation without events
+  pub ends_at_once : (first last : Stage) → is_resting first ≡ true → IsRaw s.geometry op → last ≡ stage_begun s.geometry partitions op first
+      → is_some (option_map name_of (stage_event last)) ≡ false → Ends s first last
+  ends_at_once (Attaches left quiet) last rests raw begun none = absurd (false≢true rests)
+  ends_at_once (Works k left) last rests raw begun none = absurd (false≢true rests)
+  ends_at_once (Rests k) last rests raw begun none =
+      subst (λ stage. Ends s (Rests k) stage) (sym begun)
+      (at_once k (operation_path s.geometry partitions k op) refl (sym (ap (λ stage. is_some (option_map name_of (stage_event stage))) begun) ∙ none)
+      _ (raw_is_short s.geometry partitions k op raw) refl)
+
+  -- an operation of one event
+  pub ends_after_one : (now : ChipState W) → now ≡ s → (quiet : Bool) (after : ChipState W) (first begun last : Stage) → is_resting first ≡ true → IsRaw s.geometry op
+      → begun ≡ stage_begun s.geometry partitions op first → is_some (option_map name_of (stage_event begun)) ≡ true
+      → IfSome (stage_event begun) (λ e. after ≡ happens model now (Complete e))
+      → IfSome (stage_event begun) (λ e. last ≡ stage_after quiet (answer_to model now e) begun)
+      → Ends after first last
+  ends_after_one now same quiet after (Attaches left q) begun last rests raw is some state stage = absurd (false≢true rests)
+  ends_after_one now same quiet after (Works k left) begun last rests raw is some state stage = absurd (false≢true rests)
+  ends_after_one now same quiet after (Rests k) begun last rests raw is some state stage =
+      after_one k (operation_path s.geometry partitions k op) quiet after last refl
+      (sym (ap (λ stage. is_some (option_map name_of (stage_event stage))) is) ∙ some)
+      (subst (λ stage. IfSome (stage_event stage) (λ e. after ≡ happens model s (Complete e))) is
+      (subst (λ s. IfSome (stage_event begun) (λ e. after ≡ happens model s (Complete e))) same state))
+      (subst (λ begun. IfSome (stage_event begun) (λ e. last ≡ stage_after quiet (answer_to model s e) begun)) is
+      (subst (λ s. IfSome (stage_event begun) (λ e. last ≡ stage_after quiet (answer_to model s e) begun)) same stage))
+      _ (raw_is_short s.geometry partitions k op raw) refl
+
+  module _ (after : ChipState W) (first last : Stage) (e : Ends after first last) where
+    pub is_finished : IsSome (finished_in last)
+    is_finished = subst IsSome (sym e.finished) refl
+
+    module _ (reply : Reply) (gave : IfSome (finished_in last) (λ finished. reply ≡ finished.reply)) (now : ChipState W) (state : now ≡ after) where
+      same_reply : reply ≡ e.reply
+      same_reply = let Gives : Option Finished → Type 0 = λ f. IfSome f (λ finished. reply ≡ finished.reply) in subst Gives e.finished gave
+
+      pub has_performed : IfSome (known_at_rest first) (λ k. HasPerformed model partitions k op s now reply)
+      has_performed =
+          rw state (subst (λ stage. IfSome (known_at_rest stage) (λ k. HasPerformed model partitions k op s after reply)) (sym e.rested)
+          (subst (λ r. HasPerformed model partitions e.known op s after r) (sym same_reply) e.performed))
+
+      pub has_cause : IfSome (known_at_rest first) (λ k. HasCause (refusal_of s.geometry k (part_of partitions (device_of op)) op) s now reply)
+      has_cause =
+          rw state (subst (λ stage. IfSome (known_at_rest stage) (λ k. HasCause (refusal_of s.geometry k (part_of partitions (device_of op)) op) s after reply)) (sym e.rested)
+          (subst (λ r. HasCause (refusal_of s.geometry e.known (part_of partitions (device_of op)) op) s after r) (sym same_reply) e.cause))
+
+    pub rests_again : (next : Stage) → IfSome (finished_in last) (λ finished. next ≡ Rests finished.known) → next ≡ first
+    rests_again next gave =
+        let Gives : Option Finished → Type 0 = λ f. IfSome f (λ finished. next ≡ Rests finished.known) in
+        let same : next ≡ Rests e.known = subst Gives e.finished gave in
+        same ∙ sym e.rested

@@ -1,0 +1,75 @@
+-- A whole attach and a whole operation.
+use Rattle.std.specs.Prelude.{◌≡◌, ℕ, ◌/◌, Bool, true, false, ◌==◌, List, map, slice_index, Option, Some, None, IsSome, IfSome, IfNone}
+use Rattle.nand_model.specs.Attach.{marker_table}
+use Rattle.nand_model.specs.Chip.{ChipEvent, ChipState, FaultModel, after_trace}
+use Rattle.nand_model.specs.Counts.{HasRisen}
+use Rattle.nand_model.specs.Operation.{Known, Partitions, Performs, chip_block, has_block, has_page, is_good_block}
+use Rattle.nand_model.specs.Sizes.{numbers_from}
+use Rattle.nand_model.specs.declared.geometry.Geometry.{Geometry}
+use Rattle.nand_model.specs.declared.words.Op.{Op}
+use Rattle.nand_model.specs.declared.words.Op.TheVariants.{Read, Write, RawRead, RawWrite, Erase, IsBad, Mark, Stats}
+use Rattle.nand_model.specs.declared.words.Part.{Part}
+use Rattle.nand_model.specs.declared.words.Reply.{Reply}
+use Rattle.nand_model.specs.declared.words.Reply.TheVariants.{Done, OutOfRange, BadBlock, MarkerByte, ProgramFailed, EraseFailed, MarkerFailed, TableFailed, Reserved, Copies, State, Counts, Page}
+use Rattle.chip_model.specs.Stage.{Stage, Attaches, Rests, Works}
+use Rattle.chip_core.specs.Markers.{marker_page}
+
+-- the states of a chip's blocks by their markers
+abbrev pub marker_states : {W : Type 0} → ChipState W → List ℕ
+marker_states s = marker_table s.geometry (map (marker_page s) (numbers_from 0 s.geometry.blocks))
+
+-- what is known of a chip that is attached and has nothing in flight
+abbrev pub known_at_rest : Stage → Option Known
+known_at_rest (Attaches left quiet) = None
+known_at_rest (Rests known) = Some known
+known_at_rest (Works known left) = None
+
+-- from this chip and what is known of it to this chip with the same known, by a whole operation with this reply
+pub record HasPerformed {W : Type 0} (model : FaultModel W) (partitions : Partitions) (k : Known) (op : Op) (before after : ChipState W) (reply : Reply) : Type 0 where
+  pub trace : List ChipEvent
+  pub leads : after ≡ after_trace model before trace
+  pub performs : Performs model partitions before k op trace reply k
+
+-- a refusal where the test fails, else a later one
+abbrev pub refused_unless : Bool → Reply → Option Reply → Option Reply
+refused_unless true refusal later = later
+refused_unless false refusal later = Some refusal
+
+-- why a raw operation on a partition is refused
+abbrev pub refusal_in : Geometry → Known → Part → Op → Option Reply
+refusal_in g k part (RawRead dev page) = refused_unless (has_page g part page) OutOfRange None
+refusal_in g k part (RawWrite dev page image) =
+    refused_unless (has_page g part page) OutOfRange
+    (refused_unless (is_good_block k (chip_block part (page / g.pages_per_block))) BadBlock
+    (refused_unless (slice_index image g.page == 0xff) MarkerByte None))
+refusal_in g k part (Erase dev block) =
+    refused_unless (has_block part block) OutOfRange (refused_unless (is_good_block k (chip_block part block)) BadBlock None)
+refusal_in g k part (IsBad dev block) = refused_unless (has_block part block) OutOfRange None
+refusal_in g k part (Read dev page) = None
+refusal_in g k part (Write dev page body free) = None
+refusal_in g k part (Mark dev block) = None
+refusal_in g k part (Stats dev) = None
+
+-- no device has no page and no block
+abbrev pub refusal_of : Geometry → Known → Option Part → Op → Option Reply
+refusal_of g k None op = Some OutOfRange
+refusal_of g k (Some part) op = refusal_in g k part op
+
+-- a reply that refuses a raw operation
+abbrev pub is_refusal : Reply → Bool
+is_refusal OutOfRange = true
+is_refusal BadBlock = true
+is_refusal MarkerByte = true
+is_refusal _ = false
+
+-- a reply that tells of a failed event
+abbrev pub is_fault : Reply → Bool
+is_fault ProgramFailed = true
+is_fault EraseFailed = true
+is_fault _ = false
+
+-- an operation is refused exactly for its reason, and has no event then; and it fails only where the chip's count of faults rose
+pub record HasCause {W : Type 0} (refusal : Option Reply) (before after : ChipState W) (reply : Reply) : Type 0 where
+  pub refused : IfSome refusal (λ r. (reply ≡ r) × (after ≡ before))
+  pub taken : IfNone refusal (is_refusal reply ≡ false)
+  pub failed : is_fault reply ≡ true → HasRisen before.faults after.faults

@@ -1,0 +1,163 @@
+-- A bench stands where the course does, after a session's operation is answered or begun.
+use Rattle.std.proofs.Common.{◌≡◌, ◌<◌, ◌≤◌, ◌+◌, arith, ℕ, zero, suc, Bool, true, false, List, [], ◌∷◌, ◌++◌, length, Option, Some, None, refl, ap, sym, ◌∙◌, subst, get_or}
+use Rattle.std.specs.Prelude.{slice_get, map, option_map, option_and_then, IsSome, IfSome, is_none}
+use Rattle.std.proofs.Math.ListN.{set}
+use Rattle.std.proofs.lemmas.Option.{slice_get_within}
+use Rattle.nand_iface.specs.declared.flash.Flash.{Ghosts}
+use Rattle.nand_model.specs.declared.geometry.Geometry.{Geometry}
+use Rattle.nand_model.specs.declared.words.Command.{Command}
+use Rattle.nand_model.specs.declared.words.Op.{Op}
+use Rattle.nand_model.specs.declared.words.Part.{Part}
+use Rattle.nand_model.specs.declared.words.Reply.{Reply}
+use Rattle.nand_model.specs.declared.words.Note.{Note}
+use Rattle.nand_model.specs.declared.words.Note.TheVariants.{Began, Answered}
+use Rattle.nand_model.specs.Chip.{ChipState, FaultModel}
+use Rattle.nand_model.specs.Operation.{Finished, part_of, device_of}
+use Rattle.nand_model.specs.ChipRun.{ChipRun}
+use Rattle.mtd_part.specs.Blocks.{LiesWithin}
+use Rattle.run_model.specs.Command.{command_device}
+use Rattle.run_model.specs.Course.{Boot, Course, SessionRun, change_at, chip_of, sizes_of, session_run, next_op, next_op_of, with_reply, turn_step}
+use Rattle.run_laws.proofs.Places.{position_none}
+use Rattle.tool_steps.specs.Stage.{CanRun}
+use Rattle.tool_steps.specs.Boot.{commands_at}
+use Rattle.session_steps.specs.declared.session.Session.{Session}
+use Rattle.session_steps.specs.Standing.{number_of, standing, commands_by, First, IsWaiting}
+use Rattle.session_steps.specs.Mirrors.{Mirrors}
+use Rattle.chip_model.specs.Raw.{IsRaw}
+use Rattle.chip_model.specs.Stage.{finished_in, is_resting, is_attached}
+use Rattle.chip_core.specs.Begin.{HasDevice, CanBegin}
+use Rattle.ctl_core.specs.declared.bench.Bench.{Bench}
+use Rattle.ctl_core.specs.declared.bench.Slot.{Slot}
+use Rattle.ctl_core.specs.KeptChip.{KeptChip, kept_as, first_attaching, first_held_by, after_begin, after_answer}
+use Rattle.ctl_core.specs.Past.{Past, starts_of, sizes_in, course_of, next_course}
+use Rattle.ctl_core.specs.Answer.{next_chip}
+use Rattle.ctl_core.specs.Bench.{kept_slot, kept_chips, IsAtTurn}
+use Rattle.ctl_core.specs.Follows.{Follows}
+use Rattle.ctl_core.proofs.Places.{OneChanged, set_changes, mapped_set}
+use Rattle.ctl_core.proofs.Positions.{at_mapped}
+use Rattle.ctl_core.proofs.Turns.{follows_as, follows_answer, follows_begin, follows_resumed}
+use Rattle.ctl_core.proofs.OnCourse.{holds, own_place, own_commands, run_left, run_found, FirstLeft}
+
+pub get_last : {A : Type 0} (xs : List A) (x : A) → slice_get (xs ++ x ∷ []) (length xs) ≡ Some x
+get_last [] x = refl
+get_last (y ∷ ys) x = get_last ys x
+
+pub some_of : {A : Type 0} (o : Option A) → IsSome o → (x : A) × (o ≡ Some x)
+some_of None h = cc
+some_of (Some x) h = (x, refl)
+
+module _ {F : Type 0} {flash : Ghosts F} (past : Past F) (bench : Bench F flash) (session place : ℕ) (turn : IsAtTurn past session place bench)
+    (s : Session) (at : slice_get bench.sessions.items place ≡ Some s) (number : number_of s ≡ session) (k : ℕ) (slot : Slot F flash) (slot_at : slice_get bench.slots.items k ≡ Some slot) where
+  pub stands_answer : (finished : Finished) (now_slot : Slot F flash) (now_session : Session) (now_notes : List Note) → first_held_by session (kept_chips bench) ≡ Some k
+      → finished_in (kept_slot slot).stage ≡ Some finished → kept_slot now_slot ≡ after_answer finished.known (kept_slot slot)
+      → now_notes ≡ bench.notes.notes ++ Answered session finished.reply ∷ []
+      → ((sizes : Command → Geometry) (commands : List Command) (notes later : List Note) (run : SessionRun) (n : ℕ) (reply : Reply) → Mirrors sizes commands notes s run → IsWaiting s
+          → slice_get later (length bench.notes.notes) ≡ Some (Answered n reply) → Mirrors sizes commands later now_session (with_reply sizes reply run))
+      → Follows past.boot (starts_of flash.state past) (next_course flash.fault_model flash.state past session) (map kept_slot (set bench.slots.items k now_slot)) bench.events now_notes (set bench.sessions.items place now_session)
+  stands_answer finished now_slot now_session now_notes held over is_slot is_notes replied_so =
+      let after = follows_answer flash.fault_model past.boot turn.on_course.calm (starts_of flash.state past) (course_of flash.fault_model flash.state past) (kept_chips bench) bench.events bench.notes.notes bench.sessions.items
+          turn.on_course.stands turn.on_course.conditions.ascending (holds past bench turn.on_course) place k s now_session (set bench.sessions.items place now_session) (kept_slot slot) finished turn.attached at
+          (ap (λ n. first_held_by n (kept_chips bench)) number ∙ held) (at_mapped kept_slot bench.slots.items k slot slot_at) over
+          (set_changes bench.sessions.items place now_session (slice_get_within bench.sessions.items place s at))
+          (λ commands run m w. replied_so (sizes_in flash.state past) commands bench.notes.notes (bench.notes.notes ++ Answered (number_of s) finished.reply ∷ []) run (number_of s) finished.reply m w
+              (get_last bench.notes.notes (Answered (number_of s) finished.reply))) in
+      follows_as past.boot (starts_of flash.state past) (next_course flash.fault_model flash.state past session)
+      (change_at (kept_chips bench) k (after_answer finished.known)) (map kept_slot (set bench.slots.items k now_slot)) bench.events bench.events
+      (bench.notes.notes ++ Answered session finished.reply ∷ []) now_notes (set bench.sessions.items place now_session) (set bench.sessions.items place now_session)
+      (mapped_set kept_slot (after_answer finished.known) bench.slots.items k slot now_slot slot_at is_slot) refl is_notes refl
+      (subst (λ n. Follows past.boot (starts_of flash.state past) (next_course flash.fault_model flash.state past n) (change_at (kept_chips bench) k (after_answer finished.known)) bench.events
+          (bench.notes.notes ++ Answered n finished.reply ∷ []) (set bench.sessions.items place now_session)) number after)
+
+  module _ (command : Command) (first : FirstLeft past bench session place turn s at number command) (same_chip : first.is_ready.part.chip ≡ k) where
+    -- the sizes of the command are those of the chip
+    pub sizes_here : sizes_in flash.state past command ≡ (kept_slot slot).state.geometry
+    sizes_here =
+        let there : slice_get (kept_chips bench) k ≡ Some (kept_slot slot) = at_mapped kept_slot bench.slots.items k slot slot_at in
+        let run : slice_get (kept_chips bench) k ≡ Some (kept_as past.boot.partitions first.is_ready.run) =
+            ap (λ xs. slice_get xs k) turn.on_course.stands.keeps.of_chips
+            ∙ at_mapped (kept_as past.boot.partitions) (course_of flash.fault_model flash.state past).chips k first.is_ready.run
+            (ap (slice_get (course_of flash.fault_model flash.state past).chips) (sym same_chip) ∙ first.is_ready.run_at) in
+        let same : kept_as past.boot.partitions first.is_ready.run ≡ kept_slot slot = cc (there, run) in
+        first.is_ready.sizes_are ∙ sym first.is_ready.same_sizes ∙ ap (λ (y : KeptChip flash.FaultState). y.state.geometry) same
+
+    first_sizes : First (λ c. sizes_in flash.state past c ≡ (kept_slot slot).state.geometry) (own_place past bench session place turn s at number).run.commands
+    first_sizes = subst (First (λ c. sizes_in flash.state past c ≡ (kept_slot slot).state.geometry)) (sym first.left) sizes_here
+
+    -- the operation that the session gives is the next one
+    pub op_here : (op : Op) (commands : List Command) → commands_at past.boot place ≡ Some commands
+        → ((sizes : Command → Geometry) (run : SessionRun) → Mirrors sizes commands bench.notes.notes s run → First (λ c. sizes c ≡ (kept_slot slot).state.geometry) run.commands → next_op_of sizes run.commands run.replies ≡ Some op)
+        → first.op ≡ op
+    op_here op commands given gives =
+        let p = own_place past bench session place turn s at number in
+        let own : p.own.1 ≡ commands = own_commands past bench session place turn s at number commands given in
+        let one : next_op_of (sizes_in flash.state past) p.run.commands p.run.replies ≡ Some op =
+            gives (sizes_in flash.state past) p.run (subst (λ cs. Mirrors (sizes_in flash.state past) cs bench.notes.notes s p.run) own p.mirrors) first_sizes in
+        let other : next_op_of (sizes_in flash.state past) p.run.commands p.run.replies ≡ Some first.op =
+            sym (ap (next_op (sizes_in flash.state past)) (run_found past bench session place turn s at number)) ∙ first.next in
+        cc (one, other)
+
+    pub can_run_here : CanRun (kept_slot slot).state.geometry command
+    can_run_here = subst (λ g. CanRun g command) sizes_here first.is_ready.can
+
+    -- what the session's next command is run with
+    pub first_can_run : (commands : List Command) → commands_at past.boot place ≡ Some commands → First (CanRun (kept_slot slot).state.geometry) (commands_by commands (standing bench.notes.notes s))
+    first_can_run commands given =
+        subst (First (CanRun (kept_slot slot).state.geometry)) (run_left past bench session place turn s at number commands given)
+        (subst (First (CanRun (kept_slot slot).state.geometry)) (sym first.left) can_run_here)
+
+    pub can_begin_here : CanBegin (kept_slot slot).state.geometry past.boot.partitions first.op
+    can_begin_here =
+        let is_part : part_of past.boot.partitions (device_of first.op) ≡ Some first.is_ready.part = ap (part_of past.boot.partitions) first.device ∙ first.is_ready.part_is in
+        let same_blocks = sym first.is_ready.sizes_are ∙ sizes_here in
+        record {
+          device = record {
+            there = subst (λ o. IsSome o) (sym is_part) refl;
+            within = subst (λ o. IfSome o (λ (p : Part). p.start + p.count ≤ (kept_slot slot).state.geometry.blocks)) (sym is_part)
+                (subst (λ (g : Geometry). first.is_ready.part.start + first.is_ready.part.count ≤ g.blocks) same_blocks first.is_ready.within.1);
+          };
+          raw = subst (λ g. IsRaw g first.op) sizes_here first.raw;
+        }
+
+    -- a mirror of the session's own commands
+    resumed_so : (now_session : Session) (commands : List Command) → commands_at past.boot place ≡ Some commands
+        → ((sizes : Command → Geometry) (run : SessionRun) → Mirrors sizes commands bench.notes.notes s run → First (λ c. sizes c ≡ (kept_slot slot).state.geometry) run.commands → Mirrors sizes commands bench.notes.notes now_session run)
+        → (own : ℕ × List Command) (run : SessionRun) → slice_get past.boot.sessions place ≡ Some own → slice_get (course_of flash.fault_model flash.state past).sessions place ≡ Some run
+        → Mirrors (sizes_in flash.state past) own.1 bench.notes.notes s run → Mirrors (sizes_in flash.state past) own.1 bench.notes.notes now_session run
+    resumed_so now_session commands given resumed own run own_at run_at mirrors =
+        let o : commands_at past.boot place ≡ Some own.1 = ap (option_map (λ (x : ℕ × List Command). x.1)) own_at in
+        let same : commands ≡ own.1 = cc (o, given) in
+        let p = own_place past bench session place turn s at number in
+        let run_same : p.run ≡ run = cc (p.run_at, run_at) in
+        subst (λ cs. Mirrors (sizes_in flash.state past) cs bench.notes.notes now_session run) same
+        (resumed (sizes_in flash.state past) run (subst (λ cs. Mirrors (sizes_in flash.state past) cs bench.notes.notes s run) (sym same) mirrors)
+        (subst (λ (r : SessionRun). First (λ c. sizes_in flash.state past c ≡ (kept_slot slot).state.geometry) r.commands) run_same first_sizes))
+
+    -- the session stands where it stood, ready to begin
+    pub stands_resumed : (now_session : Session) (commands : List Command) → commands_at past.boot place ≡ Some commands → first_held_by session (kept_chips bench) ≡ None
+        → ((sizes : Command → Geometry) (run : SessionRun) → Mirrors sizes commands bench.notes.notes s run → First (λ c. sizes c ≡ (kept_slot slot).state.geometry) run.commands → Mirrors sizes commands bench.notes.notes now_session run)
+        → Follows past.boot (starts_of flash.state past) (course_of flash.fault_model flash.state past) (kept_chips bench) bench.events bench.notes.notes (set bench.sessions.items place now_session)
+    stands_resumed now_session commands given free resumed =
+        follows_resumed flash.fault_model past.boot turn.on_course.calm (starts_of flash.state past) (course_of flash.fault_model flash.state past) (kept_chips bench) bench.events bench.notes.notes bench.sessions.items
+        turn.on_course.stands turn.on_course.conditions.ascending (holds past bench turn.on_course) place s now_session (set bench.sessions.items place now_session) at
+        (ap (λ n. first_held_by n (kept_chips bench)) number ∙ free)
+        (set_changes bench.sessions.items place now_session (slice_get_within bench.sessions.items place s at))
+        (resumed_so now_session commands given resumed)
+
+    pub stands_begun : (now_slot : Slot F flash) (now_session : Session) (now_notes : List Note) (commands : List Command) → commands_at past.boot place ≡ Some commands
+        → first_held_by session (kept_chips bench) ≡ None → slot.holder ≡ None → kept_slot now_slot ≡ after_begin past.boot.partitions session first.op (kept_slot slot)
+        → now_notes ≡ bench.notes.notes ++ Began session first.op ∷ [] → IsWaiting now_session
+        → ((sizes : Command → Geometry) (run : SessionRun) → Mirrors sizes commands bench.notes.notes s run → First (λ c. sizes c ≡ (kept_slot slot).state.geometry) run.commands → Mirrors sizes commands bench.notes.notes now_session run)
+        → Follows past.boot (starts_of flash.state past) (next_course flash.fault_model flash.state past session) (map kept_slot (set bench.slots.items k now_slot)) bench.events now_notes (set bench.sessions.items place now_session)
+    stands_begun now_slot now_session now_notes commands given free no_holder is_slot is_notes waits resumed =
+        let after = follows_begin flash.fault_model past.boot turn.on_course.calm (starts_of flash.state past) (course_of flash.fault_model flash.state past) (kept_chips bench) bench.events bench.notes.notes bench.sessions.items
+            turn.on_course.stands turn.on_course.conditions.ascending (holds past bench turn.on_course) place k s now_session (set bench.sessions.items place now_session) (kept_slot slot) first.op turn.attached at
+            (ap (λ n. first_held_by n (kept_chips bench)) number ∙ free) (at_mapped kept_slot bench.slots.items k slot slot_at) no_holder
+            (set_changes bench.sessions.items place now_session (slice_get_within bench.sessions.items place s at)) waits
+            (ap (λ n. next_op (sizes_in flash.state past) (session_run (course_of flash.fault_model flash.state past) n)) number ∙ first.next) (first.chip ∙ ap Some same_chip)
+            (resumed_so now_session commands given resumed) in
+        follows_as past.boot (starts_of flash.state past) (next_course flash.fault_model flash.state past session)
+        (change_at (kept_chips bench) k (after_begin past.boot.partitions session first.op)) (map kept_slot (set bench.slots.items k now_slot)) bench.events bench.events
+        (bench.notes.notes ++ Began session first.op ∷ []) now_notes (set bench.sessions.items place now_session) (set bench.sessions.items place now_session)
+        (mapped_set kept_slot (after_begin past.boot.partitions session first.op) bench.slots.items k slot now_slot slot_at is_slot) refl is_notes refl
+        (subst (λ n. Follows past.boot (starts_of flash.state past) (next_course flash.fault_model flash.state past n) (change_at (kept_chips bench) k (after_begin past.boot.partitions n first.op)) bench.events
+            (bench.notes.notes ++ Began n first.op ∷ []) (set bench.sessions.items place now_session)) number after)

@@ -1,0 +1,176 @@
+-- A controller stays on its course.
+use Rattle.std.proofs.Common.{◌≡◌, ◌<◌, ◌≤◌, ◌+◌, ◌*◌, arith, ℕ, zero, suc, Bool, true, false, not, ◌&&◌, List, [], ◌∷◌, ◌++◌, length, map, Option, Some, None, refl, ap, sym, ◌∙◌, subst, get_or}
+use Rattle.std.specs.Prelude.{slice_get, option_map, option_and_then, IsSome, All, position, is_none, is_some, if◌then◌else◌, ◌||◌, ◌==◌}
+use Rattle.std.specs.List.{list_all}
+use Rattle.std.proofs.lemmas.Option.{slice_get_within, slice_get-map}
+use Rattle.std.proofs.lemmas.Bool.{eqb-true}
+use Rattle.nand_iface.specs.declared.flash.Flash.{Ghosts}
+use Rattle.nand_iface.specs.NotesAndRoom.{NotesAndRoom}
+use Rattle.nand_model.specs.declared.geometry.Geometry.{Geometry}
+use Rattle.nand_model.specs.declared.words.Command.{Command}
+use Rattle.nand_model.specs.declared.words.Note.{Note}
+use Rattle.nand_model.specs.Chip.{ChipState, FaultModel, PageEvent}
+use Rattle.nand_model.specs.Operation.{Partitions, Known}
+use Rattle.nand_model.specs.ChipRun.{ChipRun, Pending, chip_at_start, next_chip_event}
+use Rattle.run_model.specs.Course.{Boot, Course, SessionRun, attach_step, attach_first, turn_step, chip_step, event_or_answer, with_answer, course_after, start_of_boot, sizes_of, is_idle, is_over, is_finished, unattached, without_finished, change_at}
+use Rattle.run_model.specs.Laws.{IsCalm}
+use Rattle.run_laws.specs.Turns.{busy_turns, AttachIsStep}
+use Rattle.run_laws.proofs.AttachTurns.{attach_is_step}
+use Rattle.run_laws.proofs.Places.{position_is, position_none}
+use Rattle.run_laws.proofs.Sessions.{number_stays}
+use Rattle.tool_steps.specs.Boot.{session_number}
+use Rattle.session_steps.specs.declared.session.Session.{Session}
+use Rattle.session_steps.specs.Standing.{number_of, standing, commands_by}
+use Rattle.session_steps.specs.Mirrors.{CanAllRun, Mirrors}
+use Rattle.chip_model.specs.Stage.{stage_event, is_attached, failure_told}
+use Rattle.ctl_core.specs.declared.turn.Turn.{Turn}
+use Rattle.ctl_core.specs.declared.turn.Turn.TheVariants.{Did, Done}
+use Rattle.ctl_core.specs.declared.bench.Bench.{Bench}
+use Rattle.ctl_core.specs.declared.bench.Slot.{Slot}
+use Rattle.ctl_core.specs.KeptChip.{KeptChip, kept_as, all_kept, kept_first, first_attaching, after_event, with_news_told, failure_notes, news_notes}
+use Rattle.ctl_core.specs.Past.{Past, at_start, with_attach, with_turn, starts_of, sizes_in, course_of, next_course}
+use Rattle.ctl_core.specs.Sessions.{SessionsMirror, HoldersWait, AreFresh, AreAllDone}
+use Rattle.ctl_core.specs.Start.{CanStart, HasSession}
+use Rattle.ctl_core.specs.Bench.{kept_slot, kept_chips, event_at, StandsAt, IsOnCourse, DidEvent}
+use Rattle.ctl_core.specs.Follows.{Follows}
+use Rattle.ctl_core.proofs.ChipSteps.{next_is}
+use Rattle.ctl_core.proofs.Positions.{mapped_at, mapped_length, position_kept}
+use Rattle.ctl_core.proofs.Known.{stays_attached}
+use Rattle.ctl_core.proofs.CourseSteps.{turn_is_idle}
+use Rattle.ctl_core.proofs.Sessions.{placed}
+use Rattle.ctl_core.proofs.Devices.{all_at}
+use Rattle.ctl_core.proofs.Turns.{chip_there, follows_as, follows_attach}
+use Rattle.ctl_core.proofs.PastSteps.{one_more_turn, one_more_attach, one_more_busy}
+use Rattle.ctl_core.proofs.Limits.{attached_there, place_there}
+
+-- a search in the slots is one in what is kept of them
+pub attaching_in_slots : {F : Type 0} {flash : Ghosts F} (bench : Bench F flash) → position (λ slot. not (is_attached (kept_slot slot).stage)) bench.slots.items ≡ first_attaching (kept_chips bench)
+attaching_in_slots bench = position_kept _ _ kept_slot bench.slots.items (λ k slot h. refl)
+
+module _ {F : Type 0} {flash : Ghosts F} (past : Past F) (bench : Bench F flash) (on : IsOnCourse past bench) where
+  -- with another room for notes
+  pub renoted : (notes : NotesAndRoom) → notes.notes ≡ bench.notes.notes → IsOnCourse past (record bench { notes = notes })
+  renoted notes same = record {
+    conditions = on.conditions; calm = on.calm; attached_first = on.attached_first; attach_events = on.attach_events; all_busy = on.all_busy;
+    stands = follows_as past.boot (starts_of flash.state past) (course_of flash.fault_model flash.state past) (kept_chips bench) (kept_chips bench) bench.events bench.events
+        bench.notes.notes notes.notes bench.sessions.items bench.sessions.items refl refl same refl on.stands;
+  }
+
+  -- with other lists of the same turns and notes
+  pub relisted : (turns : List ℕ) (notes : NotesAndRoom) → turns ≡ past.turns → notes.notes ≡ bench.notes.notes → IsOnCourse (record past { turns = turns }) (record bench { notes = notes })
+  relisted turns notes same_turns same_notes = subst (λ ts. IsOnCourse (record past { turns = ts }) (record bench { notes = notes })) (sym same_turns) (renoted notes same_notes)
+
+  -- at the same course with other chips, notes or sessions
+  pub stayed_on : (new : Bench F flash) → StandsAt past (course_of flash.fault_model flash.state past) new → IsOnCourse past new
+  stayed_on new stands = record {
+    conditions = on.conditions; calm = on.calm; attached_first = on.attached_first; attach_events = on.attach_events; all_busy = on.all_busy; stands = stands;
+  }
+
+  -- the first chip that is not attached has an event
+  pub attach_there : (k : ℕ) → first_attaching (kept_chips bench) ≡ Some k
+      → (x : KeptChip flash.FaultState) × (e : PageEvent) × (slice_get (kept_chips bench) k ≡ Some x) × (stage_event x.stage ≡ Some e)
+  attach_there k h =
+      let x = position_is (λ (y : KeptChip flash.FaultState). not (is_attached y.stage)) (kept_chips bench) k h in
+      let c = chip_there flash.fault_model past.boot on.calm (starts_of flash.state past) (course_of flash.fault_model flash.state past) (kept_chips bench) bench.events bench.notes.notes bench.sessions.items on.stands k x.0 x.1 in
+      let first : unattached (course_of flash.fault_model flash.state past) ≡ Some k = attached_there past bench on ∙ h in
+      let unknown = position_is (λ (d : ChipRun flash.FaultState). is_none d.known) (course_of flash.fault_model flash.state past).chips k first in
+      let same : unknown.0 ≡ c.0 = cc (unknown.1, c.1) in
+      let step = (attach_is_step flash.fault_model past.boot (starts_of flash.state past) (sizes_in flash.state past) past.attaches past.turns).event_else k on.stands.keeps.lit first in
+      let is : stage_event x.0.stage ≡ next_chip_event past.boot.partitions c.0 = sym (next_is past.boot.partitions c.0 ∙ ap (λ (y : KeptChip flash.FaultState). stage_event y.stage) c.2) in
+      let e = by_event c.0 c.1 first (ap (λ (d : ChipRun flash.FaultState). is_none d.known) (sym same) ∙ unknown.2) step (next_chip_event past.boot.partitions c.0) refl in
+      (x.0, e.0, x.1, is ∙ e.1)
+    where
+      by_known : (c : ChipRun flash.FaultState) (known : Option Known) (pending : Option Pending) → is_none known ≡ true
+          → with_answer past.boot.partitions (sizes_in flash.state past) (course_of flash.fault_model flash.state past) k c known pending ≡ course_of flash.fault_model flash.state past
+      by_known c None pending h = refl
+      by_known c (Some known) pending h = cc
+
+      by_event : (c : ChipRun flash.FaultState) → slice_get (course_of flash.fault_model flash.state past).chips k ≡ Some c → unattached (course_of flash.fault_model flash.state past) ≡ Some k → is_none c.known ≡ true
+          → (attach_step flash.fault_model past.boot (sizes_in flash.state past) (course_of flash.fault_model flash.state past)).events ≡ (course_of flash.fault_model flash.state past).events + 1
+          → (o : Option PageEvent) → next_chip_event past.boot.partitions c ≡ o → (e : PageEvent) × (o ≡ Some e)
+      by_event c at first unknown counts (Some e) h = (e, refl)
+      by_event c at first unknown counts None h =
+          let stays : attach_step flash.fault_model past.boot (sizes_in flash.state past) (course_of flash.fault_model flash.state past) ≡ course_of flash.fault_model flash.state past =
+              ap (λ b. if b then course_of flash.fault_model flash.state past else attach_first flash.fault_model past.boot (sizes_in flash.state past) (course_of flash.fault_model flash.state past) (unattached (course_of flash.fault_model flash.state past))) on.stands.keeps.lit
+              ∙ ap (attach_first flash.fault_model past.boot (sizes_in flash.state past) (course_of flash.fault_model flash.state past)) first
+              ∙ ap (chip_step flash.fault_model past.boot (sizes_in flash.state past) (course_of flash.fault_model flash.state past) k) at
+              ∙ ap (event_or_answer flash.fault_model past.boot (sizes_in flash.state past) (course_of flash.fault_model flash.state past) k c) h ∙ by_known c c.known c.pending unknown in
+          let same : (course_of flash.fault_model flash.state past).events ≡ (course_of flash.fault_model flash.state past).events + 1 = ap (λ (d : Course flash.FaultState). d.events) (sym stays) ∙ counts in
+          absurd (omega (arith, same))
+
+  -- no turn was taken while a chip is not attached
+  no_turns : (k : ℕ) → first_attaching (kept_chips bench) ≡ Some k → past.turns ≡ []
+  no_turns k h = on.attached_first k (attached_there past bench on ∙ h)
+
+  -- one more attach step
+  pub next_attach : (k : ℕ) → first_attaching (kept_chips bench) ≡ Some k
+      → course_of flash.fault_model flash.state (with_attach past) ≡ attach_step flash.fault_model past.boot (sizes_in flash.state past) (course_of flash.fault_model flash.state past)
+  next_attach k h =
+      ap (course_after flash.fault_model past.boot (starts_of flash.state past) (past.attaches + 1)) (no_turns k h)
+      ∙ one_more_attach flash.fault_model past.boot (starts_of flash.state past) past.attaches
+      ∙ ap (λ ts. attach_step flash.fault_model past.boot (sizes_in flash.state past) (course_after flash.fault_model past.boot (starts_of flash.state past) past.attaches ts)) (sym (no_turns k h))
+
+  pub attached_on : (k : ℕ) (x : KeptChip flash.FaultState) (e : PageEvent) (new : Bench F flash) → first_attaching (kept_chips bench) ≡ Some k → slice_get (kept_chips bench) k ≡ Some x → stage_event x.stage ≡ Some e
+      → DidEvent k x e bench new → IsOnCourse (with_attach past) new
+  attached_on k x e new first at has did = record {
+    conditions = on.conditions;
+    calm = on.calm;
+    stands = subst (λ course. StandsAt past course new) (sym (next_attach k first))
+        (follows_as past.boot (starts_of flash.state past) (attach_step flash.fault_model past.boot (sizes_in flash.state past) (course_of flash.fault_model flash.state past))
+        (change_at (kept_chips bench) k (λ y. with_news_told (after_event flash.fault_model e y))) (kept_chips new) (bench.events + 1) new.events
+        (bench.notes.notes ++ failure_notes k (bench.events + 1) e (failure_told flash.fault_model x.state e) ++ news_notes k (after_event flash.fault_model e x).news) new.notes.notes
+        bench.sessions.items new.sessions.items did.chips did.events did.notes did.sessions
+        (follows_attach flash.fault_model past.boot on.calm (starts_of flash.state past) (course_of flash.fault_model flash.state past) (kept_chips bench) bench.events bench.notes.notes bench.sessions.items
+        on.stands k x e first at has));
+    attached_first = λ j h. no_turns k first;
+    attach_events = counted;
+    all_busy = subst (λ ts. busy_turns flash.fault_model past.boot (starts_of flash.state past) ts (course_after flash.fault_model past.boot (starts_of flash.state past) (past.attaches + 1) []) ≡ ts) (sym (no_turns k first)) refl;
+  }
+    where
+      here : course_of flash.fault_model flash.state past ≡ course_after flash.fault_model past.boot (starts_of flash.state past) past.attaches []
+      here = ap (course_after flash.fault_model past.boot (starts_of flash.state past) past.attaches) (no_turns k first)
+
+      counted : (course_after flash.fault_model past.boot (starts_of flash.state past) (past.attaches + 1) []).events ≡ past.attaches + 1
+      counted = ap (λ (d : Course flash.FaultState). d.events) (one_more_attach flash.fault_model past.boot (starts_of flash.state past) past.attaches)
+          ∙ (attach_is_step flash.fault_model past.boot (starts_of flash.state past) (sizes_in flash.state past) past.attaches []).event_else k
+          (ap (λ (d : Course flash.FaultState). d.dark) (sym here) ∙ on.stands.keeps.lit) (ap unattached (sym here) ∙ attached_there past bench on ∙ first)
+          ∙ ap (λ n. n + 1) on.attach_events
+
+  -- one more turn
+  pub next_turn : (session : ℕ) → course_of flash.fault_model flash.state (with_turn past session) ≡ next_course flash.fault_model flash.state past session
+  next_turn session = one_more_turn flash.fault_model past.boot (starts_of flash.state past) past.attaches past.turns session
+
+  pub next_attached : (session : ℕ) → unattached (course_of flash.fault_model flash.state past) ≡ None → unattached (course_of flash.fault_model flash.state (with_turn past session)) ≡ None
+  next_attached session h = ap unattached (next_turn session) ∙ stays_attached flash.fault_model past.boot on.calm (sizes_in flash.state past) (course_of flash.fault_model flash.state past) session h
+
+  pub turned_on : (session : ℕ) (new : Bench F flash) → unattached (course_of flash.fault_model flash.state past) ≡ None
+      → is_idle past.boot.partitions (sizes_in flash.state past) (course_of flash.fault_model flash.state past) session ≡ false
+      → StandsAt past (next_course flash.fault_model flash.state past session) new → IsOnCourse (with_turn past session) new
+  turned_on session new attached busy stands = record {
+    conditions = on.conditions;
+    calm = on.calm;
+    stands = subst (λ course. StandsAt past course new) (sym (next_turn session)) stands;
+    attached_first = λ k h. let none : None ≡ Some k = sym (next_attached session attached) ∙ h in cc;
+    attach_events = on.attach_events;
+    all_busy = one_more_busy flash.fault_model past.boot (starts_of flash.state past) past.turns session (course_after flash.fault_model past.boot (starts_of flash.state past) past.attaches []) busy
+        ∙ ap (λ zs. zs ++ session ∷ []) on.all_busy;
+  }
+
+  -- a turn that does nothing
+  pub idle_turn : (session : ℕ) → unattached (course_of flash.fault_model flash.state past) ≡ None
+      → is_idle past.boot.partitions (sizes_in flash.state past) (course_of flash.fault_model flash.state past) session ≡ true
+      → next_course flash.fault_model flash.state past session ≡ course_of flash.fault_model flash.state past
+  idle_turn session attached idle =
+      turn_is_idle flash.fault_model past.boot (sizes_in flash.state past) (course_of flash.fault_model flash.state past) session on.stands.keeps.lit attached idle
+
+  -- a session of the boot is one that is found
+  pub has_found : (session : ℕ) → (o : Option ℕ) → o ≡ position (λ (s : Session). number_of s == session) bench.sessions.items
+      → ((is_some o ≡ true) → HasSession past.boot session) × (HasSession past.boot session → is_some o ≡ true)
+  has_found session None h = ((λ e. cc), (λ has. absurd (place_there past bench on session has (sym h))))
+  has_found session (Some k) h = ((λ e. there), (λ has. refl))
+    where
+      there : HasSession past.boot session
+      there =
+          let s = position_is (λ (x : Session). number_of x == session) bench.sessions.items k (sym h) in
+          let p = placed (sizes_in flash.state past) past.boot.sessions bench.notes.notes bench.sessions.items (course_of flash.fault_model flash.state past).sessions on.stands.mirrors k s.0 s.1 in
+          (k, ap (option_map (λ (x : ℕ × List Command). x.0)) p.begun_at ∙ ap Some (sym p.number ∙ eqb-true _ _ s.2))

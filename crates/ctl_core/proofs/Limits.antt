@@ -1,0 +1,148 @@
+-- How many chips, events and turns a controller can have.
+use Rattle.std.proofs.Common.{◌≡◌, ◌<◌, ◌≤◌, ◌⊎◌, inl, inr, ◌+◌, ◌*◌, ◌-◌, ◌^◌, arith, ℕ, zero, suc, Bool, true, false, List, [], ◌∷◌, ◌++◌, length, map, Option, Some, None, refl, ap, sym, ◌∙◌, subst, get_or}
+use Rattle.std.specs.Prelude.{slice_get, All, sum_by, position, option_map, is_none, ◌==◌}
+use Rattle.std.proofs.lemmas.Bool.{cases_lt, eq-eqb, eqb-true}
+use Rattle.std.proofs.lemmas.Option.{slice_get_within, slice_get-get_or}
+use Rattle.std.proofs.lemmas.List.Sums.{sum_by-le}
+use Rattle.nand_iface.specs.declared.flash.Flash.{Ghosts}
+use Rattle.nand_model.specs.declared.geometry.Geometry.{Geometry}
+use Rattle.nand_model.specs.declared.words.Command.{Command}
+use Rattle.nand_model.specs.Chip.{ChipState, FaultModel}
+use Rattle.nand_model.specs.Operation.{Partitions, Known}
+use Rattle.nand_model.specs.ChipRun.{ChipRun, Pending}
+use Rattle.nand_model.proofs.Bounds.{bounds_of}
+use Rattle.run_model.specs.Course.{Boot, Course, course_after, unattached}
+use Rattle.run_model.specs.History.{notes_of_chip}
+use Rattle.run_model.specs.Log.{Log}
+use Rattle.run_laws.specs.Turns.{busy_turns}
+use Rattle.run_laws.proofs.Courses.{ChipsHold, EndOf, by_log, Holds, place_start}
+use Rattle.run_laws.proofs.Faithful.{log_of}
+use Rattle.run_laws.proofs.Places.{position_is, position_none}
+use Rattle.cost_laws.specs.Cost.{boot_cost}
+use Rattle.cost_laws.specs.Laws.{blocks_of, HaveNoTables}
+use Rattle.cost_laws.proofs.Bounds.{busy_few, events_few}
+use Rattle.cost_laws.proofs.Attaches.{attaches_few}
+use Rattle.tool_steps.specs.Boot.{session_number}
+use Rattle.session_steps.specs.declared.session.Session.{Session}
+use Rattle.session_steps.specs.Standing.{number_of}
+use Rattle.chip_model.specs.Stage.{is_working, stage_by}
+use Rattle.ctl_core.specs.declared.bench.Bench.{Bench}
+use Rattle.ctl_core.specs.KeptChip.{KeptChip, kept_as, holder_by, first_attaching, first_held_by, is_held_by}
+use Rattle.ctl_core.specs.Past.{Past, starts_of, sizes_in, course_of}
+use Rattle.ctl_core.specs.Start.{CanStart, IsPlain, HasSession}
+use Rattle.ctl_core.specs.Bench.{kept_slot, kept_chips, IsOnCourse, IsAtTurn}
+use Rattle.ctl_core.proofs.Places.{item_at}
+use Rattle.ctl_core.proofs.Positions.{mapped_length, position_kept}
+use Rattle.ctl_core.proofs.Sessions.{one_number_each}
+use Rattle.ctl_core.proofs.Turns.{chip_there, unattached_there, found_held}
+use Rattle.ctl_core.proofs.OnCourse.{holds, mapped_some}
+
+-- a chip of a course was there at the start
+chips_began : {W : Type 0} (model : FaultModel W) (boot : Boot) (starts : List (ChipState W)) (course : Course W) → Holds model boot starts course → (k : ℕ) (c : ChipRun W)
+    → slice_get course.chips k ≡ Some c → k < length starts
+chips_began model boot starts course holds k c at =
+    let log = log_of model boot starts course holds in
+    let p = place_start (EndOf model boot starts (by_log model boot starts log.0) k) (notes_of_chip boot.partitions k course.notes) (slice_get starts k) (slice_get course.chips k) c at (log.2 k) in
+    slice_get_within starts k p.0 p.1
+
+no_more_chips : {W : Type 0} (model : FaultModel W) (boot : Boot) (starts : List (ChipState W)) (course : Course W) → Holds model boot starts course → length course.chips ≤ length starts
+no_more_chips {W} model boot starts course holds = by_order (cases_lt (length starts) (length course.chips))
+  where
+    by_order : (length starts < length course.chips) ⊎ (length course.chips ≤ length starts) → length course.chips ≤ length starts
+    by_order (inl l) = let c = item_at course.chips (length starts) l in absurd (let below = chips_began model boot starts course holds (length starts) c.0 c.1 in omega (arith, below))
+    by_order (inr h) = h
+
+-- what follows from a property of all items
+all_map : {A : Type 0} (P Q : A → Type 0) (xs : List A) → ((x : A) → P x → Q x) → All P xs → All Q xs
+all_map P Q xs f all k d h = f _ (all k d h)
+
+pub without_tables : {W : Type 0} (starts : List (ChipState W)) → All IsPlain starts → HaveNoTables starts
+without_tables starts all = all_map IsPlain (λ s. s.geometry.bbt ≡ 0) starts (λ s plain. plain.without_tables) all
+
+blocks_few : {W : Type 0} (starts : List (ChipState W)) → blocks_of starts ≤ length starts * 4096
+blocks_few {W} starts = sum_by-le (λ (s : ChipState W). s.geometry.blocks) 4096 starts
+    (λ k d h. small (get_or starts k d).geometry)
+  where
+    small : (g : Geometry) → g.blocks ≤ 4096
+    small g = (bounds_of g.page g.spare g.pages_per_block g.blocks g.t g.bbt g.threshold g.in_bounds).blocks_high
+
+-- a session that holds a chip has an operation in flight there
+working_by : {W : Type 0} (partitions : Partitions) (c : ChipRun W) (k : Option Known) (p : Option Pending) (by : ℕ) → holder_by k p ≡ Some by → is_working (stage_by partitions c k p) ≡ true
+working_by partitions c None p by h = cc
+working_by partitions c (Some known) None by h = cc
+working_by partitions c (Some known) (Some pending) by h = refl
+
+module _ {F : Type 0} {flash : Ghosts F} (past : Past F) (bench : Bench F flash) (on : IsOnCourse past bench) where
+  pub few_slots : length bench.slots.items ≤ 8
+  few_slots =
+      let kept : length (kept_chips bench) ≡ length (course_of flash.fault_model flash.state past).chips = ap length on.stands.keeps.of_chips ∙ mapped_length (kept_as past.boot.partitions) (course_of flash.fault_model flash.state past).chips in
+      let all : length (kept_chips bench) ≡ length bench.slots.items = mapped_length kept_slot bench.slots.items in
+      let chips = no_more_chips flash.fault_model past.boot (starts_of flash.state past) (course_of flash.fault_model flash.state past) (holds past bench on) in
+      omega (arith, kept, all, chips, on.conditions.few)
+
+  -- the turns of the list
+  pub few_turns : length past.turns ≤ 8 * boot_cost past.boot (starts_of flash.state past) + 7 * length past.started
+  few_turns =
+      let busy = busy_few flash.fault_model past.boot (starts_of flash.state past) past.attaches past.turns on.conditions.runnable (one_number_each past.boot.sessions on.conditions.ascending) in
+      let same : length (busy_turns flash.fault_model past.boot (starts_of flash.state past) past.turns (course_after flash.fault_model past.boot (starts_of flash.state past) past.attaches [])) ≡ length past.turns =
+          ap length on.all_busy in
+      let starts : length (starts_of flash.state past) ≡ length past.started = mapped_length flash.state past.started in
+      omega (arith, busy, same, starts)
+
+  -- the attach steps
+  pub few_attaches : past.attaches ≤ blocks_of (starts_of flash.state past)
+  few_attaches = subst (λ n. n ≤ blocks_of (starts_of flash.state past)) on.attach_events
+      (attaches_few flash.fault_model past.boot (starts_of flash.state past) past.attaches (without_tables (starts_of flash.state past) on.conditions.plain))
+
+  pub few_blocks : blocks_of (starts_of flash.state past) ≤ 32768
+  few_blocks = let blocks = blocks_few (starts_of flash.state past) in omega (arith, blocks, on.conditions.few)
+
+  -- the events
+  pub few_events : bench.events < 2 ^ 32 - 1
+  few_events =
+      let events = events_few flash.fault_model past.boot (starts_of flash.state past) past.turns (course_after flash.fault_model past.boot (starts_of flash.state past) past.attaches []) in
+      let same : length (busy_turns flash.fault_model past.boot (starts_of flash.state past) past.turns (course_after flash.fault_model past.boot (starts_of flash.state past) past.attaches [])) ≡ length past.turns =
+          ap length on.all_busy in
+      let starts : length (starts_of flash.state past) ≡ length past.started = mapped_length flash.state past.started in
+      omega (arith, events, same, starts, on.attach_events, few_attaches, few_blocks, few_turns, on.conditions.cheap, on.conditions.few, on.stands.keeps.of_events)
+
+  pub attached_there : unattached (course_of flash.fault_model flash.state past) ≡ first_attaching (kept_chips bench)
+  attached_there = unattached_there flash.fault_model past.boot on.calm (starts_of flash.state past) (course_of flash.fault_model flash.state past) (kept_chips bench) bench.events bench.notes.notes bench.sessions.items on.stands
+
+  -- a session of the boot is found
+  pub place_there : (session : ℕ) → HasSession past.boot session → position (λ (s : Session). number_of s == session) bench.sessions.items ≡ None → ⊥
+  place_there session has none =
+      let b = mapped_some (λ (x : ℕ × List Command). x.0) (slice_get past.boot.sessions has.0) session has.1 in
+      let within = slice_get_within past.boot.sessions has.0 b.0 b.1 in
+      let s = item_at bench.sessions.items has.0 (omega (arith, within, on.stands.mirrors.many)) in
+      let r = item_at (course_of flash.fault_model flash.state past).sessions has.0 (omega (arith, within, on.stands.mirrors.runs_many)) in
+      let each = on.stands.mirrors.each has.0 b.0 s.0 r.0 b.1 s.1 r.1 in
+      let yes : (number_of s.0 == session) ≡ true = eq-eqb _ _ (each.0 ∙ b.2) in
+      let no : (number_of s.0 == session) ≡ false = position_none (λ (x : Session). number_of x == session) bench.sessions.items none has.0 s.0 s.1 in
+      cc (yes, no)
+
+  pub at_turn : (session place : ℕ) → unattached (course_of flash.fault_model flash.state past) ≡ None
+      → position (λ (s : Session). number_of s == session) bench.sessions.items ≡ Some place → (place < length bench.sessions.items) × IsAtTurn past session place bench
+  at_turn session place attached here =
+      let s = position_is (λ (x : Session). number_of x == session) bench.sessions.items place here in
+      (slice_get_within bench.sessions.items place s.0 s.1, record {
+        on_course = on;
+        attached = sym attached_there ∙ attached;
+        own = ap (option_map number_of) s.1 ∙ ap Some (eqb-true _ _ s.2);
+      })
+
+  -- the chip that a session holds is at work
+  pub held_works : (session k : ℕ) → first_held_by session (kept_chips bench) ≡ Some k
+      → option_map (λ (c : KeptChip flash.FaultState). is_working c.stage) (slice_get (kept_chips bench) k) ≡ Some true
+  held_works session k h =
+      let x = position_is (λ (y : KeptChip flash.FaultState). is_held_by session y.holder) (kept_chips bench) k h in
+      let holder = found_held flash.fault_model past.boot on.calm (starts_of flash.state past) (course_of flash.fault_model flash.state past) (kept_chips bench) bench.events bench.notes.notes bench.sessions.items on.stands
+          on.conditions.ascending (holds past bench on) session k x.0 h x.1 in
+      let c = chip_there flash.fault_model past.boot on.calm (starts_of flash.state past) (course_of flash.fault_model flash.state past) (kept_chips bench) bench.events bench.notes.notes bench.sessions.items on.stands k x.0 x.1 in
+      ap (option_map (λ (y : KeptChip flash.FaultState). is_working y.stage)) x.1
+      ∙ ap Some (ap (λ (y : KeptChip flash.FaultState). is_working y.stage) (sym c.2)
+      ∙ working_by past.boot.partitions c.0 c.0.known c.0.pending session (ap (λ (y : KeptChip flash.FaultState). y.holder) c.2 ∙ holder))
+
+-- a search in the slots is one in what is kept of them
+pub held_in_slots : {F : Type 0} {flash : Ghosts F} (bench : Bench F flash) (session : ℕ) → position (λ slot. is_held_by session slot.holder) bench.slots.items ≡ first_held_by session (kept_chips bench)
+held_in_slots bench session = position_kept _ _ kept_slot bench.slots.items (λ k slot h. refl)

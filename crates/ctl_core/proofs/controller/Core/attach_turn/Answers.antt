@@ -1,0 +1,81 @@
+use Rattle.std.proofs.Common.{◌≡◌, ◌≤◌, ◌+◌, Some, None, arith, refl, ap, sym, ◌∙◌, subst}
+use Rattle.std.specs.Prelude.{IsSome, slice_get, option_and_then}
+use Rattle.nand_model.specs.Chip.{PageEvent}
+use Rattle.run_model.specs.Course.{attach_step, unattached}
+use Rattle.run_laws.proofs.AttachTurns.{attach_is_step}
+use Rattle.cost_laws.specs.Laws.{blocks_of}
+use Rattle.chip_model.specs.Stage.{stage_event}
+use Rattle.ctl_core.specs.Answer.{attach_answer}
+use Rattle.ctl_core.specs.KeptChip.{KeptChip}
+use Rattle.ctl_core.specs.Past.{Past, starts_of, sizes_in, course_of, with_attach}
+use Rattle.ctl_core.specs.Bench.{past_of, kept_chips}
+use Rattle.ctl_core.proofs.Limits.{few_slots, few_events, few_attaches, few_blocks, attached_there}
+use Rattle.ctl_core.proofs.CoreSteps.{attaching_in_slots, renoted, attach_there, next_attach, attached_on}
+use Rattle.ctl_core.proofs.controller.Core.attach_turn.Goals as goal
+
+pub returns-in_err-reserve-clause-few : goal.returns-in_err-reserve-clause-few
+returns-in_err-reserve-clause-few g c = few_attaches (past_of c.self.inside.journal) c.self.inside.bench c.self.invariant
+
+pub returns-in_default-clause-answer : goal.returns-in_default-clause-answer
+returns-in_default-clause-answer g c =
+    let none = attached_there (past_of c.self.inside.journal) c.self.inside.bench c.self.invariant ∙ sym (attaching_in_slots c.self.inside.bench) ∙ sym c.first_attaching.ensures ∙ c.in_default.is in
+    ap attach_answer (sym (ap (λ (p : Past g.row.F.Denot). unattached (course_of g.F.Flash.fault_model g.F.Flash.state p)) (sym c.self.view_is) ∙ none))
+
+pub returns-in_default-clause-step : goal.returns-in_default-clause-step
+returns-in_default-clause-step g c =
+    let past = past_of c.self.inside.journal in
+    let none = attached_there past c.self.inside.bench c.self.invariant ∙ sym (attaching_in_slots c.self.inside.bench) ∙ sym c.first_attaching.ensures ∙ c.in_default.is in
+    let step = attach_is_step g.F.Flash.fault_model past.boot (starts_of g.F.Flash.state past) (sizes_in g.F.Flash.state past) past.attaches past.turns in
+    subst (λ (p : Past g.row.F.Denot). course_of g.F.Flash.fault_model g.F.Flash.state past ≡ attach_step g.F.Flash.fault_model p.boot (sizes_in g.F.Flash.state p) (course_of g.F.Flash.fault_model g.F.Flash.state p))
+    c.self.view_is (sym (step.nothing_where_attached none))
+
+pub returns-in_default-clause-few : goal.returns-in_default-clause-few
+returns-in_default-clause-few g c = few_attaches (past_of c.self.inside.journal) c.self.inside.bench c.self.invariant
+
+pub do_event-requires-clause-few : goal.do_event-requires-clause-few
+do_event-requires-clause-few g c = few_slots (past_of c.self.inside.journal) c.self.inside.bench c.self.invariant
+
+pub do_event-requires-clause-event : goal.do_event-requires-clause-event
+do_event-requires-clause-event g c =
+    let first = sym (attaching_in_slots c.self.inside.bench) ∙ sym c.first_attaching.ensures ∙ c.in-Some.is in
+    let there = attach_there (past_of c.self.inside.journal) c.self.inside.bench c.self.invariant c.in-Some.k first in
+    let event = ap (option_and_then (λ (y : KeptChip g.F.Flash.FaultState). stage_event y.stage)) there.2 ∙ there.3 in
+    subst (λ o. IsSome o) (sym event) refl
+
+pub do_event-requires-clause-number : goal.do_event-requires-clause-number
+do_event-requires-clause-number g c = few_events (past_of c.self.inside.journal) c.self.inside.bench c.self.invariant
+
+pub overflow_add-self : goal.overflow_add-self
+overflow_add-self g c =
+    let few = few_attaches (past_of c.self.inside.journal) c.self.inside.bench c.self.invariant in
+    let blocks = few_blocks (past_of c.self.inside.journal) c.self.inside.bench c.self.invariant in
+    omega (arith, few, blocks)
+
+pub invariant_of-self-2 : goal.invariant_of-self-2
+invariant_of-self-2 g c =
+    let past = past_of c.self.inside.journal in
+    let first = sym (attaching_in_slots c.self.inside.bench) ∙ sym c.first_attaching.ensures ∙ c.in-Some.is in
+    let there = attach_there past c.self.inside.bench c.self.invariant c.in-Some.k first in
+    attached_on past (record c.self.inside.bench { notes = c.reserve.new.self }) (renoted past c.self.inside.bench c.self.invariant c.reserve.new.self c.reserve.ensures.notes)
+    c.in-Some.k there.0 there.1 c.do_event.new.self first there.2 there.3 (c.do_event.ensures there.0 there.1 there.2 there.3)
+
+pub returns-clause-answer : goal.returns-clause-answer
+returns-clause-answer g c =
+    let some = attached_there (past_of c.self.inside.journal) c.self.inside.bench c.self.invariant ∙ sym (attaching_in_slots c.self.inside.bench) ∙ sym c.first_attaching.ensures ∙ c.in-Some.is in
+    ap attach_answer (sym (ap (λ (p : Past g.row.F.Denot). unattached (course_of g.F.Flash.fault_model g.F.Flash.state p)) (sym c.self.view_is) ∙ some))
+
+pub returns-clause-step : goal.returns-clause-step
+returns-clause-step g c =
+    let past = past_of c.self.inside.journal in
+    let first = sym (attaching_in_slots c.self.inside.bench) ∙ sym c.first_attaching.ensures ∙ c.in-Some.is in
+    subst (λ (p : Past g.row.F.Denot). course_of g.F.Flash.fault_model g.F.Flash.state (with_attach past) ≡ attach_step g.F.Flash.fault_model p.boot (sizes_in g.F.Flash.state p) (course_of g.F.Flash.fault_model g.F.Flash.state p))
+    c.self.view_is (next_attach past c.self.inside.bench c.self.invariant c.in-Some.k first)
+
+pub returns-clause-few : goal.returns-clause-few
+returns-clause-few g c =
+    let past = past_of c.self.inside.journal in
+    let first = sym (attaching_in_slots c.self.inside.bench) ∙ sym c.first_attaching.ensures ∙ c.in-Some.is in
+    let there = attach_there past c.self.inside.bench c.self.invariant c.in-Some.k first in
+    few_attaches (with_attach past) c.do_event.new.self
+    (attached_on past (record c.self.inside.bench { notes = c.reserve.new.self }) (renoted past c.self.inside.bench c.self.invariant c.reserve.new.self c.reserve.ensures.notes)
+    c.in-Some.k there.0 there.1 c.do_event.new.self first there.2 there.3 (c.do_event.ensures there.0 there.1 there.2 there.3))

@@ -1,0 +1,151 @@
+// A controller in one boot.
+ghost use Rattle.std.specs.Prelude.{◌≡◌, ◌≤◌, ◌+◌, ◌*◌, ◌↔◌, map, length, true, not, None, IsTrue, OnOk, IfOk, is_none};
+ghost use Rattle.run_model.specs.Course.{attach_step, is_idle, is_over, unattached};
+ghost use Rattle.run_model.specs.Run.{AreInOrder, CoursesAreFaithful};
+ghost use Rattle.tool_steps.specs.Boot.{session_number};
+ghost use Rattle.cost_laws.specs.Cost.{boot_cost};
+ghost use Rattle.cost_laws.specs.Laws.{blocks_of};
+ghost use Rattle.ctl_core.specs.Answer.{is_did, turn_answer, attach_answer, after_turn, after_attach_turn};
+ghost use Rattle.ctl_core.specs.Past.{at_start, starts_of, sizes_in, course_of, next_course};
+ghost use Rattle.ctl_core.specs.Start.{CanStart, HasSession};
+
+use crate::Turn;
+use crate::bench::Bench;
+use crate::journal::Journal;
+use crate::starting::{first_sessions, first_slots};
+use nand_iface::{Flash, History};
+use std::alloc::{AllocError, Global};
+use std::marker::Model;
+use std::snapshot::Snapshot;
+use tool_steps::{ControllerBoot, FlashList};
+
+/// A controller in one boot: its chips, its sessions and its notes, one step a turn.
+///
+/// Contracts see what it did so far (`Past`): its boot, the flashes with which it was started, the number of its attach steps, and the sessions whose turns
+/// did something, in order. From these follows the course that it is on (`course_of`), with its notes, chips and sessions.
+#[derive(Drop)]
+pub struct Core<F: Flash> {
+    journal: Journal<F>,
+    bench: Bench<F>,
+}
+
+impl<F: Flash> Model for Core<F> {
+    ghost use Rattle.ctl_core.specs.Past.{Past};
+
+    ghost Value = { Past F };
+
+    ghost use Rattle.ctl_core.specs.Bench.{past_of, IsOnCourse};
+
+    ghost view = { λ c. past_of c.journal };
+
+    ghost invariant = { λ c. IsOnCourse (past_of c.journal) c.bench };
+}
+
+impl<F: Flash> Core<F> {
+    /// A controller at the start of its part of a boot. It takes the memory that the attaches of its chips need.
+    ///
+    /// There are at most eight flashes, without tables and turned bits. The partitions lie on these chips, the commands name devices that are there, with their sizes, and can
+    /// be run; the sessions' numbers ascend; and the commands cost at most 16,777,216 operations together.
+    pub fn start(alloc: Global, boot: ControllerBoot, flashes: FlashList<F>) -> Result<Core<F>, AllocError>
+        requires { CanStart boot (map F.state flashes) }
+        ensures { IfOk result (λ core. core ≡ at_start boot flashes) }
+    {
+        let started = Snapshot::of(&flashes);
+        let sessions = first_sessions(alloc, &boot)?;
+        let slots = first_slots(alloc, flashes)?;
+        Ok(Core {
+            journal: Journal {
+                boot,
+                started,
+                attaches: 0,
+                turns: Vec::new(alloc),
+            },
+            bench: Bench {
+                slots,
+                events: 0,
+                notes: History::new(alloc),
+                sessions,
+            },
+        })
+    }
+
+    /// One page event of the first chip that is not attached; the last one of an attach also puts its note down.
+    ///
+    /// `Done` comes exactly where all chips are attached, and `Did` else. Only `Did` makes anything of the controller: it counts one more attach step.
+    pub fn attach_turn(&mut self) -> Result<Turn, AllocError>
+        ensures answer { IfOk result (λ turn. turn ≡ attach_answer (unattached (course_of F.fault_model F.state self.old))) }
+        ensures past { self.new ≡ after_attach_turn result self.old }
+        ensures step { OnOk result (course_of F.fault_model F.state self.new
+            ≡ attach_step F.fault_model self.old.boot (sizes_in F.state self.old) (course_of F.fault_model F.state self.old)) }
+        ensures few { self.new.attaches ≤ blocks_of (starts_of F.state self.new) }
+    {
+        self.bench.notes.reserve(2)?;
+        let Some(k) = self.bench.first_attaching() else {
+            return Ok(Turn::Done);
+        };
+        self.bench.do_event(k);
+        self.journal.attaches += 1;
+        Ok(Turn::Did)
+    }
+
+    /// One step of a session of this controller, whose chips are all attached: its operation in flight does its next page event or is answered, or its next operation begins.
+    ///
+    /// `Done` comes exactly where the session's commands are over; else `Held(by)` exactly where it has nothing in flight and session `by` has an operation in flight on the chip of its
+    /// next operation; else `Did`. Only `Did` makes anything of the controller: it is one more turn of this session.
+    pub fn turn(&mut self, session: u32) -> Result<Turn, AllocError>
+        requires attached { unattached (course_of F.fault_model F.state self.old) ≡ None }
+        requires own { HasSession self.old.boot session }
+        ensures answer { IfOk result (λ turn. turn ≡ turn_answer self.old.boot.partitions (sizes_in F.state self.old) (course_of F.fault_model F.state self.old) session) }
+        ensures busy { IfOk result (λ turn. is_did turn ≡ not (is_idle self.old.boot.partitions (sizes_in F.state self.old) (course_of F.fault_model F.state self.old) session)) }
+        ensures past { self.new ≡ after_turn result session self.old }
+        ensures step { OnOk result (course_of F.fault_model F.state self.new ≡ next_course F.fault_model F.state self.old session) }
+        ensures attached { unattached (course_of F.fault_model F.state self.new) ≡ None }
+        ensures few { length self.new.turns ≤ 8 * boot_cost self.new.boot (starts_of F.state self.new) + 7 * length self.new.started }
+    {
+        self.journal.turns.reserve(1)?;
+        self.bench.notes.reserve(2)?;
+        let turn = self.bench.step(&self.journal, session)?;
+        if let Turn::Did = turn {
+            self.journal.turns.push_reserved(session);
+        }
+        Ok(turn)
+    }
+
+    /// Whether the session is one of this controller.
+    pub fn has(&self, session: u32) -> bool
+        ensures { IsTrue result ↔ HasSession self.now.boot session }
+    {
+        self.bench.place_of(session).is_some()
+    }
+
+    /// The number of the session at place `k`, counted from 0. None comes exactly where there is none.
+    pub fn session(&self, k: usize) -> Option<u32>
+        ensures { result ≡ session_number self.now.boot k }
+    {
+        self.journal.boot.session(k)
+    }
+
+    /// Lends the notes: they are those of one thread, and the operations of each session are those of its commands, in order and each once.
+    pub fn notes(&self) -> &History
+        ensures notes { result.now.notes ≡ (course_of F.fault_model F.state self.now).notes }
+        ensures one_thread { CoursesAreFaithful F.fault_model self.now.boot (starts_of F.state self.now) self.now.attaches self.now.turns }
+        ensures in_order { AreInOrder self.now.boot (starts_of F.state self.now) result.now.notes }
+    {
+        &self.bench.notes
+    }
+
+    /// Whether all chips are attached and the commands of all sessions are over.
+    pub fn over(&self) -> bool
+        ensures { result ≡ is_over (course_of F.fault_model F.state self.now) }
+    {
+        self.bench.is_over(&self.journal)
+    }
+
+    /// The number of turns that did something.
+    pub fn turn_count(&self) -> usize
+        ensures count { result ≡ length self.now.turns }
+        ensures few { result ≤ 8 * boot_cost self.now.boot (starts_of F.state self.now) + 7 * length self.now.started }
+    {
+        self.journal.turns.len()
+    }
+}

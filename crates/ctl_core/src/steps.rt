@@ -1,0 +1,163 @@
+// One step of a session.
+ghost use Rattle.std.specs.Prelude.{◌≡◌, ◌≤◌, ◌<◌, ◌-◌, ◌^◌, ◌↔◌, IsTrue, true, not, None, IsSome, is_none, length, slice_get, option_map, OnOk, OnErr, IfOk, IfSome};
+ghost use Rattle.chip_model.specs.Stage.{is_working};
+ghost use Rattle.run_model.specs.Command.{command_device};
+ghost use Rattle.run_model.specs.Course.{is_idle, is_over, unattached};
+ghost use Rattle.ctl_core.specs.Answer.{is_did, next_chip, turn_answer};
+ghost use Rattle.ctl_core.specs.Sessions.{AreAllDone};
+ghost use Rattle.ctl_core.specs.KeptChip.{KeptChip, first_held_by};
+ghost use Rattle.ctl_core.specs.Start.{HasSession};
+ghost use Rattle.ctl_core.specs.Past.{Past, course_of, next_course, sizes_in, is_done};
+
+use crate::Turn;
+use crate::bench::Bench;
+use crate::journal::Journal;
+use nand_iface::{Flash, Note};
+use nand_model::Command;
+use std::alloc::AllocError;
+use tool_steps::ControllerBoot;
+
+impl<F: Flash> Bench<F> {
+    ghost use Rattle.ctl_core.specs.Bench.{kept_chips, finished_at, past_of, IsOnCourse, IsAtTurn, StandsAt};
+
+    // One step of a session of the boot, where all chips are attached. Where memory runs out, chips, sessions and notes stand where they stood.
+    pub fn step(&mut self, journal: &Journal<F>, session: u32) -> Result<Turn, AllocError>
+        requires on_course { IsOnCourse (past_of journal.now) self.old }
+        requires attached { unattached (course_of F.fault_model F.state (past_of journal.now)) ≡ None }
+        requires own { HasSession journal.now.boot session }
+        requires room { 2 ≤ self.old.notes.room }
+        ensures answer { IfOk result (λ turn. turn ≡ turn_answer journal.now.boot.partitions (sizes_in F.state (past_of journal.now)) (course_of F.fault_model F.state (past_of journal.now)) session) }
+        ensures idle { IfOk result (λ turn. is_did turn ≡ not (is_idle journal.now.boot.partitions (sizes_in F.state (past_of journal.now)) (course_of F.fault_model F.state (past_of journal.now)) session)) }
+        ensures stands { OnOk result (StandsAt (past_of journal.now) (next_course F.fault_model F.state (past_of journal.now) session) self.new) }
+        ensures no_memory { OnErr result (StandsAt (past_of journal.now) (course_of F.fault_model F.state (past_of journal.now)) self.new) }
+    {
+        let Some(place) = self.place_of(session) else {
+            unreachable!();
+        };
+        match self.held_by(session) {
+            Some(k) => {
+                self.go_on(place, k, session);
+                Ok(Turn::Did)
+            }
+            None => self.begin(journal, place, session),
+        }
+    }
+
+    // Whether all chips are attached and the commands of all sessions are over.
+    pub fn is_over(&self, journal: &Journal<F>) -> bool
+        requires { IsOnCourse (past_of journal.now) self.now }
+        ensures { result ≡ is_over (course_of F.fault_model F.state (past_of journal.now)) }
+    {
+        self.first_attaching().is_none() && self.all_done(&journal.boot)
+    }
+
+    // Whether the commands of all sessions are over.
+    fn all_done(&self, boot: &ControllerBoot) -> bool
+        requires { length self.now.sessions.items ≤ length boot.now.sessions }
+        ensures { IsTrue result ↔ AreAllDone boot.now.sessions self.now.notes.notes self.now.sessions.items }
+    {
+        for k in 0..self.sessions.len() {
+            if !self.sessions[k].is_over(boot.commands(k), &self.notes) {
+                return false;
+            }
+        }
+        true
+    }
+
+    // Does the next event of the operation that a session has in flight on chip `k`, or answers it where no event is left.
+    fn go_on(&mut self, place: usize, k: usize, session: u32)
+        requires few { length self.old.slots.items ≤ 8 }
+        requires works { option_map (λ (c : KeptChip F.FaultState). is_working c.stage) (slice_get (kept_chips self.old) k) ≡ Some true }
+        requires place { place < length self.old.sessions.items }
+        requires room { 2 ≤ self.old.notes.room }
+        requires number { self.old.events < 2 ^ 32 - 1 }
+        ensures { (past : Past F) → IsAtTurn past session place self.old → first_held_by session (kept_chips self.old) ≡ Some k → StandsAt past (next_course F.fault_model F.state past session) self.new }
+    {
+        if self.slots[k].chip.next_event().is_some() {
+            self.do_event(k);
+        } else {
+            self.answer(place, k, session);
+        }
+    }
+
+    // Answers the operation in flight on chip `k`, which has no event left, to its session.
+    fn answer(&mut self, place: usize, k: usize, session: u32)
+        requires finished { IsSome (finished_at self.old k) }
+        requires place { place < length self.old.sessions.items }
+        requires room { 0 < self.old.notes.room }
+        ensures { (past : Past F) → IsAtTurn past session place self.old → first_held_by session (kept_chips self.old) ≡ Some k → StandsAt past (next_course F.fault_model F.state past session) self.new }
+    {
+        let reply = self.slots[k].answer();
+        let at = self.notes.len();
+        self.notes.push(Note::Answered { session, reply });
+        self.sessions[place].replied(at);
+    }
+
+    // Begins the next operation of a session that has none in flight, where its commands are not over and its chip is free.
+    // Where memory runs out, chips, sessions and notes stand where they stood.
+    fn begin(&mut self, journal: &Journal<F>, place: usize, session: u32) -> Result<Turn, AllocError>
+        requires turn { IsAtTurn (past_of journal.now) session place self.old }
+        requires free { first_held_by session (kept_chips self.old) ≡ None }
+        requires room { 0 < self.old.notes.room }
+        ensures answer { IfOk result (λ turn. turn ≡ turn_answer journal.now.boot.partitions (sizes_in F.state (past_of journal.now)) (course_of F.fault_model F.state (past_of journal.now)) session) }
+        ensures idle { IfOk result (λ turn. is_did turn ≡ not (is_idle journal.now.boot.partitions (sizes_in F.state (past_of journal.now)) (course_of F.fault_model F.state (past_of journal.now)) session)) }
+        ensures stands { OnOk result (StandsAt (past_of journal.now) (next_course F.fault_model F.state (past_of journal.now) session) self.new) }
+        ensures no_memory { OnErr result (StandsAt (past_of journal.now) (course_of F.fault_model F.state (past_of journal.now)) self.new) }
+    {
+        let Some(k) = self.next_chip(journal, place, session) else {
+            return Ok(Turn::Done);
+        };
+        if let Some(by) = self.slots[k].holder {
+            return Ok(Turn::Held(by));
+        }
+        self.begin_on(journal, place, k, session)?;
+        Ok(Turn::Did)
+    }
+
+    // The chip of a session's next operation. None comes exactly where its commands are over.
+    fn next_chip(&self, journal: &Journal<F>, place: usize, session: u32) -> Option<usize>
+        requires { IsAtTurn (past_of journal.now) session place self.now }
+        ensures chip { result ≡ next_chip journal.now.boot.partitions (sizes_in F.state (past_of journal.now)) (course_of F.fault_model F.state (past_of journal.now)) session }
+        ensures over { is_none result ≡ is_done (course_of F.fault_model F.state (past_of journal.now)) session }
+        ensures there { IfSome result (λ k. k < length self.now.slots.items) }
+    {
+        let _ = session;
+        let commands = journal.boot.commands(place);
+        let command = self.sessions[place].next_command(commands, &self.notes)?;
+        let part = journal.boot.parts().get(device_of(command))?;
+        Some(part.chip as usize)
+    }
+
+    // Begins the next operation of a session on its chip, which is free.
+    fn begin_on(&mut self, journal: &Journal<F>, place: usize, k: usize, session: u32) -> Result<(), AllocError>
+        requires turn { IsAtTurn (past_of journal.now) session place self.old }
+        requires none { first_held_by session (kept_chips self.old) ≡ None }
+        requires chip { next_chip journal.now.boot.partitions (sizes_in F.state (past_of journal.now)) (course_of F.fault_model F.state (past_of journal.now)) session ≡ Some k }
+        requires free { option_map (λ (c : KeptChip F.FaultState). c.holder) (slice_get (kept_chips self.old) k) ≡ Some None }
+        requires room { 0 < self.old.notes.room }
+        ensures stands { OnOk result (StandsAt (past_of journal.now) (next_course F.fault_model F.state (past_of journal.now) session) self.new) }
+        ensures no_memory { OnErr result (StandsAt (past_of journal.now) (course_of F.fault_model F.state (past_of journal.now)) self.new) }
+    {
+        let commands = journal.boot.commands(place);
+        let g = self.slots[k].chip.geometry();
+        let op = self.sessions[place].next_op(commands, &g, &self.notes)?;
+        self.slots[k].begin(session, journal.boot.parts(), &op)?;
+        self.notes.push(Note::Began { session, op });
+        Ok(())
+    }
+}
+
+// The device of a command.
+fn device_of(command: &Command) -> u32
+    ensures { result ≡ command_device command.now }
+{
+    match command {
+        Command::FlashErase { dev, .. } => *dev,
+        Command::NandWrite { dev, .. } => *dev,
+        Command::NandDump { dev, .. } => *dev,
+        Command::NandTest { dev, .. } => *dev,
+        Command::MarkBad { dev, .. } => *dev,
+        Command::IsBad { dev, .. } => *dev,
+        Command::Stats { dev, .. } => *dev,
+    }
+}
