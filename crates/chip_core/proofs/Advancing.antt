@@ -1,16 +1,16 @@
 -- What an event does to a chip, said of what it was at.
-use Rattle.std.proofs.Common.{◌≡◌, ℕ, ◌+◌, ◌<◌, ◌≤◌, Bool, true, false, List, take, Option, Some, None, refl, ap, sym, subst, arith, ◌∙◌}
+use Rattle.std.proofs.Common.{◌≡◌, ℕ, ◌<◌, Bool, true, List, take, Option, Some, None, ap, sym, subst, ◌∙◌}
 use Rattle.std.specs.Prelude.{IsSome, IfSome}
 use Rattle.std.proofs.lemmas.Bool.{false≢true}
 use Rattle.nand_model.specs.Attach.{Attaching}
-use Rattle.nand_model.specs.Chip.{ChipState, Complete, FaultModel, PageEvent, ReadEvent, happens}
+use Rattle.nand_model.specs.Chip.{ChipState, Complete, FaultModel, PageEvent, ReadEvent}
 use Rattle.nand_model.specs.Operation.{Known}
-use Rattle.nand_model.specs.Path.{Data, answer_to, first_event, is_failure}
+use Rattle.nand_model.specs.Path.{Data, answer_to, first_event}
 use Rattle.nand_model.specs.Sizes.{first_page}
 use Rattle.nand_model.specs.declared.geometry.Geometry.{Geometry}
 use Rattle.nand_model.specs.declared.words.Fairness.{Fairness}
 use Rattle.nand_iface.proofs.FlashLemmas.{happens-geometry}
-use Rattle.chip_model.specs.Stage.{Stage, failure_told, news_after, stage_after, stage_event}
+use Rattle.chip_model.specs.Stage.{Stage, news_after, stage_after, stage_event}
 use Rattle.chip_core.specs.Calm.{HasNoFlips}
 use Rattle.chip_core.specs.Markers.{marker_page}
 use Rattle.chip_core.specs.Phase.{phase_stage}

@@ -5,7 +5,7 @@ use Rattle.std.proofs.lemmas.List.{map-append}
 use Rattle.nand_model.proofs.Bounds.{bounds}
 use Rattle.nand_model.specs.Attach.{Attaching, marker_table}
 use Rattle.nand_model.specs.Chip.{ChipState, Complete, FaultModel, PageEvent, ReadEvent, happens}
-use Rattle.nand_model.specs.Path.{Path, Over, Data, answer_to, first_event}
+use Rattle.nand_model.specs.Path.{Path, Over, Data, answer_to}
 use Rattle.nand_model.specs.Quiet.{is_quiet}
 use Rattle.nand_model.specs.Sizes.{numbers_from, first_page}
 use Rattle.chip_model.specs.Stage.{Stage, Attaches, Rests, attach_end, attach_stage, first_stage, news_after, path_after, stage_after, stage_event}

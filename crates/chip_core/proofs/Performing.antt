@@ -1,5 +1,5 @@
 -- A whole raw operation: it is over at once, or after one event.
-use Rattle.std.proofs.Common.{◌≡◌, ℕ, ◌+◌, ◌-◌, ◌/◌, ◌^◌, ◌<◌, ◌≤◌, Bool, true, false, List, [], ◌∷◌, Option, Some, None, refl, ap, sym, subst, ◌∙◌, inl, inr, arith}
+use Rattle.std.proofs.Common.{◌≡◌, ℕ, ◌+◌, ◌-◌, ◌/◌, ◌^◌, ◌≤◌, Bool, true, false, List, [], ◌∷◌, Option, Some, None, refl, ap, sym, subst, ◌∙◌, inl, inr, arith}
 use Rattle.std.specs.Prelude.{IsSome, IfSome, is_some, option_map, slice_index, ◌==◌}
 use Rattle.std.proofs.Math.Nat.{min-eq_left, min-eq_right}
 use Rattle.std.proofs.lemmas.Bool.{false≢true, true≢false, both_ways, cases_lt}
@@ -142,7 +142,7 @@ module _ {W : Type 0} (model : FaultModel W) (partitions : Partitions) (op : Op)
       finished = refl;
       performed = nothing_done reply is;
       cause = subst (λ refusal. HasCause refusal s s reply) (sym why)
-      (record { refused = (refl, refl); taken = tt; failed = λ fault. absurd (both_ways (is_fault reply) no_fault fault) });
+          (record { refused = (refl, refl); taken = tt; failed = λ fault. absurd (both_ways (is_fault reply) no_fault fault) });
     }
     at_once path is none refusal (over_at_once reply taken no_fault) why = record {
       known = k;
@@ -151,7 +151,7 @@ module _ {W : Type 0} (model : FaultModel W) (partitions : Partitions) (op : Op)
       finished = refl;
       performed = nothing_done reply is;
       cause = subst (λ refusal. HasCause refusal s s reply) (sym why)
-      (record { refused = tt; taken = taken; failed = λ fault. absurd (both_ways (is_fault reply) no_fault fault) });
+          (record { refused = tt; taken = taken; failed = λ fault. absurd (both_ways (is_fault reply) no_fault fault) });
     }
     at_once path is none refusal (over_after_one e reply taken fault) why = absurd (true≢false none)
 
@@ -178,11 +178,11 @@ module _ {W : Type 0} (model : FaultModel W) (partitions : Partitions) (op : Op)
         };
       };
       cause = subst (λ refusal. HasCause refusal s after (reply (answer_to model s e))) (sym why)
-      (record {
-        refused = tt;
-        taken = taken (answer_to model s e);
-        failed = λ failed. subst (λ (now : ChipState W). HasRisen s.faults now.faults) (sym state) (failure_counts model s e (fault (answer_to model s e) failed));
-      });
+          (record {
+            refused = tt;
+            taken = taken (answer_to model s e);
+            failed = λ failed. subst (λ (now : ChipState W). HasRisen s.faults now.faults) (sym state) (failure_counts model s e (fault (answer_to model s e) failed));
+          });
     }
 
   news_stay : (quiet : Bool) (answer : Answer) (first begun : Stage) (news : Option (Bool × Attaching)) → is_resting first ≡ true → begun ≡ stage_begun s.geometry partitions op first

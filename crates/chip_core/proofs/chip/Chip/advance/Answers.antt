@@ -1,6 +1,6 @@
 use Rattle.std.proofs.Common.{◌≡◌, ◌≤◌, ◌+◌, ◌∙◌, None, Option, refl, sym, subst, arith, false}
 use Rattle.std.specs.Prelude.{IsSome, IfSome}
-use Rattle.nand_model.specs.Chip.{Complete, PageEvent, happens}
+use Rattle.nand_model.specs.Chip.{Complete, happens}
 use Rattle.nand_model.specs.Path.{answer_to, is_failure}
 use Rattle.nand_model.specs.Quiet.{is_quiet}
 use Rattle.nand_model.specs.declared.words.Fairness.{Fairness}

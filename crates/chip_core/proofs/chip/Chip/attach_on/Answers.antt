@@ -1,6 +1,5 @@
-use Rattle.std.proofs.Common.{◌≡◌, ◌≤◌, ◌<◌, ◌+◌, ◌∙◌, ap, sym, true, List, ℕ, Option, Some}
-use Rattle.nand_model.specs.Attach.{Attaching}
-use Rattle.chip_core.specs.Markers.{attached_by_markers, marker_page}
+use Rattle.std.proofs.Common.{◌≤◌, ◌<◌, ◌+◌, sym}
+use Rattle.chip_core.specs.Markers.{marker_page}
 use Rattle.chip_core.proofs.Scanning.{goes_on, no_news, comes_to_rest, news}
 use Rattle.chip_core.proofs.chip.Chip.attach_on.Goals as goal
 

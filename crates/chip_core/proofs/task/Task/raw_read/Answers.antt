@@ -1,5 +1,5 @@
-use Rattle.std.specs.Prelude.{length, replicate}
-use Rattle.std.proofs.Common.{◌≡◌, ◌∙◌, ap, ℕ}
+use Rattle.std.specs.Prelude.{length}
+use Rattle.std.proofs.Common.{◌∙◌, ap}
 use Rattle.std.proofs.lemmas.List.{length-replicate}
 use Rattle.nand_model.specs.Operation.{part_of}
 use Rattle.chip_core.proofs.Places.{pages-le}

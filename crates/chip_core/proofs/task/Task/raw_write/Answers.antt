@@ -1,4 +1,4 @@
-use Rattle.std.proofs.Common.{◌≡◌, ◌∙◌}
+use Rattle.std.proofs.Common.{◌∙◌}
 use Rattle.nand_model.specs.Operation.{part_of}
 use Rattle.std.proofs.lemmas.Result.{IfOk-weaker}
 use Rattle.nand_model.specs.declared.words.Op.TheVariants.{RawWrite}
