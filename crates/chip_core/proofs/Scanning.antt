@@ -45,7 +45,8 @@ module _ (g : Geometry) where
     pub next_read : first_event (markers_left g states (blocks_from g block)) ≡ Some (ReadEvent (first_page g block))
     next_read = ap (λ blocks. first_event (markers_left g states blocks)) (blocks_from-head block there)
 
-    pub still_attaches : (quiet : Bool) → attach_stage (markers_left g states (blocks_from g block)) quiet ≡ Attaches (markers_left g states (blocks_from g block)) quiet
+    pub still_attaches : (quiet : Bool)
+        → attach_stage (markers_left g states (blocks_from g block)) quiet ≡ Attaches (markers_left g states (blocks_from g block)) quiet
     still_attaches quiet =
         ap (λ blocks. attach_stage (markers_left g states blocks) quiet) (blocks_from-head block there)
         ∙ sym (ap (λ blocks. Attaches (markers_left g states blocks) quiet) (blocks_from-head block there))

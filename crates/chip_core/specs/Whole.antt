@@ -25,7 +25,8 @@ known_at_rest (Rests known) = Some known
 known_at_rest (Works known left) = None
 
 -- from this chip and what is known of it to this chip with the same known, by a whole operation with this reply
-pub record HasPerformed {W : Type 0} (model : FaultModel W) (partitions : Partitions) (k : Known) (op : Op) (before after : ChipState W) (reply : Reply) : Type 0 where
+pub record HasPerformed {W : Type 0} (model : FaultModel W) (partitions : Partitions) (k : Known) (op : Op) (before after : ChipState W)
+    (reply : Reply) : Type 0 where
   pub trace : List ChipEvent
   pub leads : after ≡ after_trace model before trace
   pub performs : Performs model partitions before k op trace reply k
