@@ -1,5 +1,6 @@
 mod Rounds
 mod Progress
-mod Pending
 mod Once
 mod Sessions
+mod Pasts
+mod Starts

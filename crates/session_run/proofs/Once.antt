@@ -16,7 +16,7 @@ use Rattle.run_laws.proofs.Faithful.{course_holds}
 use Rattle.run_laws.proofs.AttachTurns.{attach_is_step}
 use Rattle.run_laws.proofs.Places.{position_is}
 use Rattle.session_run.specs.Replay.{IsReplayed, rounds_after, session_numbers}
-use Rattle.session_run.proofs.Pending.{pending_is_next}
+use Rattle.ctl_core.proofs.Pending.{pending_is_next}
 use Rattle.session_run.proofs.Rounds.{rounds_after-add, course_after-append}
 
 -- a session that is found among finished ones is finished

@@ -29,7 +29,7 @@ not_all_idle boot starts course count busy goes attached all idle =
     false≢true (sym some.3 ∙ idle some.2.0 some.0 (all some.2.0 (some.0, some.1) at) (number_at boot.sessions some.2.0 (some.0, some.1) at))
 
 -- the first k + 1 of a list are the first k and the next one
-take-one : (xs : List ℕ) (k s : ℕ) → slice_get xs k ≡ Some s → take (k + 1) xs ≡ take k xs ++ s ∷ []
+pub take-one : (xs : List ℕ) (k s : ℕ) → slice_get xs k ≡ Some s → take (k + 1) xs ≡ take k xs ++ s ∷ []
 take-one [] k s h = absurd (none-some s h)
 take-one (x ∷ xs) zero s h = ap (λ y. y ∷ []) (same_Some x s h)
 take-one (x ∷ xs) (suc k) s h = ap (λ n. take n (x ∷ xs)) (suc-add k 1) ∙ ap (λ rest. x ∷ rest) (take-one xs k s h)

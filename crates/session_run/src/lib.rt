@@ -2,5 +2,6 @@
 #![tactic(auto)]
 
 mod laws;
+mod replay;
 
 pub use laws::replays_end_alike;

@@ -1,10 +1,10 @@
 // A controller's boot, replayed.
-ghost use Rattle.std.specs.Prelude.{◌≡◌, ◌<◌, ◌≤◌, ◌+◌, ◌*◌, ◌×◌, [], None, false, All, length, IfOk, OnOk};
+ghost use Rattle.std.specs.Prelude.{◌≡◌, ◌<◌, ◌≤◌, ◌+◌, ◌*◌, [], None, false, All, length, IfOk, OnOk, OnErr};
 ghost use Rattle.run_model.specs.Course.{is_over, turns_taken, unattached};
 ghost use Rattle.cost_laws.specs.Cost.{boot_cost};
 ghost use Rattle.ctl_core.specs.Past.{starts_of, course_of};
 ghost use Rattle.ctl_core.specs.Start.{CanStart, HasSession};
-ghost use Rattle.session_run.specs.Replay.{IsReplayed, IsOfTheSameStart, session_numbers};
+ghost use Rattle.session_run.specs.Replay.{IsReplayed, IsOfTheSameStart, TakesTurn, session_numbers};
 
 use ctl_core::{Core, Turn};
 use nand_iface::Flash;
@@ -38,6 +38,22 @@ fn take_turns<F: Flash>(core: &mut Core<F>, sessions: &Schedule) -> Result<(), A
     Ok(())
 }
 
+// Takes a turn of the session at place `k`.
+fn take_turn_at<F: Flash>(core: &mut Core<F>, k: usize) -> Result<(), AllocError>
+    requires attached { unattached (course_of F.fault_model F.state core.old) ≡ None }
+    requires place { k < length core.old.boot.sessions }
+    ensures taken { OnOk result (TakesTurn F.fault_model F.state k core.old core.new) }
+    ensures no_memory { OnErr result (core.new ≡ core.old) }
+{
+    match core.session(k) {
+        Some(session) => {
+            core.turn(session)?;
+            Ok(())
+        }
+        None => unreachable!(),
+    }
+}
+
 // Takes a turn of each session, in their order; some turn does something.
 fn take_round<F: Flash>(core: &mut Core<F>) -> Result<(), AllocError>
     requires attached { unattached (course_of F.fault_model F.state core.old) ≡ None }
@@ -52,9 +68,7 @@ fn take_round<F: Flash>(core: &mut Core<F>) -> Result<(), AllocError>
     ensures few { OnOk result (length core.new.turns ≤ 8 * boot_cost core.new.boot (starts_of F.state core.new) + 7 * length core.new.started) }
 {
     for k in 0..core.session_count() {
-        if let Some(session) = core.session(k) {
-            core.turn(session)?;
-        }
+        take_turn_at(core, k)?;
     }
     let _few = core.turn_count();
     Ok(())
