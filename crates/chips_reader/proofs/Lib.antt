@@ -6,3 +6,4 @@ pub mod Checked
 pub mod Printing
 pub mod Lines
 pub mod Makes
+pub mod Unique

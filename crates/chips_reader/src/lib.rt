@@ -4,10 +4,12 @@
 mod cursor;
 mod draft;
 mod head;
+mod laws;
 mod legal;
 mod line;
 mod print;
 mod push;
 mod reader;
 
+pub use laws::plans_have_own_texts;
 pub use reader::read_several_chips;
