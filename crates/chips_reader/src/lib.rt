@@ -10,6 +10,8 @@ mod line;
 mod print;
 mod push;
 mod reader;
+#[cfg(test)]
+mod tests;
 
 pub use laws::plans_have_own_texts;
 pub use reader::read_several_chips;
