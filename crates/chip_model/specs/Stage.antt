@@ -1,7 +1,7 @@
 -- Where a chip stands in a boot: what is left of the path of its attach, or of its operation in flight.
 use Rattle.std.specs.Prelude.{◌≡◌, ℕ, Bool, true, false, ◌&&◌, List, [], ◌∷◌, ◌++◌, length, Option, Some, None, option_map}
 use Rattle.nand_model.specs.Chip.{ChipState, FaultModel, Complete, PageEvent, happens}
-use Rattle.nand_model.specs.Path.{Answer, Path, Over, Then, is_failure, answer_to, after_answers, first_event}
+use Rattle.nand_model.specs.Path.{Answer, Path, Over, Then, is_failure, answer_to, after_answers, first_event, result_of}
 use Rattle.nand_model.specs.Attach.{Attaching, attach_path}
 use Rattle.nand_model.specs.Operation.{Partitions, Known, Finished, operation_path}
 use Rattle.nand_model.specs.ChipRun.{ChipRun, Pending, known_at_first, attach_note, name_of}
@@ -9,7 +9,9 @@ use Rattle.nand_model.specs.Quiet.{fairness_of, is_quiet}
 use Rattle.nand_model.specs.declared.geometry.Geometry.{Geometry}
 use Rattle.nand_model.specs.declared.words.Event.{Event}
 use Rattle.nand_model.specs.declared.words.Fairness.{Fairness}
+use Rattle.nand_model.specs.declared.words.Note.{Note}
 use Rattle.nand_model.specs.declared.words.Op.{Op}
+use Rattle.nand_model.specs.declared.words.Stats.{Stats}
 
 -- a chip is being attached, and all its events so far were quiet or not; or it is attached with nothing in flight; or an operation is in flight
 pub data Stage : Type 0 where
@@ -53,6 +55,10 @@ news_after now_quiet answer (Attaches left quiet) news = attach_end (path_after 
 news_after now_quiet answer (Rests known) news = news
 news_after now_quiet answer (Works known left) news = news
 
+-- the note of such news about chip k
+abbrev pub note_of_news : ℕ → Bool × Attaching → Note
+note_of_news k news = attach_note k news.0 news.1
+
 -- the fairness of an event where it failed
 abbrev pub fairness_where_failed : Bool → Fairness → Option Fairness
 fairness_where_failed true fairness = Some fairness
@@ -63,6 +69,36 @@ abbrev pub stage_table : Stage → Option (List ℕ)
 stage_table (Attaches left quiet) = None
 stage_table (Rests known) = Some known.table
 stage_table (Works known left) = Some known.table
+
+-- a device's statistics, which are 0 while the chip is not attached
+abbrev pub stage_statistics : Stage → ℕ → Stats
+stage_statistics (Attaches left quiet) dev = record { corrected = 0; failed = 0 }
+stage_statistics (Rests known) dev = known.statistics dev
+stage_statistics (Works known left) dev = known.statistics dev
+
+-- whether a chip is attached with nothing in flight
+abbrev pub is_resting : Stage → Bool
+is_resting (Attaches left quiet) = false
+is_resting (Rests known) = true
+is_resting (Works known left) = false
+
+-- a chip at rest begins an operation
+abbrev pub stage_begun : Geometry → Partitions → Op → Stage → Stage
+stage_begun g partitions op (Attaches left quiet) = Attaches left quiet
+stage_begun g partitions op (Rests known) = Works known (operation_path g partitions known op)
+stage_begun g partitions op (Works known left) = Works known left
+
+-- how the operation in flight has ended, where its events are over
+abbrev pub finished_in : Stage → Option Finished
+finished_in (Attaches left quiet) = None
+finished_in (Rests known) = None
+finished_in (Works known left) = result_of left
+
+-- whether a chip is attached
+abbrev pub is_attached : Stage → Bool
+is_attached (Attaches left quiet) = false
+is_attached (Rests known) = true
+is_attached (Works known left) = true
 
 -- whether an operation is in flight
 abbrev pub is_working : Stage → Bool

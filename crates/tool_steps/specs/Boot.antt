@@ -24,6 +24,10 @@ with_command boot command = record boot { sessions = change_at boot.sessions (le
 abbrev pub session_number : Boot → ℕ → Option ℕ
 session_number boot k = option_map (λ (session : ℕ × List Command). session.0) (slice_get boot.sessions k)
 
+-- the commands of the k-th session
+abbrev pub commands_at : Boot → ℕ → Option (List Command)
+commands_at boot k = option_map (λ (session : ℕ × List Command). session.1) (slice_get boot.sessions k)
+
 -- the n-th command of the k-th session
 abbrev pub command_at : Boot → (k n : ℕ) → Option Command
 command_at boot k n = option_and_then (λ (session : ℕ × List Command). slice_get session.1 n) (slice_get boot.sessions k)

@@ -1,7 +1,7 @@
 // A controller's part of one boot.
 ghost use Rattle.std.specs.Prelude.{◌≡◌, ◌<◌, [], ℕ, List, length, All, OnOk, OnErr, IfErr, option_copied};
 ghost use Rattle.nand_model.specs.declared.words.Command.{Command as Ordered};
-ghost use Rattle.tool_steps.specs.Boot.{calm_boot, with_session, with_command, session_number, command_at};
+ghost use Rattle.tool_steps.specs.Boot.{calm_boot, with_session, with_command, session_number, commands_at, command_at};
 
 use mtd_part::Parts;
 use nand_model::{Command, ItemList};
@@ -93,6 +93,14 @@ impl ControllerBoot {
         }
     }
 
+    /// Lends the commands of the session at place `k`, counted from 0.
+    pub fn commands(&self, k: usize) -> &ItemList<Command>
+        requires { k < length self.now.sessions }
+        ensures { commands_at self.now k ≡ Some result.now }
+    {
+        &self.order[k].commands
+    }
+
     /// Lends the command at place `n` of the session at place `k`, both counted from 0. None comes exactly where there is none.
     pub fn command(&self, k: usize, n: usize) -> Option<&Command>
         ensures { option_copied result ≡ command_at self.now k n }
@@ -126,6 +134,7 @@ mod tests {
         assert!(rt; boot.add_command(command).is_ok());
         assert_eq!(rt; boot.session(0), Some(3));
         assert_eq!(rt; boot.session(1), None);
+        assert_eq!(rt; boot.commands(0).len(), 1);
         assert!(rt; matches!(boot.command(0, 0), Some(Command::IsBad { block: 5, .. })));
         assert!(rt; boot.command(0, 1).is_none());
         Ok(())

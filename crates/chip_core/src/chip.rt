@@ -1,0 +1,239 @@
+// One chip.
+ghost use Rattle.std.specs.Prelude.{◌≡◌, ◌≤◌, ◌+◌, None, true, option_map, IsSome, IfSome, IfOk, OnOk, OnErr, is_some};
+ghost use Rattle.nand_model.specs.Chip.{Complete, happens};
+ghost use Rattle.nand_model.specs.ChipRun.{name_of, bad_blocks_in};
+ghost use Rattle.nand_model.specs.Counts.{HasRisen};
+ghost use Rattle.nand_model.specs.Path.{Data, answer_to, is_failure};
+ghost use Rattle.nand_model.specs.Quiet.{is_quiet};
+ghost use Rattle.nand_model.specs.declared.words.Fairness.TheVariants.{Plain};
+ghost use Rattle.chip_model.specs.Stage.{Rests, failure_told, finished_in, first_stage, is_resting, is_working, news_after, note_of_news, stage_after, stage_begun, stage_event, stage_statistics, stage_table};
+ghost use Rattle.chip_core.specs.Begin.{CanBegin};
+ghost use Rattle.chip_core.specs.Calm.{HasNoFlips};
+ghost use Rattle.chip_core.specs.Phase.{PhaseFits, PhaseFits-prop, ScanFits, news_in, phase_stage, programs_left};
+ghost use Rattle.chip_core.specs.Markers.{marker_page};
+ghost use Rattle.chip_core.specs.declared.phase.Phase.TheVariants.{Attaching, Resting};
+
+use crate::phase::Phase;
+use crate::scan::Scan;
+use crate::table::Table;
+use crate::task::Task;
+use mtd_part::Parts;
+use nand_iface::{Event, Fairness, Flash, Note, Op, Origin, Reply, Stats};
+use nand_model::Bytes;
+use std::alloc::{AllocError, Global};
+use std::mem;
+
+/// A chip with its attach or its operation, which is held from its begin to its answer. It has no tables on flash.
+///
+/// Contracts see the state of its flash (`chip_state`); its stage (`chip_stage`): what is left of its attach or of its operation, or what is known of it at rest;
+/// its spare (`chip_spare`): how many pages may be programmed beyond those of the attach or the operation; and its news (`chip_news`): the attach whose note was
+/// not handed out yet.
+#[derive(Drop)]
+pub struct Chip<F: Flash> {
+    alloc: Global,
+    flash: F,
+    table: Table,
+    note: Option<Bytes>,
+    phase: Phase,
+    spare: u32,
+    ghost sizes: { (F.state flash).geometry ≡ table.geometry },
+    ghost without_tables: { (F.state flash).geometry.bbt ≡ 0 },
+    ghost unflipped: { HasNoFlips (F.state flash) },
+    ghost fits: { PhaseFits table.geometry phase } by { PhaseFits-prop table.geometry phase },
+    ghost room: { spare + programs_left phase ≤ F.room flash },
+}
+
+impl<F: Flash> Chip<F> {
+    ghost use Rattle.chip_core.specs.Chip.{chip_state, chip_stage, chip_news, chip_spare};
+
+    /// A chip at the start of its attach, with all the memory that attaching needs.
+    ///
+    /// The flash has no tables, and no bit of it was turned.
+    pub fn attach_start(alloc: Global, flash: F) -> Result<Chip<F>, AllocError>
+        requires without_tables { (F.state flash).geometry.bbt ≡ 0 }
+        requires unflipped { HasNoFlips (F.state flash) }
+        ensures state { IfOk result (λ chip. chip_state chip ≡ F.state flash) }
+        ensures stage { IfOk result (λ chip. chip_stage chip ≡ first_stage (F.state flash).geometry) }
+        ensures news { IfOk result (λ chip. chip_news chip ≡ None) }
+    {
+        let geometry = flash.geometry();
+        let scan = Scan::start(alloc, &geometry)?;
+        Ok(Chip {
+            alloc,
+            flash,
+            table: Table::new(alloc, geometry)?,
+            note: None,
+            phase: Phase::Attaching(scan),
+            spare: 0,
+        })
+    }
+
+    /// The next event of the attach or of the operation in flight. None comes exactly where neither has an event left.
+    pub fn next_event(&self) -> Option<Event>
+        ensures { result ≡ option_map name_of (stage_event (chip_stage self.now)) }
+    {
+        match &self.phase {
+            Phase::Attaching(scan) => Some(scan.event(&self.table.geometry)),
+            Phase::Resting => None,
+            Phase::Working(task) => task.event(),
+        }
+    }
+
+    /// Makes the spare at least `pages`, and leaves all else as it is. Where memory runs out, the spare is no less than before.
+    pub fn reserve(&mut self, pages: u32) -> Result<(), AllocError>
+        ensures spare { OnOk result (pages ≤ chip_spare self.new) }
+        ensures no_less { chip_spare self.old ≤ chip_spare self.new }
+        ensures state { chip_state self.new ≡ chip_state self.old }
+        ensures stage { chip_stage self.new ≡ chip_stage self.old }
+        ensures news { chip_news self.new ≡ chip_news self.old }
+    {
+        let spare = pages.max(self.spare);
+        let room = spare.checked_add(self.phase.programs()).ok_or(AllocError)?;
+        self.flash.reserve(room)?;
+        self.spare = spare;
+        Ok(())
+    }
+
+    /// Hands out the note of the attach, under this number of the chip. None comes exactly where attaching is not over or the note was handed out before.
+    pub fn attach_note(&mut self, chip: u32) -> Option<Note>
+        ensures note { result ≡ option_map (note_of_news chip) (chip_news self.old) }
+        ensures once { chip_news self.new ≡ None }
+        ensures state { chip_state self.new ≡ chip_state self.old }
+        ensures stage { chip_stage self.new ≡ chip_stage self.old }
+        ensures spare { chip_spare self.new ≡ chip_spare self.old }
+    {
+        if let Phase::Attaching(_) = &self.phase {
+            return None;
+        }
+        let states = self.note.take()?;
+        Some(Note::Attached {
+            chip,
+            origin: Origin::Markers,
+            version: 0,
+            copies: 0,
+            quiet: true,
+            states,
+        })
+    }
+
+    /// Whether an operation is in flight.
+    pub fn busy(&self) -> bool
+        ensures { result ≡ is_working (chip_stage self.now) }
+    {
+        matches!(self.phase, Phase::Working(_))
+    }
+
+    /// The statistics of a device since the start of the boot. They are 0, as no operation of these decodes a page.
+    pub fn stats(&self, dev: u32) -> Stats
+        ensures { result ≡ stage_statistics (chip_stage self.now) dev }
+    {
+        let _ = dev;
+        Stats {
+            corrected: 0,
+            failed: 0,
+        }
+    }
+
+    /// The number of blocks that are worn or factory bad; 0 while attaching is not over.
+    pub fn bad(&self) -> u32
+        ensures { result ≡ bad_blocks_in (stage_table (chip_stage self.now)) }
+    {
+        match &self.phase {
+            Phase::Attaching(_) => 0,
+            _ => self.table.bad(),
+        }
+    }
+
+    /// Begins an operation, and takes all the memory that it needs. Nothing is in flight before. Where memory runs out, all is as before.
+    pub fn begin(&mut self, parts: &Parts, op: &Op) -> Result<(), AllocError>
+        requires rests { is_resting (chip_stage self.old) ≡ true }
+        requires can { CanBegin (chip_state self.old).geometry parts.now op.now }
+        ensures begun { OnOk result (chip_stage self.new ≡ stage_begun (chip_state self.old).geometry parts.now op.now (chip_stage self.old)) }
+        ensures no_memory { OnErr result (chip_stage self.new ≡ chip_stage self.old) }
+        ensures state { chip_state self.new ≡ chip_state self.old }
+        ensures news { chip_news self.new ≡ chip_news self.old }
+        ensures spare { chip_spare self.new ≡ chip_spare self.old }
+    {
+        let task = Task::begin(self.alloc, &self.table, parts, op)?;
+        let room = self.spare.checked_add(task.programs()).ok_or(AllocError)?;
+        self.flash.reserve(room)?;
+        self.phase = Phase::Working(task);
+        Ok(())
+    }
+
+    /// Does the next event, which is there. Some comes exactly where the event failed. It takes no memory.
+    ///
+    /// The event touches no table page, so what is told of a failure is `Plain`.
+    pub fn advance(&mut self) -> Option<Fairness>
+        requires { IsSome (stage_event (chip_stage self.old)) }
+        ensures state { IfSome (stage_event (chip_stage self.old)) (λ e. chip_state self.new ≡ happens F.fault_model (chip_state self.old) (Complete e)) }
+        ensures stage { IfSome (stage_event (chip_stage self.old)) (λ e. chip_stage self.new
+            ≡ stage_after (is_quiet (chip_state self.old).geometry (chip_state self.old).pages) (answer_to F.fault_model (chip_state self.old) e) (chip_stage self.old)) }
+        ensures news { IfSome (stage_event (chip_stage self.old)) (λ e. chip_news self.new
+            ≡ news_after (is_quiet (chip_state self.old).geometry (chip_state self.old).pages) (answer_to F.fault_model (chip_state self.old) e)
+            (chip_stage self.old) (chip_news self.old)) }
+        ensures told { IfSome (stage_event (chip_stage self.old)) (λ e. result ≡ failure_told F.fault_model (chip_state self.old) e) }
+        ensures failed { IfSome (stage_event (chip_stage self.old)) (λ e. is_some result ≡ is_failure (answer_to F.fault_model (chip_state self.old) e)) }
+        ensures plain { IfSome result (λ fairness. fairness ≡ Plain) }
+        ensures risen { IfSome result (λ fairness. HasRisen (chip_state self.old).faults (chip_state self.new).faults) }
+        ensures spare { chip_spare self.new ≡ chip_spare self.old }
+    {
+        match mem::replace(&mut self.phase, Phase::Resting) {
+            Phase::Attaching(scan) => {
+                self.attach_on(scan);
+                None
+            }
+            Phase::Resting => unreachable!(),
+            Phase::Working(task) => {
+                let (left, told) = task.advance(&mut self.flash);
+                self.phase = Phase::Working(left);
+                told
+            }
+        }
+    }
+
+    /// The reply to the operation in flight, which has no event left. The chip rests then. It takes no memory.
+    pub fn answer(&mut self) -> Reply
+        requires { IsSome (finished_in (chip_stage self.old)) }
+        ensures reply { IfSome (finished_in (chip_stage self.old)) (λ finished. result ≡ finished.reply) }
+        ensures stage { IfSome (finished_in (chip_stage self.old)) (λ finished. chip_stage self.new ≡ Rests finished.known) }
+        ensures state { chip_state self.new ≡ chip_state self.old }
+        ensures news { chip_news self.new ≡ chip_news self.old }
+        ensures spare { chip_spare self.new ≡ chip_spare self.old }
+    {
+        match mem::replace(&mut self.phase, Phase::Resting) {
+            Phase::Working(Task::Ended(reply)) => reply,
+            _ => unreachable!(),
+        }
+    }
+
+    /// Gives the flash back. It takes no memory.
+    pub fn stop(self) -> F
+        ensures { F.state result ≡ chip_state self }
+    {
+        let Chip { flash, .. } = self;
+        flash
+    }
+
+    // Reads the marker of the next block; after the last one the chip is attached, and there is a note to be handed out.
+    fn attach_on(&mut self, scan: Scan)
+        requires rests { self.old.phase ≡ Resting }
+        requires fits { ScanFits self.old.table.geometry scan }
+        ensures state { F.state self.new.flash ≡ F.state self.old.flash }
+        ensures stage { phase_stage self.new.table.geometry self.new.table.states self.new.phase
+            ≡ stage_after true (Data (marker_page (F.state self.old.flash) scan.next)) (phase_stage self.old.table.geometry self.old.table.states (Attaching scan)) }
+        ensures news { news_in self.new.phase self.new.note
+            ≡ news_after true (Data (marker_page (F.state self.old.flash) scan.next)) (phase_stage self.old.table.geometry self.old.table.states (Attaching scan)) None }
+        ensures spare { self.new.spare ≡ self.old.spare }
+    {
+        let mut scan = scan;
+        let block = scan.next;
+        let state = scan.read_marker(&self.flash, &self.table.geometry);
+        self.table.set(block, state);
+        if scan.next < self.table.geometry.blocks {
+            self.phase = Phase::Attaching(scan);
+        } else {
+            self.note = Some(scan.into_note(&self.table));
+        }
+    }
+}

@@ -1,0 +1,12 @@
+//! One chip, whose attach or operation is held from its begin to its end.
+#![tactic(auto)]
+
+mod chip;
+mod phase;
+mod scan;
+mod table;
+mod task;
+
+pub use chip::Chip;
+pub use mtd_part::Parts;
+pub use nand_iface::{Event, Fairness, Flash, Note, Op, Reply, Stats};

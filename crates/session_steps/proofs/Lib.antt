@@ -1,0 +1,5 @@
+pub mod Scripts
+pub mod Steps
+pub mod Sets
+pub mod Mirrors
+pub mod RawOps

@@ -1,0 +1,25 @@
+// Laws of sessions.
+ghost use Rattle.std.specs.Prelude.{◌≡◌, ◌++◌, List, Some};
+ghost use Rattle.nand_model.specs.Operation.{device_of};
+ghost use Rattle.nand_model.specs.declared.geometry.Geometry.{Geometry};
+ghost use Rattle.nand_model.specs.declared.words.Command.{Command};
+ghost use Rattle.nand_model.specs.declared.words.Note.{Note};
+ghost use Rattle.nand_model.specs.declared.words.Op.{Op};
+ghost use Rattle.run_model.specs.Command.{command_device};
+ghost use Rattle.run_model.specs.Course.{SessionRun, next_op_of};
+ghost use Rattle.chip_model.specs.Raw.{IsRaw};
+ghost use Rattle.session_steps.specs.Mirrors.{CanAllRun, Mirrors};
+ghost use Rattle.session_steps.specs.Standing.{First};
+ghost use Rattle.session_steps.specs.declared.session.Session.{Session};
+
+/// A session stays where it stands while its controller makes more notes.
+pub fn notes_leave_sessions()
+    ensures { (sizes : Command → Geometry) (commands : List Command) (notes more : List Note) (session : Session) (run : SessionRun) →
+        Mirrors sizes commands notes session run → Mirrors sizes commands (notes ++ more) session run }
+{}
+
+/// The next operation of commands that can be run is a raw one on the device of the first of them.
+pub fn next_operations_are_raw()
+    ensures { (sizes : Command → Geometry) (run : SessionRun) (op : Op) → CanAllRun sizes run.commands → next_op_of sizes run.commands run.replies ≡ Some op →
+        First (λ c. (device_of op ≡ command_device c) × IsRaw (sizes c) op) run.commands }
+{}
