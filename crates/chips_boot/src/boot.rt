@@ -12,8 +12,8 @@ use several_chip_plan::{ChipLines, CommandLine, PlanLines};
 use std::alloc::{AllocError, Global};
 use tool_steps::ControllerBoot;
 
-// The command of a line.
-fn command_of(
+/// The command of a line, with the number of its device's blocks, and for a nandwrite the plan's data.
+pub fn command_of_line(
     alloc: Global,
     chips: &ItemList<ChipLines>,
     payload: &[u8],
@@ -80,7 +80,7 @@ fn add_session(
 {
     boot.add_session(session)?;
     for n in 0..lines.len() {
-        let command = command_of(alloc, chips, payload, lines.get(n))?;
+        let command = command_of_line(alloc, chips, payload, lines.get(n))?;
         add_command(boot, command)?;
     }
     Ok(())

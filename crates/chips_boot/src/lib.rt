@@ -5,6 +5,6 @@ mod boot;
 mod laws;
 mod parts;
 
-pub use boot::boot_of_plan;
+pub use boot::{boot_of_plan, command_of_line};
 pub use laws::plans_can_start;
 pub use parts::sizes_of_chip;

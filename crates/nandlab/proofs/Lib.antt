@@ -6,3 +6,4 @@ mod PlanNotes
 mod PlanReport
 mod Reading
 mod Holding
+mod EndedTexts

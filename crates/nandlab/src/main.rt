@@ -3,6 +3,7 @@
 
 mod answer;
 mod nine_lines;
+mod outcomes;
 mod print;
 mod report;
 mod run;
