@@ -15,7 +15,7 @@ use Rattle.nand_model.specs.declared.words.Command.{Command}
 use Rattle.nand_model.specs.declared.words.Command.TheVariants.{FlashErase as ToErase, NandWrite as ToWrite, NandDump as ToDump, NandTest as ToTest, MarkBad as ToMark, Stats as ToCount, IsBad as ToAsk}
 use Rattle.nand_model.specs.declared.words.Part.{Part}
 use Rattle.run_model.specs.Command.{command_device, cost_of}
-use Rattle.run_model.specs.Course.{chip_of as chip_number, chip_of_part, geometry_for, geometry_of_chip}
+use Rattle.run_model.specs.Course.{chip_of as chip_number, chip_of_part, geometry_for, geometry_of_chip, sizes_of as sizes_for}
 use Rattle.report_model.specs.Plan.{ChipPlan, new_chips}
 use Rattle.report_model.specs.Report.{line}
 use Rattle.mtd_part.specs.Blocks.{LiesWithin}
@@ -26,7 +26,7 @@ use Rattle.several_chip_plan.specs.declared.lines.ChipLines.{ChipLines}
 use Rattle.several_chip_plan.specs.declared.lines.CommandLine.{CommandLine}
 use Rattle.several_chip_plan.specs.declared.lines.CommandLine.TheVariants.{NandWrite, NandDump, FlashErase, IsBad}
 use Rattle.several_chip_plan.specs.declared.lines.PlanLines.{PlanLines}
-use Rattle.chips_boot.specs.Ready.{AreAscending, IsOfDevice, IsOnChip, IsReady, cost_of_boot, the_boot, the_chips}
+use Rattle.chips_boot.specs.Ready.{AllCommands, AreAscending, IsOfDevice, IsOnChip, IsReady, cost_of_boot, the_boot, the_chips}
 use Rattle.chips_boot.proofs.Devices.{length-parts_by, part_at, part_for, parts_by}
 use Rattle.chips_boot.proofs.Sessions.{session_for, sessions_by}
 
@@ -298,6 +298,12 @@ sessions_short a sessions schedule =
 abbrev text_before : PlanLines → List ℕ
 text_before plan = line (codes "nandlab 1") ++ line (codes "controller") ++ flat_map chip_text plan.chips ++ data_text plan.payload ++ line (codes "boot")
 
+-- each command of a plan can be run on its chip
+pub can_run : (plan : PlanLines) → IsPlan plan → AllCommands (λ (c : Command). CanRun (sizes_for (the_boot plan) (the_chips plan) c) c) (the_boot plan)
+can_run plan legal =
+    all_of_sessions plan.chips plan.payload legal.chips legal.payload_fits (λ command. CanRun (sizes plan.chips plan.payload legal.chips command) command) (λ command good. good.runs) 0
+    plan.sessions legal.commands
+
 -- a controller can be started on a plan
 pub can_start : (bytes : List ℕ) (plan : PlanLines) → IsSeveralChipPlan bytes plan → IsReady plan
 can_start bytes plan h =
@@ -313,8 +319,7 @@ can_start bytes plan h =
       without_tables = without_tables plan.chips;
       parts = parts_on_chips plan.chips plan.payload legal.chips;
       devices = all_of_sessions plan.chips plan.payload legal.chips legal.payload_fits (IsOfDevice (devices_by plan.chips)) (λ command good. good.of_device) 0 plan.sessions legal.commands;
-      runnable = all_of_sessions plan.chips plan.payload legal.chips legal.payload_fits (λ command. CanRun (sizes plan.chips plan.payload legal.chips command) command) (λ command good. good.runs) 0
-          plan.sessions legal.commands;
+      runnable = can_run plan legal;
       ascending = ascending plan.chips plan.payload legal.chips plan.sessions;
       cheap = omega (arith, cheap, short, is_text, within);
     }

@@ -7,3 +7,4 @@ mod PlanReport
 mod Reading
 mod Holding
 mod EndedTexts
+mod Dumps
