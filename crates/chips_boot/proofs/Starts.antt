@@ -1,6 +1,6 @@
 -- A controller can be started on a plan.
-use Rattle.std.proofs.Common.{◌≡◌, ℕ, zero, suc, ◌+◌, ◌-◌, ◌*◌, ◌%◌, ◌<◌, ◌≤◌, ◌⊎◌, inl, inr, Bool, true, false, List, [], ◌∷◌, ◌++◌, length, take, Option, Some, None, refl, ap, sym, subst, ◌∙◌, arith, length-append}
-use Rattle.std.specs.Prelude.{All, codes, flat_map, if◌then◌else◌, map, nat_lt, option_map, unwrap_or, slice_get, slice_index_or, sum_by, ◌==◌}
+use Rattle.std.proofs.Common.{◌≡◌, ℕ, zero, suc, ◌+◌, ◌-◌, ◌*◌, ◌<◌, ◌≤◌, inl, inr, Bool, true, false, List, [], ◌∷◌, ◌++◌, length, Some, None, refl, ap, sym, subst, ◌∙◌, arith, length-append}
+use Rattle.std.specs.Prelude.{All, codes, flat_map, if◌then◌else◌, map, option_map, unwrap_or, slice_get, slice_index_or, sum_by, ◌==◌}
 use Rattle.std.proofs.Math.Nat.{sub-zero}
 use Rattle.std.proofs.lemmas.Bool.{le-ltb}
 use Rattle.std.proofs.lemmas.List.Elements.{All-cons, All-head, All-nil, All-tail}
@@ -10,7 +10,6 @@ use Rattle.nand_model.specs.Chip.{ChipState, SimFaults, new_chip}
 use Rattle.nand_model.specs.Operation.{Partitions, part_of}
 use Rattle.nand_model.specs.Sizes.{small_chip}
 use Rattle.nand_model.specs.declared.geometry.Geometry.{Geometry}
-use Rattle.nand_model.specs.declared.words.BadMode.TheVariants.{DumpBad}
 use Rattle.nand_model.specs.declared.words.Command.{Command}
 use Rattle.nand_model.specs.declared.words.Command.TheVariants.{FlashErase as ToErase, NandWrite as ToWrite, NandDump as ToDump, NandTest as ToTest, MarkBad as ToMark, Stats as ToCount, IsBad as ToAsk}
 use Rattle.nand_model.specs.declared.words.Part.{Part}
@@ -18,15 +17,14 @@ use Rattle.run_model.specs.Command.{command_device, cost_of}
 use Rattle.run_model.specs.Course.{chip_of as chip_number, chip_of_part, geometry_for, geometry_of_chip, sizes_of as sizes_for}
 use Rattle.report_model.specs.Plan.{ChipPlan, new_chips}
 use Rattle.report_model.specs.Report.{line}
-use Rattle.mtd_part.specs.Blocks.{LiesWithin}
-use Rattle.tool_steps.specs.Stage.{CanRun, DumpsOnePage, ErasesAll, IsDeviceSize, WritesOneUnit, device_size}
+use Rattle.tool_steps.specs.Stage.{CanRun, IsDeviceSize, device_size}
 use Rattle.tool_steps.proofs.Scripts.{cost_of-short}
 use Rattle.several_chip_plan.specs.SeveralChips.{IsChip, IsCommand, IsPlan, IsSeveralChipPlan, blocks_of, chip_of, chip_text, data_text, command_of, command_text, geometry_of, plan_text, schedule_text, session_text, sizes_of}
 use Rattle.several_chip_plan.specs.declared.lines.ChipLines.{ChipLines}
 use Rattle.several_chip_plan.specs.declared.lines.CommandLine.{CommandLine}
 use Rattle.several_chip_plan.specs.declared.lines.CommandLine.TheVariants.{NandWrite, NandDump, FlashErase, IsBad}
 use Rattle.several_chip_plan.specs.declared.lines.PlanLines.{PlanLines}
-use Rattle.chips_boot.specs.Ready.{AllCommands, AreAscending, IsOfDevice, IsOnChip, IsReady, cost_of_boot, the_boot, the_chips}
+use Rattle.chips_boot.specs.Ready.{AllCommands, AreAscending, IsOfDevice, IsOnChip, IsReady, the_boot, the_chips}
 use Rattle.chips_boot.proofs.Devices.{length-parts_by, part_at, part_for, parts_by}
 use Rattle.chips_boot.proofs.Sessions.{session_for, sessions_by}
 

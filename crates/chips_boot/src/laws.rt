@@ -7,5 +7,4 @@ ghost use Rattle.chips_boot.specs.Ready.{IsReady};
 /// A controller can be started on a several-chip plan.
 pub fn plans_can_start()
     ensures { (bytes : List ℕ) (plan : Lines) → IsSeveralChipPlan bytes plan → IsReady plan }
-{
-}
+{}

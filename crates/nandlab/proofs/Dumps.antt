@@ -1,18 +1,17 @@
 -- What the finished commands of a session dumped is no more than a page each.
-use Rattle.std.proofs.Common.{◌≡◌, ℕ, zero, suc, ◌+◌, ◌-◌, ◌*◌, ◌≤◌, ◌⊎◌, inl, inr, ◌^◌, Bool, true, false, List, [], ◌∷◌, ◌++◌, length, take, refl, ap, sym, subst, ◌∙◌, arith, length-take}
-use Rattle.std.specs.Prelude.{All, if◌then◌else◌, min, not, replicate, ◌==◌}
+use Rattle.std.proofs.Common.{◌≡◌, ℕ, zero, suc, ◌+◌, ◌-◌, ◌*◌, ◌≤◌, ◌⊎◌, inl, inr, ◌^◌, Bool, true, false, List, [], ◌∷◌, ◌++◌, length, refl, ap, sym, subst, arith, length-take}
+use Rattle.std.specs.Prelude.{All, if◌then◌else◌, not, replicate, ◌==◌}
 use Rattle.std.proofs.lemmas.List.Elements.{All-head, All-nil, All-push, All-tail}
 use Rattle.nand_model.specs.declared.geometry.Geometry.{Geometry}
 use Rattle.nand_model.specs.declared.words.Command.{Command}
 use Rattle.nand_model.specs.declared.words.Command.TheVariants.{FlashErase, NandWrite, NandDump, NandTest, MarkBad, IsBad as AskBad, Stats as AskStats}
-use Rattle.nand_model.specs.declared.words.Ending.{Ending}
-use Rattle.nand_model.specs.declared.words.Ending.TheVariants.{Whole, NoSpace, MarkerByte as AtMarkerByte}
+use Rattle.nand_model.specs.declared.words.Ending.TheVariants.{MarkerByte as AtMarkerByte}
 use Rattle.nand_model.specs.declared.words.Op.{Op}
 use Rattle.nand_model.specs.declared.words.Outcome.{Outcome}
 use Rattle.nand_model.specs.declared.words.Reply.{Reply}
 use Rattle.nand_model.specs.declared.words.Reply.TheVariants.{Done, OutOfRange, BadBlock, MarkerByte, ProgramFailed, EraseFailed, MarkerFailed, TableFailed, Reserved, Copies, State, Counts, Page}
 use Rattle.nand_model.proofs.Bounds.{bounds}
-use Rattle.run_model.specs.Command.{Ask, Do, End, Next, Over, Script, WriteCounts, WriteMode, after_replies, after_write, erase_and_mark, erase_blocks, next_in, next_step, one_if, is_done, says_bad, script_of, write_blocks, write_pages, write_unit, written_end}
+use Rattle.run_model.specs.Command.{Ask, Do, End, Next, Over, Script, WriteCounts, after_replies, after_write, erase_and_mark, erase_blocks, next_in, next_step, one_if, is_done, says_bad, script_of, write_blocks, write_pages, write_unit, written_end}
 use Rattle.run_model.specs.Course.{SessionRun, with_reply, without_finished}
 use Rattle.run_model.specs.History.{Asked, Exchange, Replied, session_after}
 use Rattle.tool_steps.specs.Stage.{CanRun}

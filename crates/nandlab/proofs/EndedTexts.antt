@@ -1,7 +1,7 @@
 -- The lines of sessions that ended, and the report that they are part of.
 use Rattle.std.proofs.Common.{◌≡◌, ℕ, zero, suc, ◌+◌, ◌≤◌, ◌⊎◌, inl, inr, List, [], ◌∷◌, ◌++◌, length, take, refl, ap, sym, ◌∙◌, arith, append_assoc, append-nil}
-use Rattle.std.specs.Prelude.{Some, map, slice_get}
-use Rattle.std.proofs.lemmas.List.{length-take-le, map-append}
+use Rattle.std.specs.Prelude.{Some, slice_get}
+use Rattle.std.proofs.lemmas.List.{length-take-le}
 use Rattle.nand_model.specs.declared.words.Command.{Command}
 use Rattle.nand_model.specs.declared.words.Outcome.{Outcome}
 use Rattle.report_model.specs.Report.{outcome_lines, outcome_text}

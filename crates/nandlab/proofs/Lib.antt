@@ -8,3 +8,4 @@ mod Reading
 mod Holding
 mod EndedTexts
 mod Dumps
+mod BootText

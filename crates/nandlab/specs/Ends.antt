@@ -1,5 +1,5 @@
 -- How a boot's sessions ended and what its devices counted, by the notes of their controller, and the lines of both.
-use Rattle.std.specs.Prelude.{◌≡◌, ℕ, ◌+◌, Bool, true, false, not, List, [], ◌∷◌, ◌++◌, length, map, sum_by, codes, decimal}
+use Rattle.std.specs.Prelude.{ℕ, ◌+◌, Bool, true, false, not, List, [], ◌∷◌, ◌++◌, length, map, sum_by, codes, decimal}
 use Rattle.run_model.specs.Course.{SessionRun, is_finished, without_finished}
 use Rattle.run_model.specs.History.{exchanges_of, session_after}
 use Rattle.nand_model.specs.Sizes.{numbers_from}
@@ -20,6 +20,11 @@ cut_text false finished = []
 -- the lines of a session with these commands that ended so
 abbrev pub ended_text : ℕ → List Command → EndOfSession → List ℕ
 ended_text number commands ended = line (codes "session " ++ decimal number) ++ outcome_lines commands ended.outcomes ++ cut_text ended.cut (length ended.outcomes)
+
+-- the lines of sessions that ended so, the first of which has number n
+abbrev pub ended_texts : ℕ → List SessionPlan → List EndOfSession → List ℕ
+ended_texts n (s ∷ sessions) (ended ∷ ends) = ended_text n s.commands ended ++ ended_texts (n + 1) sessions ends
+ended_texts n _ _ = []
 
 -- the line of a device with its statistics
 abbrev pub device_text : ℕ × Stats → List ℕ

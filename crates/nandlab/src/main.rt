@@ -2,6 +2,7 @@
 #![tactic(auto)]
 
 mod answer;
+mod boot_report;
 mod nine_lines;
 mod outcomes;
 mod print;

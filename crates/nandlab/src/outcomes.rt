@@ -62,8 +62,9 @@ fn put_erased(
     ensures { OnOk result (out.new ≡ out.old ++ line (codes "flash_erase " ++ device_name dev
         ++ codes ": erased " ++ decimal erased ++ codes ", bad " ++ decimal bad ++ codes ", failed " ++ decimal failed)) }
 {
-    let text =
-        format!(in alloc; "flash_erase mtd{dev}: erased {erased}, bad {bad}, failed {failed}\n")?;
+    let text = format!(in alloc;
+        "flash_erase mtd{dev}: erased {erased}, bad {bad}, failed {failed}\n"
+    )?;
     put_text(out, text.as_str())
 }
 
@@ -173,8 +174,9 @@ fn put_asked_stats(
     ensures { OnOk result (out.new ≡ out.old ++ line (codes "stats " ++ device_name dev
         ++ codes ": corrected " ++ decimal corrected ++ codes ", failed " ++ decimal failed ++ codes ", bad " ++ decimal bad)) }
 {
-    let text =
-        format!(in alloc; "stats mtd{dev}: corrected {corrected}, failed {failed}, bad {bad}\n")?;
+    let text = format!(in alloc;
+        "stats mtd{dev}: corrected {corrected}, failed {failed}, bad {bad}\n"
+    )?;
     put_text(out, text.as_str())
 }
 

@@ -1,4 +1,4 @@
-use Rattle.std.proofs.Common.{◌≡◌, List, ap, sym, ◌∙◌, take}
+use Rattle.std.proofs.Common.{List, ap, sym, ◌∙◌, take}
 use Rattle.std.specs.Prelude.{map}
 use Rattle.nand_model.specs.declared.words.Command.{Command}
 use Rattle.run_model.specs.Course.{Boot}

@@ -1,10 +1,10 @@
-use Rattle.std.proofs.Common.{◌≡◌, ℕ, ◌<◌, ◌≤◌, List, length, take, ap, sym, subst, ◌∙◌, arith}
+use Rattle.std.proofs.Common.{ℕ, ◌<◌, ◌≤◌, List, length, sym, subst, arith}
 use Rattle.std.specs.Prelude.{All}
 use Rattle.nand_model.specs.declared.words.Command.{Command}
 use Rattle.run_model.specs.Course.{Boot}
 use Rattle.report_model.proofs.Checked.{this_passes}
 use Rattle.several_chip_plan.specs.SeveralChips.{IsCommand}
-use Rattle.chips_boot.proofs.Sessions.{earlier, sessions_by-more}
+use Rattle.chips_boot.proofs.Sessions.{earlier}
 use Rattle.chips_boot.proofs.boot.boot_of_plan.Goals as goal
 
 pub add_session-requires-clause-later : goal.add_session-requires-clause-later

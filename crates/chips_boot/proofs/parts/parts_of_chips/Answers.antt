@@ -1,10 +1,10 @@
-use Rattle.std.proofs.Common.{◌≡◌, ℕ, ◌+◌, ◌-◌, ◌<◌, ◌≤◌, ◌^◌, List, length, take, ap, sym, subst, ◌∙◌, arith}
+use Rattle.std.proofs.Common.{ℕ, ◌≤◌, List, length, take, ap, sym, subst, ◌∙◌, arith}
 use Rattle.std.specs.Prelude.{Any}
 use Rattle.std.proofs.lemmas.List.{length-take-le}
 use Rattle.nand_model.specs.Operation.{Partitions}
 use Rattle.nand_model.specs.declared.words.Part.{Part}
 use Rattle.mtd_part.specs.Blocks.{SharesBlock, with_part}
-use Rattle.chips_boot.proofs.Devices.{apart, length-parts_by, parts_by, parts_by-more}
+use Rattle.chips_boot.proofs.Devices.{apart, length-parts_by, parts_by-more}
 use Rattle.chips_boot.proofs.parts.parts_of_chips.Goals as goal
 
 pub add_part-requires-clause-free : goal.add_part-requires-clause-free

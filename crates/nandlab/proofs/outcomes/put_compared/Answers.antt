@@ -1,6 +1,5 @@
 use Rattle.std.proofs.Common.{◌∙◌}
 use Rattle.std.specs.Prelude.{codes, decimal}
-
 use Rattle.nandlab.proofs.Joined.{seven_joined, put_as}
 use Rattle.nandlab.proofs.outcomes.put_compared.Goals as goal
 

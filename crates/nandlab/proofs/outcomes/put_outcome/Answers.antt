@@ -1,4 +1,4 @@
-use Rattle.std.proofs.Common.{◌≡◌, ◌++◌, ℕ, List, ap, subst, sym, ◌∙◌}
+use Rattle.std.proofs.Common.{◌≡◌, ◌++◌, ℕ, List, ap, subst, ◌∙◌}
 use Rattle.std.specs.Prelude.{OnOk, codes, decimal}
 use Rattle.report_model.specs.Report.{device_name}
 use Rattle.run_model.specs.Command.{command_device}
