@@ -2,7 +2,7 @@ pub mod Lists
 pub mod Texts
 pub mod Heads
 pub mod Numbers
-pub mod Checked
 pub mod Printing
 pub mod Lines
 pub mod Makes
+pub mod Unique

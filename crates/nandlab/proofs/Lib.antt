@@ -6,3 +6,6 @@ mod PlanNotes
 mod PlanReport
 mod Reading
 mod Holding
+mod EndedTexts
+mod Dumps
+mod BootText

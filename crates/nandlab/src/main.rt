@@ -2,7 +2,9 @@
 #![tactic(auto)]
 
 mod answer;
+mod boot_report;
 mod nine_lines;
+mod outcomes;
 mod print;
 mod report;
 mod run;

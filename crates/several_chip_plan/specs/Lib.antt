@@ -1,1 +1,2 @@
 pub mod SeveralChips
+pub mod NineLines

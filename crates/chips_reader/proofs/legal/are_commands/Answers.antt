@@ -1,6 +1,6 @@
 use Rattle.std.proofs.Common.{◌≡◌, true, false, refl, arith}
 use Rattle.several_chip_plan.specs.SeveralChips.{IsCommand}
-use Rattle.chips_reader.proofs.Checked.{all_pass, one_passes, this_passes}
+use Rattle.report_model.proofs.Checked.{all_pass, one_passes, this_passes}
 use Rattle.chips_reader.proofs.legal.are_commands.Goals as goal
 
 pub loop-n-preserved : goal.loop-n-preserved

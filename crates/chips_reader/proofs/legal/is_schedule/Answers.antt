@@ -1,5 +1,5 @@
 use Rattle.std.proofs.Common.{◌<◌, refl, arith}
-use Rattle.chips_reader.proofs.Checked.{all_pass, one_passes}
+use Rattle.report_model.proofs.Checked.{all_pass, one_passes}
 use Rattle.chips_reader.proofs.legal.is_schedule.Goals as goal
 
 pub loop-n-preserved : goal.loop-n-preserved

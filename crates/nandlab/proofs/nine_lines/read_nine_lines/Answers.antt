@@ -1,5 +1,5 @@
 -- The bytes are a plan exactly where their digits are those of some data.
-use Rattle.std.proofs.Common.{◌≡◌, length, ℕ, ◌<◌, true, false, List, arith, sym, subst, ◌∙◌}
+use Rattle.std.proofs.Common.{◌≡◌, length, ℕ, ◌<◌, List, arith, sym, subst, ◌∙◌}
 use Rattle.std.proofs.lemmas.Bool.{eqb-false, eqb-true}
 use Rattle.nine_line_plan.specs.NineLines.{IsNineLinePlan}
 use Rattle.nine_line_plan.proofs.Form.{digit_count_of_plan, ends_of_plan}
