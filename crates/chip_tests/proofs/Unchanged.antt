@@ -1,5 +1,5 @@
 -- What a failed call leaves of a worn chip: all but its count of faults is as before.
-use Rattle.std.proofs.Common.{◌≡◌, ℕ, zero, suc, ◌+◌, Bool, true, false, List, [], ◌∷◌, replicate, Some, refl, ap, sym, ◌∙◌, if◌then◌else◌}
+use Rattle.std.proofs.Common.{◌≡◌, ℕ, zero, suc, ◌+◌, Bool, true, false, List, [], ◌∷◌, replicate, refl, ap, sym, ◌∙◌, if◌then◌else◌}
 use Rattle.std.specs.Prelude.{◌==◌, ◌/◌, ◌%◌, bit_and, bit_or, slice_index}
 use Rattle.std.proofs.lemmas.Nat.{and_comm, and_or_self}
 use Rattle.nand_model.specs.Chip.{ChipState, Complete, EraseEvent, PageState, ProgramEvent, happens, map_from, saturating_increment, torn_erase, torn_program}
