@@ -5,7 +5,7 @@ use Rattle.std.proofs.lemmas.List.{map-append}
 use Rattle.nand_model.proofs.Bounds.{bounds}
 use Rattle.nand_model.specs.Attach.{Attaching, marker_table}
 use Rattle.nand_model.specs.Chip.{ChipState, Complete, FaultModel, PageEvent, ReadEvent, happens}
-use Rattle.nand_model.specs.Path.{Path, Over, Data, answer_to, first_event}
+use Rattle.nand_model.specs.Path.{Path, Over, Data, answer_to}
 use Rattle.nand_model.specs.Quiet.{is_quiet}
 use Rattle.nand_model.specs.Sizes.{numbers_from, first_page}
 use Rattle.chip_model.specs.Stage.{Stage, Attaches, Rests, attach_end, attach_stage, first_stage, news_after, path_after, stage_after, stage_event}
@@ -45,14 +45,16 @@ module _ {W : Type 0} (start : ChipState W) where
       let place : 0 + block ≡ block = omega arith in
       let more : numbers_from 0 (block + 1) ≡ numbers_from 0 block ++ block ∷ [] =
       ap (numbers_from 0) (add-one block) ∙ numbers_from-suc 0 block ∙ ap (λ k. numbers_from 0 block ++ k ∷ []) place in
-      ap (λ blocks. marker_table start.geometry (map (marker_page start) blocks)) more ∙ ap (marker_table start.geometry) (map-append (marker_page start) (numbers_from 0 block) (block ∷ []))
+      ap (λ blocks. marker_table start.geometry (map (marker_page start) blocks)) more ∙ ap (marker_table start.geometry)
+      (map-append (marker_page start) (numbers_from 0 block) (block ∷ []))
       ∙ map-append (marker_state start.geometry) (map (marker_page start) (numbers_from 0 block)) (marker_page start block ∷ [])
 
   -- the first block is there
   first_there : 0 < start.geometry.blocks
   first_there = let low = (bounds start.geometry).blocks_low in omega arith
 
-  pub begins : start.geometry.bbt ≡ 0 → (now : ChipState W) (stage : Stage) (news : Option (Bool × Attaching)) → now ≡ start → stage ≡ first_stage start.geometry → news ≡ None
+  pub begins : start.geometry.bbt ≡ 0 → (now : ChipState W) (stage : Stage) (news : Option (Bool × Attaching)) → now ≡ start
+      → stage ≡ first_stage start.geometry → news ≡ None
       → IsAttachedTo start 0 now stage news
   begins none now stage news same stage_is news_is = record {
     same = same;
@@ -73,7 +75,8 @@ module _ {W : Type 0} (start : ChipState W) where
 
       path_goes_on : path_after (Data (marker_page start block)) (left_from start block) ≡ left_from start (block + 1)
       path_goes_on =
-          ap (λ blocks. path_after (Data (marker_page start block)) (markers_left start.geometry (states_before start block) blocks)) (blocks_from-head start.geometry block there)
+          ap (λ blocks. path_after (Data (marker_page start block)) (markers_left start.geometry (states_before start block) blocks))
+          (blocks_from-head start.geometry block there)
           ∙ ap (λ states. markers_left start.geometry states (blocks_from start.geometry (block + 1))) (sym (one_more_state block))
 
       module _ (model : FaultModel W) (none : start.geometry.bbt ≡ 0) (calm : HasNoFlips start) where
@@ -94,11 +97,13 @@ module _ {W : Type 0} (start : ChipState W) where
             record {
               same = at_some (stage_event stage) read (λ e. after ≡ happens model now (Complete e)) reads state_is ∙ at.same;
               stage_is =
-                  at_some (stage_event stage) read (λ e. stage_then ≡ stage_after (is_quiet now.geometry now.pages) (answer_to model now e) stage) reads stage_is
+                  at_some (stage_event stage) read (λ e. stage_then ≡ stage_after (is_quiet now.geometry now.pages) (answer_to model now e) stage) reads
+                  stage_is
                   ∙ ap (λ q. stage_after q (answer_to model now read) stage) is_calm ∙ ap (λ answer. stage_after true answer stage) saw
                   ∙ ap (stage_after true (Data (marker_page start block))) attaches ∙ ap (λ left. attach_stage left true) path_goes_on;
               news_is =
-                  at_some (stage_event stage) read (λ e. news_then ≡ news_after (is_quiet now.geometry now.pages) (answer_to model now e) stage news) reads news_is
+                  at_some (stage_event stage) read (λ e. news_then ≡ news_after (is_quiet now.geometry now.pages) (answer_to model now e) stage news) reads
+                  news_is
                   ∙ ap (λ q. news_after q (answer_to model now read) stage news) is_calm ∙ ap (λ answer. news_after true answer stage news) saw
                   ∙ ap (λ stage. news_after true (Data (marker_page start block)) stage news) attaches ∙ ap (λ left. attach_end left true) path_goes_on;
             }

@@ -1,13 +1,11 @@
 -- What a page of a device is on its chip, and the paths of operations on it.
-use Rattle.std.proofs.Common.{◌≡◌, ℕ, ◌+◌, ◌*◌, ◌/◌, ◌<◌, ◌≤◌, List, length, Option, Some, None, true, false, arith, refl, ap, sym, ◌∙◌}
-use Rattle.std.specs.Prelude.{◌==◌, IsSome, IfSome, SomeIff, slice_index}
+use Rattle.std.proofs.Common.{◌≡◌, ℕ, ◌+◌, ◌*◌, ◌/◌, ◌<◌, ◌≤◌, List, Option, Some, None, true, arith, refl, sym}
+use Rattle.std.specs.Prelude.{IsSome, IfSome, SomeIff}
 use Rattle.std.proofs.Math.Nat.{mul-le-mul_right, mul-add-div_right}
 use Rattle.std.proofs.lemmas.Bool.{lt-ltb, false≢true}
-use Rattle.nand_model.specs.Path.{Path}
-use Rattle.nand_model.specs.Operation.{Finished, Known, chip_page, has_page, operation_by, operation_in}
-use Rattle.nand_model.specs.Sizes.{page_count, first_page}
+use Rattle.nand_model.specs.Operation.{Known, has_page, operation_by}
+use Rattle.nand_model.specs.Sizes.{page_count}
 use Rattle.nand_model.specs.declared.geometry.Geometry.{Geometry}
-use Rattle.nand_model.specs.declared.words.Op.{Op}
 use Rattle.nand_model.specs.declared.words.Op.TheVariants.{RawRead, RawWrite}
 use Rattle.nand_model.specs.declared.words.Part.{Part}
 use Rattle.chip_core.specs.Task.{program_path, task_left}

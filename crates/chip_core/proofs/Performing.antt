@@ -1,5 +1,5 @@
 -- A whole raw operation: it is over at once, or after one event.
-use Rattle.std.proofs.Common.{◌≡◌, ℕ, ◌+◌, ◌-◌, ◌/◌, ◌^◌, ◌<◌, ◌≤◌, Bool, true, false, List, [], ◌∷◌, Option, Some, None, refl, ap, sym, subst, ◌∙◌, inl, inr, arith}
+use Rattle.std.proofs.Common.{◌≡◌, ℕ, ◌+◌, ◌-◌, ◌/◌, ◌^◌, ◌≤◌, Bool, true, false, List, [], ◌∷◌, Option, Some, None, refl, ap, sym, subst, ◌∙◌, inl, inr, arith}
 use Rattle.std.specs.Prelude.{IsSome, IfSome, is_some, option_map, slice_index, ◌==◌}
 use Rattle.std.proofs.Math.Nat.{min-eq_left, min-eq_right}
 use Rattle.std.proofs.lemmas.Bool.{false≢true, true≢false, both_ways, cases_lt}
@@ -27,10 +27,12 @@ ended k reply = record { reply = reply; known = k }
 pub data IsShort (k : Known) : Option Reply → Path Finished → Type 0 where
   refused : (refusal : Reply) → is_fault refusal ≡ false → IsShort k (Some refusal) (Over (ended k refusal))
   over_at_once : (reply : Reply) → is_refusal reply ≡ false → is_fault reply ≡ false → IsShort k None (Over (ended k reply))
-  over_after_one : (e : PageEvent) (reply : Answer → Reply) → ((a : Answer) → is_refusal (reply a) ≡ false) → ((a : Answer) → is_fault (reply a) ≡ true → is_failure a ≡ true)
+  over_after_one : (e : PageEvent) (reply : Answer → Reply) → ((a : Answer) → is_refusal (reply a) ≡ false)
+      → ((a : Answer) → is_fault (reply a) ≡ true → is_failure a ≡ true)
       → IsShort k None (Then e (λ answer. Over (ended k (reply answer))))
 
-only_if-short : (k : Known) (b : Bool) (refusal : Reply) (later : Option Reply) (go_on : Unit {0} → Path Finished) → is_fault refusal ≡ false → IsShort k later (go_on tt)
+only_if-short : (k : Known) (b : Bool) (refusal : Reply) (later : Option Reply) (go_on : Unit {0} → Path Finished) → is_fault refusal ≡ false
+    → IsShort k later (go_on tt)
     → IsShort k (refused_unless b refusal later) (only_if b k refusal go_on)
 only_if-short k true refusal later go_on no_fault rest = rest
 only_if-short k false refusal later go_on no_fault rest = refused refusal no_fault
@@ -142,7 +144,7 @@ module _ {W : Type 0} (model : FaultModel W) (partitions : Partitions) (op : Op)
       finished = refl;
       performed = nothing_done reply is;
       cause = subst (λ refusal. HasCause refusal s s reply) (sym why)
-      (record { refused = (refl, refl); taken = tt; failed = λ fault. absurd (both_ways (is_fault reply) no_fault fault) });
+          (record { refused = (refl, refl); taken = tt; failed = λ fault. absurd (both_ways (is_fault reply) no_fault fault) });
     }
     at_once path is none refusal (over_at_once reply taken no_fault) why = record {
       known = k;
@@ -151,7 +153,7 @@ module _ {W : Type 0} (model : FaultModel W) (partitions : Partitions) (op : Op)
       finished = refl;
       performed = nothing_done reply is;
       cause = subst (λ refusal. HasCause refusal s s reply) (sym why)
-      (record { refused = tt; taken = taken; failed = λ fault. absurd (both_ways (is_fault reply) no_fault fault) });
+          (record { refused = tt; taken = taken; failed = λ fault. absurd (both_ways (is_fault reply) no_fault fault) });
     }
     at_once path is none refusal (over_after_one e reply taken fault) why = absurd (true≢false none)
 
@@ -178,14 +180,16 @@ module _ {W : Type 0} (model : FaultModel W) (partitions : Partitions) (op : Op)
         };
       };
       cause = subst (λ refusal. HasCause refusal s after (reply (answer_to model s e))) (sym why)
-      (record {
-        refused = tt;
-        taken = taken (answer_to model s e);
-        failed = λ failed. subst (λ (now : ChipState W). HasRisen s.faults now.faults) (sym state) (failure_counts model s e (fault (answer_to model s e) failed));
-      });
+          (record {
+            refused = tt;
+            taken = taken (answer_to model s e);
+            failed = λ failed. subst (λ (now : ChipState W). HasRisen s.faults now.faults) (sym state)
+                (failure_counts model s e (fault (answer_to model s e) failed));
+          });
     }
 
-  news_stay : (quiet : Bool) (answer : Answer) (first begun : Stage) (news : Option (Bool × Attaching)) → is_resting first ≡ true → begun ≡ stage_begun s.geometry partitions op first
+  news_stay : (quiet : Bool) (answer : Answer) (first begun : Stage) (news : Option (Bool × Attaching)) → is_resting first ≡ true
+      → begun ≡ stage_begun s.geometry partitions op first
       → news_after quiet answer begun news ≡ news
   news_stay quiet answer (Attaches left q) begun news rests is = absurd (false≢true rests)
   news_stay quiet answer (Works k left) begun news rests is = absurd (false≢true rests)
@@ -209,7 +213,8 @@ module _ {W : Type 0} (model : FaultModel W) (partitions : Partitions) (op : Op)
       _ (raw_is_short s.geometry partitions k op raw) refl)
 
   -- an operation of one event
-  pub ends_after_one : (now : ChipState W) → now ≡ s → (quiet : Bool) (after : ChipState W) (first begun last : Stage) → is_resting first ≡ true → IsRaw s.geometry op
+  pub ends_after_one : (now : ChipState W) → now ≡ s → (quiet : Bool) (after : ChipState W) (first begun last : Stage) → is_resting first ≡ true
+      → IsRaw s.geometry op
       → begun ≡ stage_begun s.geometry partitions op first → is_some (option_map name_of (stage_event begun)) ≡ true
       → IfSome (stage_event begun) (λ e. after ≡ happens model now (Complete e))
       → IfSome (stage_event begun) (λ e. last ≡ stage_after quiet (answer_to model now e) begun)
@@ -240,7 +245,8 @@ module _ {W : Type 0} (model : FaultModel W) (partitions : Partitions) (op : Op)
 
       pub has_cause : IfSome (known_at_rest first) (λ k. HasCause (refusal_of s.geometry k (part_of partitions (device_of op)) op) s now reply)
       has_cause =
-          rw state (subst (λ stage. IfSome (known_at_rest stage) (λ k. HasCause (refusal_of s.geometry k (part_of partitions (device_of op)) op) s after reply)) (sym e.rested)
+          rw state (subst (λ stage. IfSome (known_at_rest stage)
+          (λ k. HasCause (refusal_of s.geometry k (part_of partitions (device_of op)) op) s after reply)) (sym e.rested)
           (subst (λ r. HasCause (refusal_of s.geometry e.known (part_of partitions (device_of op)) op) s after r) (sym same_reply) e.cause))
 
     pub rests_again : (next : Stage) → IfSome (finished_in last) (λ finished. next ≡ Rests finished.known) → next ≡ first

@@ -1,13 +1,13 @@
 -- An attach without tables: where its path stands after each page.
-use Rattle.std.proofs.Common.{◌≡◌, ℕ, suc, ◌+◌, ◌-◌, ◌<◌, ◌≤◌, Bool, true, false, not, List, [], ◌∷◌, ◌++◌, length, take, set, Option, Some, None, refl, ap, sym, ◌∙◌, arith}
-use Rattle.std.specs.Prelude.{◌==◌, map}
+use Rattle.std.proofs.Common.{◌≡◌, ℕ, suc, ◌+◌, ◌-◌, ◌<◌, ◌≤◌, Bool, true, false, not, List, [], ◌∷◌, ◌++◌, length, take, set, Some, None, refl, ap, sym, ◌∙◌, arith}
+use Rattle.std.specs.Prelude.{◌==◌}
 use Rattle.std.proofs.lemmas.List.{length-set, take_all, take_more_set, map-append}
-use Rattle.nand_model.specs.Chip.{PageEvent, ReadEvent}
-use Rattle.nand_model.specs.Path.{Path, Over, Then, Data, cells_of, first_event}
-use Rattle.nand_model.specs.Attach.{Attaching, attach_by, attach_path, has_tables, marker_table, read_first_pages}
+use Rattle.nand_model.specs.Chip.{ReadEvent}
+use Rattle.nand_model.specs.Path.{Over, Then, Data, cells_of, first_event}
+use Rattle.nand_model.specs.Attach.{attach_by, attach_path, has_tables, marker_table, read_first_pages}
 use Rattle.nand_model.specs.Sizes.{numbers_from, first_page}
 use Rattle.nand_model.specs.declared.geometry.Geometry.{Geometry}
-use Rattle.chip_model.specs.Stage.{Stage, Attaches, Rests, attach_end, attach_stage, path_after}
+use Rattle.chip_model.specs.Stage.{Attaches, Rests, attach_end, attach_stage, path_after}
 use Rattle.chip_core.specs.Markers.{attached_by_markers, blocks_from, known_by_markers, marker_state, markers_left}
 
 pub no_tables : (g : Geometry) → g.bbt ≡ 0 → has_tables g ≡ false
@@ -45,7 +45,8 @@ module _ (g : Geometry) where
     pub next_read : first_event (markers_left g states (blocks_from g block)) ≡ Some (ReadEvent (first_page g block))
     next_read = ap (λ blocks. first_event (markers_left g states blocks)) (blocks_from-head block there)
 
-    pub still_attaches : (quiet : Bool) → attach_stage (markers_left g states (blocks_from g block)) quiet ≡ Attaches (markers_left g states (blocks_from g block)) quiet
+    pub still_attaches : (quiet : Bool)
+        → attach_stage (markers_left g states (blocks_from g block)) quiet ≡ Attaches (markers_left g states (blocks_from g block)) quiet
     still_attaches quiet =
         ap (λ blocks. attach_stage (markers_left g states blocks) quiet) (blocks_from-head block there)
         ∙ sym (ap (λ blocks. Attaches (markers_left g states blocks) quiet) (blocks_from-head block there))

@@ -1,10 +1,9 @@
 -- No event turns a bit of a page back or over, so a chip without flips stays so, and is quiet.
-use Rattle.std.proofs.Common.{◌≡◌, ℕ, ◌+◌, ◌/◌, Bool, true, false, not, List, [], ◌∷◌, Option, Some, None, refl, ap, if◌then◌else◌}
-use Rattle.std.specs.Prelude.{◌==◌, ◌&&◌, ◌||◌, ◌*◌}
+use Rattle.std.proofs.Common.{◌≡◌, ℕ, ◌+◌, ◌/◌, Bool, true, false, List, [], ◌∷◌, Option, Some, None, refl, ap, if◌then◌else◌}
+use Rattle.std.specs.Prelude.{◌==◌, ◌*◌}
 use Rattle.std.specs.List.{list_all}
 use Rattle.nand_model.specs.Chip.{ChipState, Complete, DoneBits, EraseEvent, FaultModel, PageEvent, PageState, ProgramEvent, ReadEvent, ProgramCall, EraseCall, counted, erase_block, failure_of, happens, program_page}
 use Rattle.nand_model.specs.Flips.{flips_between}
-use Rattle.nand_model.specs.Attach.{has_tables}
 use Rattle.nand_model.specs.Sizes.{numbers_from, first_page}
 use Rattle.nand_model.specs.Quiet.{has_no_flip_in, is_quiet}
 use Rattle.nand_model.specs.declared.geometry.Geometry.{Geometry}

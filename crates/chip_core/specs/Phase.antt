@@ -1,5 +1,5 @@
 -- What a chip is at, as its stage.
-use Rattle.std.specs.Prelude.{◌≡◌, ℕ, ◌<◌, true, List, take, length, ⊤, Option, Some, None, option_map, Bool}
+use Rattle.std.specs.Prelude.{◌≡◌, ℕ, ◌<◌, true, List, take, length, ⊤, Option, None, option_map, Bool}
 use Rattle.std.specs.Coded.{Unit-prop}
 use Rattle.std.proofs.Props.{props}
 use Rattle.nand_model.specs.Sizes.{raw_len}

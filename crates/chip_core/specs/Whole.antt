@@ -1,5 +1,5 @@
 -- A whole attach and a whole operation.
-use Rattle.std.specs.Prelude.{◌≡◌, ℕ, ◌/◌, Bool, true, false, ◌==◌, List, map, slice_index, Option, Some, None, IsSome, IfSome, IfNone}
+use Rattle.std.specs.Prelude.{◌≡◌, ℕ, ◌/◌, Bool, true, false, ◌==◌, List, map, slice_index, Option, Some, None, IfSome, IfNone}
 use Rattle.nand_model.specs.Attach.{marker_table}
 use Rattle.nand_model.specs.Chip.{ChipEvent, ChipState, FaultModel, after_trace}
 use Rattle.nand_model.specs.Counts.{HasRisen}
@@ -10,7 +10,7 @@ use Rattle.nand_model.specs.declared.words.Op.{Op}
 use Rattle.nand_model.specs.declared.words.Op.TheVariants.{Read, Write, RawRead, RawWrite, Erase, IsBad, Mark, Stats}
 use Rattle.nand_model.specs.declared.words.Part.{Part}
 use Rattle.nand_model.specs.declared.words.Reply.{Reply}
-use Rattle.nand_model.specs.declared.words.Reply.TheVariants.{Done, OutOfRange, BadBlock, MarkerByte, ProgramFailed, EraseFailed, MarkerFailed, TableFailed, Reserved, Copies, State, Counts, Page}
+use Rattle.nand_model.specs.declared.words.Reply.TheVariants.{OutOfRange, BadBlock, MarkerByte, ProgramFailed, EraseFailed}
 use Rattle.chip_model.specs.Stage.{Stage, Attaches, Rests, Works}
 use Rattle.chip_core.specs.Markers.{marker_page}
 
@@ -25,7 +25,8 @@ known_at_rest (Rests known) = Some known
 known_at_rest (Works known left) = None
 
 -- from this chip and what is known of it to this chip with the same known, by a whole operation with this reply
-pub record HasPerformed {W : Type 0} (model : FaultModel W) (partitions : Partitions) (k : Known) (op : Op) (before after : ChipState W) (reply : Reply) : Type 0 where
+pub record HasPerformed {W : Type 0} (model : FaultModel W) (partitions : Partitions) (k : Known) (op : Op) (before after : ChipState W)
+    (reply : Reply) : Type 0 where
   pub trace : List ChipEvent
   pub leads : after ≡ after_trace model before trace
   pub performs : Performs model partitions before k op trace reply k

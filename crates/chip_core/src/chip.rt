@@ -150,7 +150,8 @@ impl<F: Flash> Chip<F> {
 
     /// The number of blocks that are worn or factory bad; 0 while attaching is not over.
     pub fn bad(&self) -> u32
-        ensures { result ≡ bad_blocks_in (stage_table (chip_stage self.now)) }
+        ensures count { result ≡ bad_blocks_in (stage_table (chip_stage self.now)) }
+        ensures few { result ≤ (chip_state self.now).geometry.blocks }
     {
         match &self.phase {
             Phase::Attaching(_) => 0,

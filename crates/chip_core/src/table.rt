@@ -1,5 +1,5 @@
 // What is known of a chip's blocks.
-ghost use Rattle.std.specs.Prelude.{◌≡◌, ◌<◌, ◌==◌, length, count_by, slice_index, slice_set, IfOk, replicate};
+ghost use Rattle.std.specs.Prelude.{◌≡◌, ◌<◌, ◌≤◌, ◌==◌, length, count_by, slice_index, slice_set, IfOk, replicate};
 ghost use Rattle.nand_model.specs.ChipRun.{is_bad_state};
 
 use nand_model::{Bytes, Geometry};
@@ -50,7 +50,8 @@ impl Table {
 
     /// The number of worn and factory-bad blocks.
     pub fn bad(&self) -> u32
-        ensures { result ≡ count_by is_bad_state self.now.states }
+        ensures count { result ≡ count_by is_bad_state self.now.states }
+        ensures few { result ≤ self.now.geometry.blocks }
     {
         self.states
             .as_slice()

@@ -1,4 +1,4 @@
-use Rattle.std.proofs.Common.{◌≡◌, ◌<◌, ◌≤◌, ◌∙◌, ap, sym, arith}
+use Rattle.std.proofs.Common.{◌≡◌, ◌<◌, ◌∙◌, ap, arith}
 use Rattle.nand_model.specs.declared.geometry.Geometry.{Geometry}
 use Rattle.chip_core.specs.Chip.{chip_news, chip_stage, chip_state}
 use Rattle.chip_core.proofs.Attached.{begins, goes_on, has_next, now_news, now_rests}
@@ -22,7 +22,8 @@ loop-preserved g c =
     let sizes : c.geometry-end.result ≡ start.geometry = c.geometry-end.ensures ∙ ap (λ s. s.geometry) c.in_ok-chip.ensures.state in
     let there : c.loop.counter < start.geometry.blocks = rw (← sizes) c.loop-test.true in
     goes_on start c.loop.counter (chip_state c.loop.chip) (chip_stage c.loop.chip) (chip_news c.loop.chip) c.loop.invariant there
-    g.F.Flash.fault_model c.requires.without_tables c.requires.unflipped (chip_state c.advance.new.self) (chip_stage c.advance.new.self) (chip_news c.advance.new.self)
+    g.F.Flash.fault_model c.requires.without_tables c.requires.unflipped (chip_state c.advance.new.self) (chip_stage c.advance.new.self)
+    (chip_news c.advance.new.self)
     c.advance.ensures.state c.advance.ensures.stage c.advance.ensures.news
 
 pub returns-clause-stage : goal.returns-clause-stage

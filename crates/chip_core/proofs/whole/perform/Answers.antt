@@ -1,8 +1,8 @@
-use Rattle.std.proofs.Common.{◌≡◌, ◌∙◌, ap, sym, subst, true, false}
-use Rattle.std.specs.Prelude.{IsSome, IfSome, is_some, option_map}
+use Rattle.std.proofs.Common.{◌≡◌, ◌∙◌, ap, sym, true, false}
+use Rattle.std.specs.Prelude.{is_some, option_map}
 use Rattle.nand_model.specs.ChipRun.{name_of}
 use Rattle.nand_model.specs.Quiet.{is_quiet}
-use Rattle.chip_model.specs.Stage.{stage_begun, stage_event}
+use Rattle.chip_model.specs.Stage.{stage_event}
 use Rattle.chip_core.specs.Chip.{chip_news, chip_stage, chip_state}
 use Rattle.chip_core.proofs.Performing.{Ends, ends_at_once, ends_after_one, is_finished, has_cause, has_performed, news_kept, rests_again}
 use Rattle.chip_core.proofs.whole.perform.Goals as goal
@@ -16,8 +16,10 @@ returns-then-is_none-clause-performed g c =
     let first = chip_stage c.args.chip.now in
     let last = chip_stage c.begin.new.self in
     let no_event : is_some (option_map name_of (stage_event last)) ≡ false = ap is_some (sym c.next_event.ensures) ∙ c.if-is_none.ensures in
-    let done : Ends model parts op before before first last = ends_at_once model parts op before first last c.requires.rests c.requires.can.raw c.in_ok-begin.ensures.begun no_event in
-    has_performed model parts op before before first last done c.answer.result c.answer.ensures.reply (chip_state c.answer.new.self) (c.answer.ensures.state ∙ c.in_ok-begin.ensures.state)
+    let done : Ends model parts op before before first last =
+    ends_at_once model parts op before first last c.requires.rests c.requires.can.raw c.in_ok-begin.ensures.begun no_event in
+    has_performed model parts op before before first last done c.answer.result c.answer.ensures.reply (chip_state c.answer.new.self)
+    (c.answer.ensures.state ∙ c.in_ok-begin.ensures.state)
 
 pub returns-then-is_none-clause-causes : goal.returns-then-is_none-clause-causes
 returns-then-is_none-clause-causes g c =
@@ -28,8 +30,10 @@ returns-then-is_none-clause-causes g c =
     let first = chip_stage c.args.chip.now in
     let last = chip_stage c.begin.new.self in
     let no_event : is_some (option_map name_of (stage_event last)) ≡ false = ap is_some (sym c.next_event.ensures) ∙ c.if-is_none.ensures in
-    let done : Ends model parts op before before first last = ends_at_once model parts op before first last c.requires.rests c.requires.can.raw c.in_ok-begin.ensures.begun no_event in
-    has_cause model parts op before before first last done c.answer.result c.answer.ensures.reply (chip_state c.answer.new.self) (c.answer.ensures.state ∙ c.in_ok-begin.ensures.state)
+    let done : Ends model parts op before before first last =
+    ends_at_once model parts op before first last c.requires.rests c.requires.can.raw c.in_ok-begin.ensures.begun no_event in
+    has_cause model parts op before before first last done c.answer.result c.answer.ensures.reply (chip_state c.answer.new.self)
+    (c.answer.ensures.state ∙ c.in_ok-begin.ensures.state)
 
 pub answer-requires-2 : goal.answer-requires-2
 answer-requires-2 g c =
@@ -43,7 +47,9 @@ answer-requires-2 g c =
     let begun = chip_stage c.begin.new.self in
     let last = chip_stage c.advance.new.self in
     let event : is_some (option_map name_of (stage_event begun)) ≡ true = ap is_some (sym c.next_event.ensures) ∙ c.if-is_none.ensures in
-    let done : Ends model parts op before after first last = ends_after_one model parts op before now c.in_ok-begin.ensures.state (is_quiet now.geometry now.pages) after first begun last c.requires.rests c.requires.can.raw
+    let done : Ends model parts op before after first last =
+    ends_after_one model parts op before now c.in_ok-begin.ensures.state (is_quiet now.geometry now.pages) after first begun last c.requires.rests
+    c.requires.can.raw
     c.in_ok-begin.ensures.begun event c.advance.ensures.state c.advance.ensures.stage in
     is_finished model parts op before after first last done
 
@@ -59,9 +65,12 @@ returns-clause-performed g c =
     let begun = chip_stage c.begin.new.self in
     let last = chip_stage c.advance.new.self in
     let event : is_some (option_map name_of (stage_event begun)) ≡ true = ap is_some (sym c.next_event.ensures) ∙ c.if-is_none.ensures in
-    let done : Ends model parts op before after first last = ends_after_one model parts op before now c.in_ok-begin.ensures.state (is_quiet now.geometry now.pages) after first begun last c.requires.rests c.requires.can.raw
+    let done : Ends model parts op before after first last =
+    ends_after_one model parts op before now c.in_ok-begin.ensures.state (is_quiet now.geometry now.pages) after first begun last c.requires.rests
+    c.requires.can.raw
     c.in_ok-begin.ensures.begun event c.advance.ensures.state c.advance.ensures.stage in
-    has_performed model parts op before after first last done c.answer-2.result c.answer-2.ensures.reply (chip_state c.answer-2.new.self) c.answer-2.ensures.state
+    has_performed model parts op before after first last done c.answer-2.result c.answer-2.ensures.reply (chip_state c.answer-2.new.self)
+    c.answer-2.ensures.state
 
 pub returns-clause-causes : goal.returns-clause-causes
 returns-clause-causes g c =
@@ -75,7 +84,9 @@ returns-clause-causes g c =
     let begun = chip_stage c.begin.new.self in
     let last = chip_stage c.advance.new.self in
     let event : is_some (option_map name_of (stage_event begun)) ≡ true = ap is_some (sym c.next_event.ensures) ∙ c.if-is_none.ensures in
-    let done : Ends model parts op before after first last = ends_after_one model parts op before now c.in_ok-begin.ensures.state (is_quiet now.geometry now.pages) after first begun last c.requires.rests c.requires.can.raw
+    let done : Ends model parts op before after first last =
+    ends_after_one model parts op before now c.in_ok-begin.ensures.state (is_quiet now.geometry now.pages) after first begun last c.requires.rests
+    c.requires.can.raw
     c.in_ok-begin.ensures.begun event c.advance.ensures.state c.advance.ensures.stage in
     has_cause model parts op before after first last done c.answer-2.result c.answer-2.ensures.reply (chip_state c.answer-2.new.self) c.answer-2.ensures.state
 
@@ -91,7 +102,9 @@ returns-clause-stage g c =
     let begun = chip_stage c.begin.new.self in
     let last = chip_stage c.advance.new.self in
     let event : is_some (option_map name_of (stage_event begun)) ≡ true = ap is_some (sym c.next_event.ensures) ∙ c.if-is_none.ensures in
-    let done : Ends model parts op before after first last = ends_after_one model parts op before now c.in_ok-begin.ensures.state (is_quiet now.geometry now.pages) after first begun last c.requires.rests c.requires.can.raw
+    let done : Ends model parts op before after first last =
+    ends_after_one model parts op before now c.in_ok-begin.ensures.state (is_quiet now.geometry now.pages) after first begun last c.requires.rests
+    c.requires.can.raw
     c.in_ok-begin.ensures.begun event c.advance.ensures.state c.advance.ensures.stage in
     rests_again model parts op before after first last done (chip_stage c.answer-2.new.self) c.answer-2.ensures.stage
 
@@ -101,6 +114,7 @@ returns-clause-news g c =
     let begun = chip_stage c.begin.new.self in
     let event : is_some (option_map name_of (stage_event begun)) ≡ true = ap is_some (sym c.next_event.ensures) ∙ c.if-is_none.ensures in
     c.answer-2.ensures.news
-    ∙ news_kept g.F.Flash.fault_model c.args.parts.now c.args.op.now (chip_state c.args.chip.now) (is_quiet now.geometry now.pages) now (chip_stage c.args.chip.now) begun
+    ∙ news_kept g.F.Flash.fault_model c.args.parts.now c.args.op.now (chip_state c.args.chip.now) (is_quiet now.geometry now.pages) now
+    (chip_stage c.args.chip.now) begun
     (chip_news c.begin.new.self) (chip_news c.advance.new.self) c.requires.rests c.in_ok-begin.ensures.begun (stage_event begun) event c.advance.ensures.news
     ∙ c.in_ok-begin.ensures.news

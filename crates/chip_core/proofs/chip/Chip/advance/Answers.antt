@@ -1,17 +1,17 @@
 use Rattle.std.proofs.Common.{◌≡◌, ◌≤◌, ◌+◌, ◌∙◌, None, Option, refl, sym, subst, arith, false}
 use Rattle.std.specs.Prelude.{IsSome, IfSome}
-use Rattle.nand_model.specs.Chip.{Complete, PageEvent, happens}
+use Rattle.nand_model.specs.Chip.{Complete, happens}
 use Rattle.nand_model.specs.Path.{answer_to, is_failure}
 use Rattle.nand_model.specs.Quiet.{is_quiet}
 use Rattle.nand_model.specs.declared.words.Fairness.{Fairness}
 use Rattle.nand_model.specs.declared.words.Fairness.TheVariants.{Plain}
-use Rattle.chip_model.specs.Stage.{failure_told, stage_event}
-use Rattle.chip_core.specs.Markers.{known_by_markers}
-use Rattle.chip_core.specs.Phase.{PhaseFits, phase_stage, programs_left}
+use Rattle.chip_model.specs.Stage.{failure_told}
+use Rattle.chip_core.specs.Calm.{HasNoFlips}
+use Rattle.chip_core.specs.Phase.{programs_left}
 use Rattle.chip_core.specs.Task.{task_event}
 use Rattle.chip_core.specs.declared.phase.Phase.{Phase}
 use Rattle.chip_core.specs.declared.phase.Phase.TheVariants.{Attaching, Working}
-use Rattle.chip_core.proofs.Advancing.{has_event, sizes_kept, flips_kept, of_event, of_read, read_stage, read_news}
+use Rattle.chip_core.proofs.Advancing.{working_has_event, sizes_kept, flips_kept, of_event, of_read, read_stage, read_news}
 use Rattle.chip_core.proofs.Unflipped.{quiet}
 use Rattle.chip_core.proofs.chip.Chip.advance.Goals as goal
 
@@ -19,18 +19,24 @@ pub invariant_of-self-in-Working : goal.invariant_of-self-in-Working
 invariant_of-self-in-Working g c =
     let chip = c.args.self.now in
     let task = c.in-Working.task in
+    let left = c.advance-left.result.0 in
+    let told = c.advance-left.result.1 in
+    let model = g.F.Flash.fault_model in
     let before = g.F.Flash.state chip.flash in
     let after = g.F.Flash.state c.advance-left.new.flash in
     let phase : chip.phase ≡ Working task = sym c.replace.ensures.value ∙ c.in-Working.is in
-    let Has : Phase → Type 0 = λ p. IsSome (stage_event (phase_stage chip.table.geometry chip.table.states p)) in
-    let event : IsSome (task_event task) = has_event (known_by_markers chip.table.states) task (subst Has phase c.requires) in
-    let sizes : after.geometry ≡ before.geometry = sizes_kept g.F.Flash.fault_model before after task c.advance-left.result.0 c.advance-left.result.1 (task_event task) event c.advance-left.ensures.advanced in
+    let event : IsSome (task_event task) = working_has_event chip.table chip.phase task phase c.requires in
+    let sizes : after.geometry ≡ before.geometry =
+    of_event model before after task left told (task_event task) event c.advance-left.ensures.advanced (after.geometry ≡ before.geometry)
+    (sizes_kept model before after task left told) in
     let Room : Phase → Type 0 = λ p. chip.spare + programs_left p ≤ g.F.Flash.room chip.flash in
     let room = subst Room phase chip.room in
     record {
       sizes = sizes ∙ chip.sizes;
       without_tables = rw sizes chip.without_tables;
-      unflipped = flips_kept g.F.Flash.fault_model before after task c.advance-left.result.0 c.advance-left.result.1 (task_event task) event c.advance-left.ensures.advanced chip.unflipped;
+      unflipped =
+          of_event model before after task left told (task_event task) event c.advance-left.ensures.advanced (HasNoFlips after)
+          (flips_kept model before after task left told chip.unflipped);
       fits = rw (← chip.sizes) c.advance-left.ensures.fits;
       room = omega (arith, room, c.advance-left.ensures.room);
     }
@@ -39,51 +45,36 @@ pub returns-in-Attaching-clause-state : goal.returns-in-Attaching-clause-state
 returns-in-Attaching-clause-state g c =
     let chip = c.args.self.now in
     let s = g.F.Flash.state chip.flash in
-    let phase : chip.phase ≡ Attaching c.in-Attaching.scan = sym c.replace.ensures.value ∙ c.in-Attaching.is in
-    let Fits : Phase → Type 0 = λ p. PhaseFits chip.table.geometry p in
-    let fits = subst Fits phase chip.fits in
-    of_read g.F.Flash.fault_model s chip.table.geometry chip.sizes chip.table.states c.in-Attaching.scan fits.next chip.phase phase
+    of_read g.F.Flash.fault_model s chip.table chip.sizes chip.phase chip.fits c.in-Attaching.scan (sym c.replace.ensures.value ∙ c.in-Attaching.is)
     (λ e. g.F.Flash.state c.attach_on.new.self.flash ≡ happens g.F.Flash.fault_model s (Complete e)) c.attach_on.ensures.state
 
 pub returns-in-Attaching-clause-stage : goal.returns-in-Attaching-clause-stage
 returns-in-Attaching-clause-stage g c =
     let chip = c.args.self.now in
     let s = g.F.Flash.state chip.flash in
-    let phase : chip.phase ≡ Attaching c.in-Attaching.scan = sym c.replace.ensures.value ∙ c.in-Attaching.is in
-    let Fits : Phase → Type 0 = λ p. PhaseFits chip.table.geometry p in
-    let fits = subst Fits phase chip.fits in
-    read_stage g.F.Flash.fault_model s chip.table.geometry chip.sizes chip.table.states c.in-Attaching.scan fits.next chip.phase phase
-    (is_quiet s.geometry s.pages) _ (quiet s chip.without_tables chip.unflipped) c.attach_on.ensures.stage
+    read_stage g.F.Flash.fault_model s chip.table chip.sizes chip.phase chip.fits c.in-Attaching.scan (sym c.replace.ensures.value ∙ c.in-Attaching.is)
+    (is_quiet s.geometry s.pages) (quiet s chip.without_tables chip.unflipped) _ c.attach_on.ensures.stage
 
 pub returns-in-Attaching-clause-news : goal.returns-in-Attaching-clause-news
 returns-in-Attaching-clause-news g c =
     let chip = c.args.self.now in
     let s = g.F.Flash.state chip.flash in
-    let phase : chip.phase ≡ Attaching c.in-Attaching.scan = sym c.replace.ensures.value ∙ c.in-Attaching.is in
-    let Fits : Phase → Type 0 = λ p. PhaseFits chip.table.geometry p in
-    let fits = subst Fits phase chip.fits in
-    read_news g.F.Flash.fault_model s chip.table.geometry chip.sizes chip.table.states c.in-Attaching.scan fits.next chip.phase phase
-    (is_quiet s.geometry s.pages) _ _ (quiet s chip.without_tables chip.unflipped) c.attach_on.ensures.news
+    read_news g.F.Flash.fault_model s chip.table chip.sizes chip.phase chip.fits c.in-Attaching.scan (sym c.replace.ensures.value ∙ c.in-Attaching.is)
+    (is_quiet s.geometry s.pages) (quiet s chip.without_tables chip.unflipped) _ _ c.attach_on.ensures.news
 
 pub returns-in-Attaching-clause-told : goal.returns-in-Attaching-clause-told
 returns-in-Attaching-clause-told g c =
     let chip = c.args.self.now in
     let s = g.F.Flash.state chip.flash in
-    let phase : chip.phase ≡ Attaching c.in-Attaching.scan = sym c.replace.ensures.value ∙ c.in-Attaching.is in
-    let Fits : Phase → Type 0 = λ p. PhaseFits chip.table.geometry p in
-    let fits = subst Fits phase chip.fits in
     let told : Option Fairness = None in
-    of_read g.F.Flash.fault_model s chip.table.geometry chip.sizes chip.table.states c.in-Attaching.scan fits.next chip.phase phase
+    of_read g.F.Flash.fault_model s chip.table chip.sizes chip.phase chip.fits c.in-Attaching.scan (sym c.replace.ensures.value ∙ c.in-Attaching.is)
     (λ e. told ≡ failure_told g.F.Flash.fault_model s e) refl
 
 pub returns-in-Attaching-clause-failed : goal.returns-in-Attaching-clause-failed
 returns-in-Attaching-clause-failed g c =
     let chip = c.args.self.now in
     let s = g.F.Flash.state chip.flash in
-    let phase : chip.phase ≡ Attaching c.in-Attaching.scan = sym c.replace.ensures.value ∙ c.in-Attaching.is in
-    let Fits : Phase → Type 0 = λ p. PhaseFits chip.table.geometry p in
-    let fits = subst Fits phase chip.fits in
-    of_read g.F.Flash.fault_model s chip.table.geometry chip.sizes chip.table.states c.in-Attaching.scan fits.next chip.phase phase
+    of_read g.F.Flash.fault_model s chip.table chip.sizes chip.phase chip.fits c.in-Attaching.scan (sym c.replace.ensures.value ∙ c.in-Attaching.is)
     (λ e. false ≡ is_failure (answer_to g.F.Flash.fault_model s e)) refl
 
 pub returns-in-Working-clause-plain : goal.returns-in-Working-clause-plain
@@ -91,8 +82,6 @@ returns-in-Working-clause-plain g c =
     let chip = c.args.self.now in
     let task = c.in-Working.task in
     let told = c.advance-left.result.1 in
-    let phase : chip.phase ≡ Working task = sym c.replace.ensures.value ∙ c.in-Working.is in
-    let Has : Phase → Type 0 = λ p. IsSome (stage_event (phase_stage chip.table.geometry chip.table.states p)) in
-    let event : IsSome (task_event task) = has_event (known_by_markers chip.table.states) task (subst Has phase c.requires) in
+    let event = working_has_event chip.table chip.phase task (sym c.replace.ensures.value ∙ c.in-Working.is) c.requires in
     of_event g.F.Flash.fault_model (g.F.Flash.state chip.flash) (g.F.Flash.state c.advance-left.new.flash) task c.advance-left.result.0 told
     (task_event task) event c.advance-left.ensures.advanced (IfSome told (λ fairness. fairness ≡ Plain)) (λ e done. done.plain)

@@ -1,6 +1,5 @@
-use Rattle.std.proofs.Common.{◌≡◌, ◌≤◌, ◌<◌, ◌+◌, ◌∙◌, ap, sym, true, List, ℕ, Option, Some}
-use Rattle.nand_model.specs.Attach.{Attaching}
-use Rattle.chip_core.specs.Markers.{attached_by_markers, marker_page}
+use Rattle.std.proofs.Common.{◌≤◌, ◌<◌, ◌+◌, sym}
+use Rattle.chip_core.specs.Markers.{marker_page}
 use Rattle.chip_core.proofs.Scanning.{goes_on, no_news, comes_to_rest, news}
 use Rattle.chip_core.proofs.chip.Chip.attach_on.Goals as goal
 
@@ -9,24 +8,28 @@ returns-then-scan-self-clause-stage g c =
     let table = c.args.self.now.table in
     let more : c.args.scan.next + 1 < table.geometry.blocks = rw (← c.set.ensures.geometry, ← c.read_marker-state.ensures.next) c.if-scan-self.true in
     rw (c.set.ensures.geometry, c.set.ensures.states, c.read_marker-state.ensures.next, c.read_marker-state.ensures.state)
-    (sym (goes_on table.geometry table.states c.args.scan.next (marker_page (g.F.Flash.state c.args.self.now.flash) c.args.scan.next) c.requires.fits.next table.all_there more))
+    (sym (goes_on table.geometry table.states c.args.scan.next (marker_page (g.F.Flash.state c.args.self.now.flash) c.args.scan.next) c.requires.fits.next
+    table.all_there more))
 
 pub returns-then-scan-self-clause-news : goal.returns-then-scan-self-clause-news
 returns-then-scan-self-clause-news g c =
     let table = c.args.self.now.table in
     let more : c.args.scan.next + 1 < table.geometry.blocks = rw (← c.set.ensures.geometry, ← c.read_marker-state.ensures.next) c.if-scan-self.true in
-    sym (no_news table.geometry table.states c.args.scan.next (marker_page (g.F.Flash.state c.args.self.now.flash) c.args.scan.next) c.requires.fits.next table.all_there more)
+    sym (no_news table.geometry table.states c.args.scan.next (marker_page (g.F.Flash.state c.args.self.now.flash) c.args.scan.next) c.requires.fits.next
+    table.all_there more)
 
 pub returns-else-scan-self-clause-stage : goal.returns-else-scan-self-clause-stage
 returns-else-scan-self-clause-stage g c =
     let table = c.args.self.now.table in
     let last : table.geometry.blocks ≤ c.args.scan.next + 1 = rw (← c.set.ensures.geometry, ← c.read_marker-state.ensures.next) c.if-scan-self.false in
     rw (c.requires.rests, c.set.ensures.states, c.read_marker-state.ensures.state)
-    (sym (comes_to_rest table.geometry table.states c.args.scan.next (marker_page (g.F.Flash.state c.args.self.now.flash) c.args.scan.next) c.requires.fits.next table.all_there last))
+    (sym (comes_to_rest table.geometry table.states c.args.scan.next (marker_page (g.F.Flash.state c.args.self.now.flash) c.args.scan.next)
+    c.requires.fits.next table.all_there last))
 
 pub returns-else-scan-self-clause-news : goal.returns-else-scan-self-clause-news
 returns-else-scan-self-clause-news g c =
     let table = c.args.self.now.table in
     let last : table.geometry.blocks ≤ c.args.scan.next + 1 = rw (← c.set.ensures.geometry, ← c.read_marker-state.ensures.next) c.if-scan-self.false in
     rw (c.requires.rests, c.into_note.ensures, c.set.ensures.states, c.read_marker-state.ensures.state)
-    (sym (news table.geometry table.states c.args.scan.next (marker_page (g.F.Flash.state c.args.self.now.flash) c.args.scan.next) c.requires.fits.next table.all_there last))
+    (sym (news table.geometry table.states c.args.scan.next (marker_page (g.F.Flash.state c.args.self.now.flash) c.args.scan.next) c.requires.fits.next
+    table.all_there last))

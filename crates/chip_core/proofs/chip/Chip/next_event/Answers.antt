@@ -1,9 +1,5 @@
-use Rattle.std.proofs.Common.{◌≡◌, ◌∙◌, Option, Some, take, sym, ap, subst, refl}
-use Rattle.std.specs.Prelude.{option_map}
-use Rattle.nand_model.specs.Chip.{PageEvent}
-use Rattle.nand_model.specs.ChipRun.{name_of}
-use Rattle.chip_model.specs.Stage.{stage_event}
-use Rattle.chip_core.specs.Phase.{PhaseFits, phase_stage}
+use Rattle.std.proofs.Common.{◌∙◌, Some, take, ap, subst, refl}
+use Rattle.chip_core.specs.Phase.{PhaseFits}
 use Rattle.chip_core.specs.declared.phase.Phase.{Phase}
 use Rattle.chip_core.proofs.Scanning.{next_read}
 use Rattle.chip_core.proofs.chip.Chip.next_event.Goals as goal

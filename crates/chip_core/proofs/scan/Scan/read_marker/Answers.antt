@@ -1,5 +1,4 @@
-use Rattle.std.proofs.Common.{arith, ap, ◌∙◌}
-use Rattle.std.specs.Prelude.{length}
+use Rattle.std.proofs.Common.{arith}
 use Rattle.nand_model.proofs.Bounds.{bounds}
 use Rattle.chip_core.proofs.Places.{first_page-there, page_count-le}
 use Rattle.chip_core.proofs.scan.Scan.read_marker.Goals as goal

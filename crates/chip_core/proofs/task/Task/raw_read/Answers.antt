@@ -1,5 +1,5 @@
-use Rattle.std.specs.Prelude.{length, replicate}
-use Rattle.std.proofs.Common.{◌≡◌, ◌∙◌, ap, ℕ}
+use Rattle.std.specs.Prelude.{length}
+use Rattle.std.proofs.Common.{◌∙◌, ap}
 use Rattle.std.proofs.lemmas.List.{length-replicate}
 use Rattle.nand_model.specs.Operation.{part_of}
 use Rattle.chip_core.proofs.Places.{pages-le}
@@ -13,7 +13,8 @@ pub returns-in_ok-cells-in-Some : goal.returns-in_ok-cells-in-Some
 returns-in_ok-cells-in-Some c =
     let sizes = c.args.table.now.geometry in
     let found = part_of c.args.parts.now c.args.dev in
-    let is_page : IsPageAt sizes found c.args.page c.in-Some.page = page_found sizes found c.args.page c.in-Some.page c.requires.there c.requires.within c.in-Some.ensures in
+    let is_page : IsPageAt sizes found c.args.page c.in-Some.page =
+    page_found sizes found c.args.page c.in-Some.page c.requires.there c.requires.within c.in-Some.ensures in
     record {
       follows = λ k same. raw_read-path sizes found c.args.page c.in-Some.page is_page k c.args.dev c.in_ok-cells-in-Some.cells;
       fits = record {
