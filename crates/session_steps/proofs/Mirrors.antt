@@ -1,6 +1,5 @@
 -- Sessions and the sessions of a course that they mirror.
-use Rattle.std.proofs.Common.{◌≡◌, ℕ, zero, suc, ◌+◌, ◌<◌, ◌≤◌, Bool, true, false, nat_le, List, [], ◌∷◌, ◌++◌, length, drop, Option, Some, None, Result, Ok, Err, OnOk, OnErr, IfOk, refl, sym, ap, ◌∙◌, subst, arith, append-nil, length-append, slice_get, not, is_some, option_copied, Bor}
-use Rattle.std.specs.Prelude.{⊤}
+use Rattle.std.proofs.Common.{◌≡◌, ℕ, zero, suc, ◌<◌, Bool, true, false, List, [], ◌∷◌, ◌++◌, length, Option, Some, None, Result, Ok, Err, OnOk, OnErr, IfOk, refl, sym, ap, ◌∙◌, subst, arith, length-append, slice_get, not, is_some, option_copied, Bor}
 use Rattle.std.proofs.lemmas.List.Elements.{All-drop}
 use Rattle.std.proofs.lemmas.Option.{slice_get_within}
 use Rattle.nand_model.specs.declared.geometry.Geometry.{Geometry}
@@ -10,12 +9,12 @@ use Rattle.nand_model.specs.declared.words.Note.TheVariants.{Answered}
 use Rattle.nand_model.specs.declared.words.Op.{Op}
 use Rattle.nand_model.specs.declared.words.Outcome.{Outcome}
 use Rattle.nand_model.specs.declared.words.Reply.{Reply}
-use Rattle.run_model.specs.Command.{Script, End, Ask, Next, Do, Over, next_in, next_step, after_replies, script_of}
+use Rattle.run_model.specs.Command.{Script, End, Ask, Next, Do, Over, next_in, next_step, script_of}
 use Rattle.run_model.specs.Course.{SessionRun, with_reply, next_op_of, is_finished}
 use Rattle.tool_steps.specs.Stage.{CanRun}
 use Rattle.tool_steps.specs.Steps.{after_last, step_of, is_over}
 use Rattle.tool_steps.specs.declared.step.Step.{Step}
-use Rattle.tool_steps.specs.declared.step.Step.TheVariants.{Do as Perform, Done as Finished}
+use Rattle.tool_steps.specs.declared.step.Step.TheVariants.{Done as Finished}
 use Rattle.tool_steps.proofs.Scripts.{asks_first}
 use Rattle.tool_steps.specs.Work.{left_of}
 use Rattle.tool_steps.specs.declared.tool.Tool.{Tool}

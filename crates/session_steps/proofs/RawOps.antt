@@ -1,5 +1,5 @@
 -- Commands that can be run ask for raw operations of their own device.
-use Rattle.std.proofs.Common.{◌≡◌, ℕ, zero, suc, ◌+◌, ◌-◌, ◌≤◌, Bool, true, false, List, [], ◌∷◌, ◌++◌, length, replicate, Option, Some, None, refl, sym, subst, arith, length-append}
+use Rattle.std.proofs.Common.{◌≡◌, ℕ, zero, suc, ◌+◌, ◌-◌, Bool, true, false, List, [], ◌∷◌, ◌++◌, length, replicate, Some, sym, subst, arith, length-append}
 use Rattle.std.specs.Prelude.{⊤, if◌then◌else◌}
 use Rattle.std.proofs.lemmas.List.{length-replicate}
 use Rattle.nand_model.specs.declared.geometry.Geometry.{Geometry}
@@ -10,7 +10,7 @@ use Rattle.nand_model.specs.declared.words.Reply.{Reply}
 use Rattle.nand_model.specs.declared.words.Reply.TheVariants.{Done, BadBlock, MarkerByte, ProgramFailed}
 use Rattle.nand_model.specs.Sizes.{raw_len}
 use Rattle.nand_model.specs.Operation.{device_of}
-use Rattle.run_model.specs.Command.{Script, End, Ask, Next, Do, Over, next_in, after_replies, script_of, command_device, erase_blocks, write_blocks, after_write, says_bad}
+use Rattle.run_model.specs.Command.{Script, End, Ask, next_in, after_replies, script_of, command_device, erase_blocks, write_blocks, after_write, says_bad}
 use Rattle.run_model.specs.Course.{SessionRun, next_op_of, op_of_next}
 use Rattle.run_laws.specs.Turns.{AsksOnly}
 use Rattle.run_laws.proofs.Devices.{own_device}

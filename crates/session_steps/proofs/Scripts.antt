@@ -1,11 +1,11 @@
 -- What is left of commands, and the sessions of a course.
-use Rattle.std.proofs.Common.{◌≡◌, ℕ, zero, suc, ◌+◌, ◌<◌, Bool, true, false, List, [], ◌∷◌, ◌++◌, length, drop, get_or, Option, Some, None, refl, sym, ap, ◌∙◌, subst, arith}
+use Rattle.std.proofs.Common.{◌≡◌, ℕ, false, List, [], ◌∷◌, ◌++◌, refl, arith}
 use Rattle.nand_model.specs.declared.geometry.Geometry.{Geometry}
 use Rattle.nand_model.specs.declared.words.Command.{Command}
 use Rattle.nand_model.specs.declared.words.Op.{Op}
 use Rattle.nand_model.specs.declared.words.Outcome.{Outcome}
 use Rattle.nand_model.specs.declared.words.Reply.{Reply}
-use Rattle.run_model.specs.Command.{Script, End, Ask, Next, Do, Over, next_in, next_step, after_replies, script_of}
+use Rattle.run_model.specs.Command.{Next, Do, Over, next_step}
 use Rattle.run_model.specs.Course.{SessionRun, without_finished}
 use Rattle.tool_steps.specs.Steps.{is_over}
 use Rattle.tool_steps.proofs.Scripts.{asks_first}

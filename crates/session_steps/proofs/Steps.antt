@@ -1,20 +1,19 @@
 -- The steps of a session, and of the session of a course that it mirrors.
-use Rattle.std.proofs.Common.{◌≡◌, ℕ, zero, suc, ◌+◌, ◌<◌, Bool, true, false, List, [], ◌∷◌, ◌++◌, length, drop, get_or, Option, Some, None, refl, sym, ap, ◌∙◌, subst, arith, append-nil, length-append, slice_get}
-use Rattle.std.specs.Prelude.{⊤}
+use Rattle.std.proofs.Common.{◌≡◌, ℕ, zero, suc, true, false, List, [], ◌∷◌, ◌++◌, length, drop, Option, Some, None, refl, sym, ap, ◌∙◌, subst, arith, append-nil, length-append, slice_get}
 use Rattle.std.proofs.lemmas.List.Elements.{All-drop}
 use Rattle.nand_model.specs.declared.geometry.Geometry.{Geometry}
 use Rattle.nand_model.specs.declared.words.Command.{Command}
 use Rattle.nand_model.specs.declared.words.Op.{Op}
 use Rattle.nand_model.specs.declared.words.Outcome.{Outcome}
 use Rattle.nand_model.specs.declared.words.Reply.{Reply}
-use Rattle.run_model.specs.Command.{Script, End, Ask, Next, Do, Over, next_in, next_step, after_replies, script_of}
+use Rattle.run_model.specs.Command.{Script, End, Ask, Over, next_in, next_step, after_replies, script_of}
 use Rattle.run_model.specs.Course.{SessionRun, without_finished, with_reply, next_op_of, op_of_next}
 use Rattle.tool_steps.specs.Stage.{CanRun}
 use Rattle.tool_steps.specs.Steps.{is_over}
 use Rattle.tool_steps.proofs.Scripts.{asks_first, after_replies-append}
-use Rattle.session_steps.specs.Standing.{Standing, outcome_of, outcomes_by, commands_by, op_asked, put_down, begun, IsBetween, First}
+use Rattle.session_steps.specs.Standing.{Standing, outcomes_by, commands_by, op_asked, put_down, begun, IsBetween, First}
 use Rattle.session_steps.specs.Mirrors.{GoesOn, CanAllRun, Shows}
-use Rattle.session_steps.proofs.Scripts.{before, within, none_finished, not_finished, one_finished, an_op}
+use Rattle.session_steps.proofs.Scripts.{none_finished, not_finished, one_finished}
 
 some_is : (x y : Command) → Some x ≡ Some y → x ≡ y
 some_is x y e = cc

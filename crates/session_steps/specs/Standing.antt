@@ -1,13 +1,12 @@
 -- Where a session stands, beside the notes of its controller.
-use Rattle.std.specs.Prelude.{◌≡◌, ℕ, Bool, true, false, List, [], ◌∷◌, ◌++◌, length, drop, slice_get, Option, Some, None, option_map, ⊤}
+use Rattle.std.specs.Prelude.{◌≡◌, ℕ, Bool, List, [], ◌∷◌, ◌++◌, length, drop, slice_get, Option, Some, None, option_map, ⊤}
 use Rattle.nand_model.specs.declared.words.Command.{Command}
 use Rattle.nand_model.specs.declared.words.Note.{Note}
 use Rattle.nand_model.specs.declared.words.Note.TheVariants.{Answered}
 use Rattle.nand_model.specs.declared.words.Op.{Op}
 use Rattle.nand_model.specs.declared.words.Outcome.{Outcome}
 use Rattle.nand_model.specs.declared.words.Reply.{Reply}
-use Rattle.nand_model.specs.declared.geometry.Geometry.{Geometry}
-use Rattle.run_model.specs.Command.{Script, End, Ask, script_of}
+use Rattle.run_model.specs.Command.{Script, End, Ask}
 use Rattle.tool_steps.specs.Steps.{after_last}
 use Rattle.tool_steps.specs.Work.{left_of}
 use Rattle.tool_steps.specs.declared.tool.Tool.{Tool}

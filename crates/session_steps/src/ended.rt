@@ -92,26 +92,3 @@ impl SessionEnd {
         &self.outcomes[n]
     }
 }
-
-#[cfg(test)]
-mod tests {
-    use super::*;
-    use std::test::Fail;
-
-    #[test]
-    fn keeps_outcomes_in_order(rt: HostRuntime) -> Result<(), Fail> {
-        let mut ended = SessionEnd::new(rt.alloc(), 4, true);
-        assert_eq!(rt; ended.len(), 0);
-        let erased = Outcome::FlashErase {
-            erased: 16,
-            bad: 0,
-            failed: 0,
-        };
-        assert!(rt; ended.push(erased).is_ok());
-        assert_eq!(rt; ended.session(), 4);
-        assert!(rt; ended.cut());
-        assert_eq!(rt; ended.len(), 1);
-        assert!(rt; matches!(ended.get(0), Outcome::FlashErase { erased: 16, .. }));
-        Ok(())
-    }
-}

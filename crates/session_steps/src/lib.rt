@@ -4,6 +4,8 @@
 mod ended;
 mod laws;
 mod session;
+#[cfg(test)]
+mod tests;
 
 pub use ended::{OutcomeList, SessionEnd, StatsList};
 pub use laws::{next_operations_are_raw, notes_leave_sessions};

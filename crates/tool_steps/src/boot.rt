@@ -136,6 +136,7 @@ mod tests {
         assert!(rt; boot.add_command(command).is_ok());
         assert_eq!(rt; boot.session(0), Some(3));
         assert_eq!(rt; boot.session(1), None);
+        assert_eq!(rt; boot.commands(0).len(), 1);
         assert!(rt; matches!(boot.command(0, 0), Some(Command::IsBad { block: 5, .. })));
         assert!(rt; boot.command(0, 1).is_none());
         Ok(())
