@@ -13,3 +13,4 @@ pub mod Known
 pub mod PastSteps
 pub mod Limits
 pub mod CoreSteps
+pub mod FirstAndLast

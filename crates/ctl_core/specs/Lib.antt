@@ -6,3 +6,4 @@ pub mod Follows
 pub mod Start
 pub mod Answer
 pub mod Bench
+pub mod Ended

@@ -1,16 +1,18 @@
 // A controller in one boot.
 ghost use Rattle.std.specs.Prelude.{◌≡◌, ◌≤◌, ◌+◌, ◌*◌, ◌↔◌, map, length, true, not, None, IsTrue, OnOk, IfOk, is_none};
-ghost use Rattle.run_model.specs.Course.{attach_step, is_idle, is_over, unattached};
+ghost use Rattle.run_model.specs.Course.{attach_step, end_states, is_idle, is_over, unattached};
 ghost use Rattle.run_model.specs.Run.{AreInOrder, CoursesAreFaithful};
 ghost use Rattle.tool_steps.specs.Boot.{session_number};
 ghost use Rattle.cost_laws.specs.Cost.{boot_cost};
 ghost use Rattle.cost_laws.specs.Laws.{blocks_of};
 ghost use Rattle.ctl_core.specs.Answer.{is_did, turn_answer, attach_answer, after_turn, after_attach_turn};
+ghost use Rattle.ctl_core.specs.Ended.{all_bad_blocks, device_statistics, end_of_run};
 ghost use Rattle.ctl_core.specs.Past.{at_start, starts_of, sizes_in, course_of, next_course};
 ghost use Rattle.ctl_core.specs.Start.{CanStart, HasSession};
 
 use crate::Turn;
 use crate::bench::Bench;
+use crate::ending::{Ended, all_bad, all_statistics, end_all, stop_all};
 use crate::journal::Journal;
 use crate::starting::{first_sessions, first_slots};
 use nand_iface::{Flash, History};
@@ -147,5 +149,36 @@ impl<F: Flash> Core<F> {
         ensures few { result ≤ 8 * boot_cost self.now.boot (starts_of F.state self.now) + 7 * length self.now.started }
     {
         self.journal.turns.len()
+    }
+
+    /// What a controller that is over leaves: its flashes as the course leaves the chips, its notes, the outcomes of each session in order, the statistics of each device and
+    /// the number of bad blocks.
+    pub fn finish(self) -> Result<Ended<F>, AllocError>
+        requires { is_over (course_of F.fault_model F.state self) ≡ true }
+        ensures flashes { IfOk result (λ ended. map F.state ended.flashes ≡ end_states (course_of F.fault_model F.state self)) }
+        ensures notes { IfOk result (λ ended. ended.notes.notes ≡ (course_of F.fault_model F.state self).notes) }
+        ensures outcomes { IfOk result (λ ended. ended.outcomes ≡ map end_of_run (course_of F.fault_model F.state self).sessions) }
+        ensures stats { IfOk result (λ ended. ended.stats ≡ device_statistics self.boot.partitions (course_of F.fault_model F.state self)) }
+        ensures bad { IfOk result (λ ended. ended.bad ≡ all_bad_blocks self.boot.partitions (course_of F.fault_model F.state self)) }
+    {
+        let Core { journal, bench } = self;
+        let alloc = *journal.turns.allocator();
+        let stats = all_statistics(alloc, &bench.slots, journal.boot.parts())?;
+        let bad = all_bad(&bench.slots);
+        let Bench {
+            slots,
+            notes,
+            sessions,
+            ..
+        } = bench;
+        let outcomes = end_all(alloc, sessions, &notes)?;
+        let flashes = stop_all(alloc, slots)?;
+        Ok(Ended {
+            flashes,
+            notes,
+            outcomes,
+            stats,
+            bad,
+        })
     }
 }

@@ -3,10 +3,12 @@
 
 mod bench;
 mod controller;
+mod ending;
 mod journal;
 mod starting;
 mod steps;
 mod turn;
 
 pub use controller::Core;
+pub use ending::Ended;
 pub use turn::Turn;

@@ -86,6 +86,21 @@ impl Parts {
         Ok(dev)
     }
 
+    /// The number of the first device.
+    pub fn first(&self) -> u32
+        ensures { result ≡ self.now.first }
+    {
+        self.lowest
+    }
+
+    /// The number of devices. Their numbers fit a `u32`.
+    pub fn len(&self) -> usize
+        ensures count { result ≡ length self.now.parts }
+        ensures numbers { self.now.first + result < 2 ^ 32 }
+    {
+        self.items.len()
+    }
+
     /// A device's partition. None comes exactly where there is no such device.
     pub fn get(&self, dev: u32) -> Option<&Part>
         ensures lent { option_copied result ≡ part_of self.now dev }

@@ -1,0 +1,98 @@
+// What a controller that is over leaves.
+ghost use Rattle.std.specs.Prelude.{◌≡◌, ◌≤◌, ◌<◌, All, length, map, sum_by, false, IfOk};
+ghost use Rattle.nand_model.specs.declared.words.Part.{Part as Partition};
+ghost use Rattle.session_steps.specs.Standing.{standing, end_of};
+ghost use Rattle.run_model.specs.Course.{chip_of};
+ghost use Rattle.ctl_core.specs.Ended.{kept_state, kept_bad_blocks, kept_statistics, kept_statistics_at, device_numbers};
+ghost use Rattle.ctl_core.specs.Bench.{kept_slot};
+
+use crate::bench::Slot;
+use mtd_part::Parts;
+use nand_iface::{Flash, History, Stats};
+use session_steps::{OutcomeList, Session, StatsList};
+use std::alloc::{AllocError, Global};
+use tool_steps::FlashList;
+
+/// What a controller that is over leaves.
+#[derive(Drop)]
+pub struct Ended<F> {
+    /// The flashes, by the number of their chip.
+    pub flashes: FlashList<F>,
+    /// The notes.
+    pub notes: History,
+    /// How each session ended, in order.
+    pub outcomes: OutcomeList,
+    /// The ECC statistics of each device, in order.
+    pub stats: StatsList,
+    /// The number of blocks of all chips that are worn or factory bad.
+    pub bad: u32,
+}
+
+// The flashes of the chips.
+pub fn stop_all<F: Flash>(alloc: Global, slots: Vec<Slot<F>>) -> Result<FlashList<F>, AllocError>
+    ensures { IfOk result (λ flashes. map F.state flashes ≡ map kept_state (map kept_slot slots.items)) }
+{
+    let mut flashes = FlashList::new(alloc);
+    for slot in slots {
+        let Slot { chip, .. } = slot;
+        if let Err((_, refused)) = flashes.push(chip.stop()) {
+            return Err(refused);
+        }
+    }
+    Ok(flashes)
+}
+
+// How the sessions ended.
+pub fn end_all(alloc: Global, sessions: Vec<Session>, notes: &History) -> Result<OutcomeList, AllocError>
+    ensures { IfOk result (λ ends. ends ≡ map (λ s. end_of false (standing notes.now.notes s)) sessions.items) }
+{
+    let mut ends = OutcomeList::new(alloc);
+    for session in sessions {
+        let end = session.finish(notes, false)?;
+        if let Err((_, refused)) = ends.push(end) {
+            return Err(refused);
+        }
+    }
+    Ok(ends)
+}
+
+// The statistics of each device.
+pub fn all_statistics<F: Flash>(alloc: Global, slots: &[Slot<F>], parts: &Parts) -> Result<StatsList, AllocError>
+    requires { All (λ (part : Partition). part.chip < length slots.now) parts.now.parts }
+    ensures { IfOk result (λ stats. stats ≡ kept_statistics parts.now (map kept_slot slots.now) (device_numbers parts.now)) }
+{
+    let mut stats = StatsList::new(alloc);
+    for n in 0..parts.len() {
+        let dev = parts.first() + n as u32;
+        if let Err((_, refused)) = stats.push((dev, statistics(slots, parts, dev))) {
+            return Err(refused);
+        }
+    }
+    Ok(stats)
+}
+
+// The statistics of a device.
+fn statistics<F: Flash>(slots: &[Slot<F>], parts: &Parts, dev: u32) -> Stats
+    requires { All (λ (part : Partition). part.chip < length slots.now) parts.now.parts }
+    ensures { result ≡ kept_statistics_at (map kept_slot slots.now) (chip_of parts.now dev) dev }
+{
+    match parts.get(dev) {
+        Some(part) => slots[part.chip as usize].chip.stats(dev),
+        None => Stats {
+            corrected: 0,
+            failed: 0,
+        },
+    }
+}
+
+// The number of bad blocks of all chips.
+pub fn all_bad<F: Flash>(slots: &[Slot<F>]) -> u32
+    requires { length slots.now ≤ 8 }
+    ensures { result ≡ sum_by kept_bad_blocks (map kept_slot slots.now) }
+{
+    let mut bad = 0;
+    for slot in slots {
+        bad += slot.chip.bad();
+    }
+    bad
+}
