@@ -10,7 +10,8 @@ use Rattle.chip_core.proofs.whole.perform.Goals as goal
 
 -- the operation is over at once
 at_once : (g : Over) (c : goal.After-answer g)
-    → Ends g.F.Flash.fault_model c.args.parts.now c.args.op.now (chip_state c.args.chip.now) (chip_state c.args.chip.now) (chip_stage c.args.chip.now) (chip_stage c.begin.new.self)
+    → Ends g.F.Flash.fault_model c.args.parts.now c.args.op.now (chip_state c.args.chip.now) (chip_state c.args.chip.now)
+    (chip_stage c.args.chip.now) (chip_stage c.begin.new.self)
 at_once g c =
     let begun = chip_stage c.begin.new.self in
     let no_event : is_some (option_map name_of (stage_event begun)) ≡ false = ap is_some (sym c.next_event.ensures) ∙ c.if-is_none.ensures in
@@ -19,7 +20,8 @@ at_once g c =
 
 -- the operation is over after one event
 after_one : (g : Over) (c : goal.After-answer-arg-2-1 g)
-    → Ends g.F.Flash.fault_model c.args.parts.now c.args.op.now (chip_state c.args.chip.now) (chip_state c.advance.new.self) (chip_stage c.args.chip.now) (chip_stage c.advance.new.self)
+    → Ends g.F.Flash.fault_model c.args.parts.now c.args.op.now (chip_state c.args.chip.now) (chip_state c.advance.new.self)
+    (chip_stage c.args.chip.now) (chip_stage c.advance.new.self)
 after_one g c =
     let now = chip_state c.begin.new.self in
     let begun = chip_stage c.begin.new.self in
