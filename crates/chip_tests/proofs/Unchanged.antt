@@ -48,7 +48,8 @@ after_program g faults page image i = record {
 pub after_erase : (g : Geometry) (faults block : ℕ) → worn g (saturating_increment faults) ≡ happens worn_faults (worn g faults) (Complete (EraseEvent block))
 after_erase g faults block i = record {
   geometry = g;
-  pages = λ p. sym (if_same g (p / g.pages_per_block == block) (torn_erase (λ q i. 0) (p % g.pages_per_block) (worn_page g)) (erase_page-same g (p % g.pages_per_block))) i;
+  pages = λ p.
+      sym (if_same g (p / g.pages_per_block == block) (torn_erase (λ q i. 0) (p % g.pages_per_block) (worn_page g)) (erase_page-same g (p % g.pages_per_block))) i;
   fault_state = 0;
   faults = saturating_increment faults;
 }

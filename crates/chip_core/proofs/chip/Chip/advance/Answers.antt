@@ -10,7 +10,7 @@ use Rattle.chip_core.specs.Calm.{HasNoFlips}
 use Rattle.chip_core.specs.Phase.{programs_left}
 use Rattle.chip_core.specs.Task.{task_event}
 use Rattle.chip_core.specs.declared.phase.Phase.{Phase}
-use Rattle.chip_core.specs.declared.phase.Phase.TheVariants.{Attaching, Working}
+use Rattle.chip_core.specs.declared.phase.Phase.TheVariants.{Working}
 use Rattle.chip_core.proofs.Advancing.{working_has_event, sizes_kept, flips_kept, of_event, of_read, read_stage, read_news}
 use Rattle.chip_core.proofs.Unflipped.{quiet}
 use Rattle.chip_core.proofs.chip.Chip.advance.Goals as goal
