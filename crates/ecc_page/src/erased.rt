@@ -15,8 +15,9 @@ pub fn erased_check(t: u32, step: &[u8; 512], parity: &[u8]) -> Option<u32>
 {
     let last = parity.len() - 1;
     let padding = 8 * parity.len() as u32 - 13 * t;
-    let zeros =
-        zeros_of(step) + zeros_of(&parity[..last]) + (!parity[last] >> padding).count_ones();
+    let zeros = zeros_of(step)
+        + zeros_of(&parity[..last])
+        + (!parity[last] >> padding).count_ones();
     if zeros <= t { Some(zeros) } else { None }
 }
 

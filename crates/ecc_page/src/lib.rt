@@ -5,6 +5,8 @@ mod erased;
 mod masking;
 mod page;
 mod step;
+#[cfg(test)]
+mod tests;
 mod written;
 
 pub use erased::erased_check;

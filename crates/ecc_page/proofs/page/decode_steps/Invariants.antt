@@ -17,5 +17,5 @@ invariant-loop-s l =
       greatest : l.read.greatest ≡ fold (λ n (r : StepRead). max n (unwrap_or r.corrected 0)) 0 (map (read_at l.g l.fn.body l.fn.parities) (numbers_from 0 l.s));
       failed : l.read.failed ≡ count_by (λ (r : StepRead). is_none r.corrected) (map (read_at l.g l.fn.body l.fn.parities) (numbers_from 0 l.s));
       corrected_small : l.read.corrected ≤ 16 * l.s;
-      failed_small : l.read.failed ≤ l.s
+      failed_small : l.read.failed ≤ l.s;
     }
