@@ -88,15 +88,18 @@ module _ {W : Type 0} (model : FaultModel W) (boot : Boot) (starts : List (ChipS
       same_geometry : grown.chip.geometry ≡ now.chip.geometry
       same_geometry = by_known now.known
         where
-          by_known : (o : Option Known) → (answered_by now (happens model now.chip (Complete e)) (answer_to model now.chip e) o).chip.geometry ≡ now.chip.geometry
+          by_known : (o : Option Known) → (answered_by now (happens model now.chip (Complete e)) (answer_to model now.chip e) o).chip.geometry ≡
+              now.chip.geometry
           by_known None = geometry_after model now.chip (Complete e ∷ [])
           by_known (Some known) = geometry_after model now.chip (Complete e ∷ [])
 
       one_read : length grown.attach_answers ≡ length c.attach_answers + 1
       one_read =
-          let longer : length (now.attach_answers ++ answer_to model now.chip e ∷ []) ≡ length now.attach_answers + 1 = length-append now.attach_answers (answer_to model now.chip e ∷ []) in
+          let longer : length (now.attach_answers ++ answer_to model now.chip e ∷ []) ≡ length now.attach_answers + 1 =
+          length-append now.attach_answers (answer_to model now.chip e ∷ []) in
           let kept : length now.attach_answers ≡ length c.attach_answers = ap (λ (r : Rest). length r.answers) same in
-          ap (λ (o : Option Known). length (answered_by now (happens model now.chip (Complete e)) (answer_to model now.chip e) o).attach_answers) (ap (λ (r : Rest). r.known) same ∙ unknown)
+          ap (λ (o : Option Known). length (answered_by now (happens model now.chip (Complete e)) (answer_to model now.chip e) o).attach_answers)
+          (ap (λ (r : Rest). r.known) same ∙ unknown)
           ∙ omega (arith, longer, kept)
 
       c_geometry : grown.chip.geometry ≡ c.chip.geometry
@@ -111,7 +114,8 @@ module _ {W : Type 0} (model : FaultModel W) (boot : Boot) (starts : List (ChipS
           by_case : (k ≡ j) ⊎ (k ≡ j → ⊥) → Fits (rest_of (slice_get chips_after j))
           by_case (inl here) =
               let at_j : slice_get chips_after j ≡ Some grown =
-              subst (λ (i : ℕ). slice_get chips_after i ≡ Some grown) here (change_here flipped k (λ old. grown) ∙ ap (λ (o : Option (ChipRun W)). option_map (λ (old : ChipRun W). grown) o) there) in
+              subst (λ (i : ℕ). slice_get chips_after i ≡ Some grown) here (change_here flipped k (λ old. grown)
+              ∙ ap (λ (o : Option (ChipRun W)). option_map (λ (old : ChipRun W). grown) o) there) in
               let more : length grown.attach_answers ≤ c.chip.geometry.blocks = omega (arith, one_read, one_left) in
               subst (λ (o : Option (ChipRun W)). Fits (rest_of o)) (sym at_j)
               (ap (λ (g : Geometry). g.bbt) c_geometry ∙ fits_c.0, subst (λ (g : Geometry). length grown.attach_answers ≤ g.blocks) (sym c_geometry) more)
@@ -123,10 +127,12 @@ module _ {W : Type 0} (model : FaultModel W) (boot : Boot) (starts : List (ChipS
       done_attaches None =
           let read = sum-change (λ (x : ChipRun W). length x.attach_answers) flipped k now (λ old. grown) there in
           let kept : length now.attach_answers ≡ length c.attach_answers = ap (λ (r : Rest). length r.answers) same in
-          let unread : pages_read flipped ≡ pages_read course.chips = flips_read (filter (λ (flip : Flip). flip.before == course.events + 1) boot.flips) course.chips in
+          let unread : pages_read flipped ≡ pages_read course.chips = flips_read (filter (λ (flip : Flip). flip.before == course.events + 1) boot.flips)
+          course.chips in
           let wide = sum-change (λ (x : ChipRun W). x.chip.geometry.blocks) flipped k now (λ old. grown) there in
           let as_wide : grown.chip.geometry.blocks ≡ now.chip.geometry.blocks = ap (λ (g : Geometry). g.blocks) same_geometry in
-          let unchanged : blocks_in flipped ≡ blocks_in course.chips = flips_blocks (filter (λ (flip : Flip). flip.before == course.events + 1) boot.flips) course.chips in
+          let unchanged : blocks_in flipped ≡ blocks_in course.chips = flips_blocks
+          (filter (λ (flip : Flip). flip.before == course.events + 1) boot.flips) course.chips in
           inl (record {
             lit = refl;
             counted = omega (arith, read, kept, unread, one_read, a.counted);
@@ -135,7 +141,8 @@ module _ {W : Type 0} (model : FaultModel W) (boot : Boot) (starts : List (ChipS
           })
       done_attaches (Some tear) =
           let less : pages_read course.chips + 1 ≤ blocks_in course.chips =
-          sum-less (λ (x : ChipRun W). length x.attach_answers) (λ (x : ChipRun W). x.chip.geometry.blocks) course.chips k c (λ j y there. (subst Fits (ap rest_of there) (a.fits j)).1) at (omega (arith, one_left)) in
+          sum-less (λ (x : ChipRun W). length x.attach_answers) (λ (x : ChipRun W). x.chip.geometry.blocks) course.chips k c
+          (λ j y there. (subst Fits (ap rest_of there) (a.fits j)).1) at (omega (arith, one_left)) in
           inr (record { dark = refl; few = omega (arith, less, a.counted, a.blocks) })
 
     event_attaches : (o : Option (ChipRun W)) → slice_get flipped k ≡ o → Attaches (event_on model boot course flipped k o e)
@@ -144,7 +151,8 @@ module _ {W : Type 0} (model : FaultModel W) (boot : Boot) (starts : List (ChipS
         let same : Some (rest now) ≡ Some (rest c) = sym (ap rest_of there) ∙ due_rest model boot starts course.chips (course.events + 1) k ∙ ap rest_of at in
         done_attaches now there (same_Some (rest now) (rest c) same) (tear_at boot.cut (course.events + 1))
 
-  chip_attaches : (sizes : Command → Geometry) (course : Course W) → Attaching course → (k : ℕ) (c : ChipRun W) → slice_get course.chips k ≡ Some c → c.known ≡ None
+  chip_attaches : (sizes : Command → Geometry) (course : Course W) → Attaching course → (k : ℕ) (c : ChipRun W) → slice_get course.chips k ≡ Some c
+      → c.known ≡ None
       → (o : Option PageEvent) → next_event (attach_path c.chip.geometry) c.attach_answers ≡ o → Attaches (event_or_answer model boot sizes course k c o)
   chip_attaches sizes course a k c at unknown (Some e) next =
       event_attaches course a k c at unknown e next (slice_get (with_flips_before model boot (course.events + 1) course.chips) k) refl
@@ -155,7 +163,8 @@ module _ {W : Type 0} (model : FaultModel W) (boot : Boot) (starts : List (ChipS
   known_none None e = refl
   known_none (Some known) e = absurd (false≢true e)
 
-  first_attaches : (sizes : Command → Geometry) (course : Course W) → Attaching course → (o : Option ℕ) → unattached course ≡ o → Attaches (attach_first model boot sizes course o)
+  first_attaches : (sizes : Command → Geometry) (course : Course W) → Attaching course → (o : Option ℕ) → unattached course ≡ o
+      → Attaches (attach_first model boot sizes course o)
   first_attaches sizes course a None h = inl a
   first_attaches sizes course a (Some k) h =
       let c = position_is (λ (z : ChipRun W). is_none z.known) course.chips k h in
@@ -167,7 +176,8 @@ module _ {W : Type 0} (model : FaultModel W) (boot : Boot) (starts : List (ChipS
 
   step_attaches : (sizes : Command → Geometry) (course : Course W) → Attaches course → Attaches (attach_step model boot sizes course)
   step_attaches sizes course (inl a) =
-      subst (λ (b : Bool). Attaches (if b then course else attach_first model boot sizes course (unattached course))) (sym a.lit) (first_attaches sizes course a (unattached course) refl)
+      subst (λ (b : Bool). Attaches (if b then course else attach_first model boot sizes course (unattached course))) (sym a.lit)
+      (first_attaches sizes course a (unattached course) refl)
   step_attaches sizes course (inr d) =
       subst (λ (b : Bool). Attaches (if b then course else attach_first model boot sizes course (unattached course))) (sym d.dark) (inr d)
 
@@ -182,7 +192,13 @@ module _ {W : Type 0} (model : FaultModel W) (boot : Boot) (starts : List (ChipS
   all_blocks : (chips : List (ChipState W)) → blocks_in (map chip_at_start chips) ≡ blocks_of chips
   all_blocks [] = refl
   all_blocks (s ∷ chips) =
-      omega (arith, sum_by-cons (λ (c : ChipRun W). c.chip.geometry.blocks) (chip_at_start s) (map chip_at_start chips), sum_by-cons (λ (t : ChipState W). t.geometry.blocks) s chips, all_blocks chips)
+      omega (
+        arith,
+        sum_by-cons (λ (c : ChipRun W). c.chip.geometry.blocks) (chip_at_start s) (map chip_at_start chips),
+        sum_by-cons
+            (λ (t : ChipState W). t.geometry.blocks) s chips,
+        all_blocks chips,
+      )
 
   fit_at_start : (chips : List (ChipState W)) → HaveNoTables chips → (k : ℕ) → Fits (rest_of (slice_get (map chip_at_start chips) k))
   fit_at_start [] none k = tt
@@ -193,7 +209,12 @@ module _ {W : Type 0} (model : FaultModel W) (boot : Boot) (starts : List (ChipS
   pub attaches_few : (attaches : ℕ) → HaveNoTables starts → AttachesReadBlocks model boot starts attaches
   attaches_few attaches none =
       by_state (course_after model boot starts attaches [])
-      (steps_attach attaches (start_of_boot boot starts) (inl (record { lit = refl; counted = sym (none_read starts); blocks = all_blocks starts; fits = fit_at_start starts none })))
+      (steps_attach attaches (start_of_boot boot starts) (inl (record {
+        lit = refl;
+        counted = sym (none_read starts);
+        blocks = all_blocks starts;
+        fits = fit_at_start starts none;
+      })))
     where
       by_state : (course : Course W) → Attaches course → course.events ≤ blocks_of starts
       by_state course (inl a) = omega (arith, a.counted, a.blocks, few_read course a)

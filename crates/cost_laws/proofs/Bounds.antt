@@ -22,7 +22,8 @@ use Rattle.cost_laws.proofs.Turns.{dark_turns, turns_taken_few}
 
 module _ {W : Type 0} (model : FaultModel W) (boot : Boot) (starts : List (ChipState W)) where
   -- the attach leaves the sessions as they are
-  on_keeps : (course : Course W) (k : ℕ) (chips : List (ChipRun W)) (e : PageEvent) (o : Option (ChipRun W)) → (event_on model boot course chips k o e).sessions ≡ course.sessions
+  on_keeps : (course : Course W) (k : ℕ) (chips : List (ChipRun W)) (e : PageEvent) (o : Option (ChipRun W))
+      → (event_on model boot course chips k o e).sessions ≡ course.sessions
   on_keeps course k chips e None = refl
   on_keeps course k chips e (Some c) = by_tear (tear_at boot.cut (course.events + 1))
     where
@@ -33,18 +34,21 @@ module _ {W : Type 0} (model : FaultModel W) (boot : Boot) (starts : List (ChipS
   chip_keeps : (sizes : Command → Geometry) (course : Course W) (k : ℕ) (c : ChipRun W) → is_none c.known ≡ true → (o : Option PageEvent)
       → (event_or_answer model boot sizes course k c o).sessions ≡ course.sessions
   chip_keeps sizes course k c none (Some e) =
-      on_keeps course k (with_flips_before model boot (course.events + 1) course.chips) e (slice_get (with_flips_before model boot (course.events + 1) course.chips) k)
+      on_keeps course k (with_flips_before model boot (course.events + 1) course.chips) e
+      (slice_get (with_flips_before model boot (course.events + 1) course.chips) k)
   chip_keeps sizes course k c none None = by_known c.known none
     where
       by_known : (known : Option Known) → is_none known ≡ true → (with_answer boot.partitions sizes course k c known c.pending).sessions ≡ course.sessions
       by_known None e = refl
       by_known (Some known) e = absurd (false≢true e)
 
-  first_keeps : (sizes : Command → Geometry) (course : Course W) (o : Option ℕ) → unattached course ≡ o → (attach_first model boot sizes course o).sessions ≡ course.sessions
+  first_keeps : (sizes : Command → Geometry) (course : Course W) (o : Option ℕ) → unattached course ≡ o
+      → (attach_first model boot sizes course o).sessions ≡ course.sessions
   first_keeps sizes course None h = refl
   first_keeps sizes course (Some k) h =
       let c = position_is (λ (z : ChipRun W). is_none z.known) course.chips k h in
-      ap (λ (o : Option (ChipRun W)). (chip_step model boot sizes course k o).sessions) c.1 ∙ chip_keeps sizes course k c.0 c.2 (next_chip_event boot.partitions c.0)
+      ap (λ (o : Option (ChipRun W)). (chip_step model boot sizes course k o).sessions) c.1
+      ∙ chip_keeps sizes course k c.0 c.2 (next_chip_event boot.partitions c.0)
 
   attach_keeps : (sizes : Command → Geometry) (course : Course W) → (attach_step model boot sizes course).sessions ≡ course.sessions
   attach_keeps sizes course = by_dark course.dark
@@ -70,10 +74,12 @@ module _ {W : Type 0} (model : FaultModel W) (boot : Boot) (starts : List (ChipS
       by_state : Holds model boot starts course → BusyTurnsAreFew model boot starts attaches turns
       by_state (inr cut) = omega (arith, dark_turns model boot starts turns course cut.dark)
       by_state (inl live) =
-          let good : EachGood (sizes_of boot starts) course.sessions = subst (EachGood (sizes_of boot starts)) (sym as_at_start) (start_good (sizes_of boot starts) boot.sessions runs) in
+          let good : EachGood (sizes_of boot starts) course.sessions = subst (EachGood (sizes_of boot starts)) (sym as_at_start)
+          (start_good (sizes_of boot starts) boot.sessions runs) in
           let few = turns_taken_few model boot starts one turns course live good in
           let left : all_left (sizes_of boot starts) course.sessions ≤ boot_cost boot starts =
-          subst (λ (sessions : List SessionRun). all_left (sizes_of boot starts) sessions ≤ boot_cost boot starts) (sym as_at_start) (start_left (sizes_of boot starts) boot.sessions) in
+          subst (λ (sessions : List SessionRun). all_left (sizes_of boot starts) sessions ≤ boot_cost boot starts) (sym as_at_start)
+          (start_left (sizes_of boot starts) boot.sessions) in
           omega (arith, few, left)
 
   -- a turn does at most one event
@@ -82,10 +88,12 @@ module _ {W : Type 0} (model : FaultModel W) (boot : Boot) (starts : List (ChipS
   one_event session before after (DoesEvent new notes e) = omega (arith, e)
   one_event session before after (Answers reply notes e) = omega (arith, e)
 
-  pub events_few : (turns : List ℕ) (course : Course W) → (turns_taken model boot starts turns course).events ≤ course.events + length (busy_turns model boot starts turns course)
+  pub events_few : (turns : List ℕ) (course : Course W) → (turns_taken model boot starts turns course).events ≤ course.events + length
+      (busy_turns model boot starts turns course)
   events_few [] course = omega arith
   events_few (session ∷ turns) course =
-      by_idle (is_idle boot.partitions (sizes_of boot starts) course session) refl (events_few turns (turn_step model boot (sizes_of boot starts) course session))
+      by_idle (is_idle boot.partitions (sizes_of boot starts) course session) refl
+      (events_few turns (turn_step model boot (sizes_of boot starts) course session))
     where
       next : Course W
       next = turn_step model boot (sizes_of boot starts) course session
@@ -93,11 +101,17 @@ module _ {W : Type 0} (model : FaultModel W) (boot : Boot) (starts : List (ChipS
       last : ℕ
       last = (turns_taken model boot starts turns next).events
 
-      by_idle : (b : Bool) → is_idle boot.partitions (sizes_of boot starts) course session ≡ b → last ≤ next.events + length (busy_turns model boot starts turns next)
-          → last ≤ course.events + length ((if is_idle boot.partitions (sizes_of boot starts) course session then [] else session ∷ []) ++ busy_turns model boot starts turns next)
+      by_idle : (b : Bool) → is_idle boot.partitions (sizes_of boot starts) course session ≡ b
+          → last ≤ next.events + length (busy_turns model boot starts turns next)
+          → last ≤ course.events + length ((if is_idle boot.partitions (sizes_of boot starts) course session then [] else session ∷ []) ++ busy_turns model
+          boot starts turns next)
       by_idle true e later =
-          let stays : next.events ≡ course.events = ap (λ (c : Course W). c.events) ((turn_is_step model boot (sizes_of boot starts) course session).nothing_where_idle e) in
-          subst (λ (b : Bool). last ≤ course.events + length ((if b then [] else session ∷ []) ++ busy_turns model boot starts turns next)) (sym e) (omega (arith, later, stays))
+          let stays : next.events ≡ course.events = ap (λ (c : Course W). c.events)
+          ((turn_is_step model boot (sizes_of boot starts) course session).nothing_where_idle e) in
+          subst (λ (b : Bool). last ≤ course.events + length ((if b then [] else session ∷ []) ++ busy_turns model boot starts turns next)) (sym e)
+          (omega (arith, later, stays))
       by_idle false e later =
-          let more : next.events ≤ course.events + 1 = one_event session course next ((turn_is_step model boot (sizes_of boot starts) course session).step_else e) in
-          subst (λ (b : Bool). last ≤ course.events + length ((if b then [] else session ∷ []) ++ busy_turns model boot starts turns next)) (sym e) (omega (arith, later, more))
+          let more : next.events ≤ course.events + 1 = one_event session course next
+          ((turn_is_step model boot (sizes_of boot starts) course session).step_else e) in
+          subst (λ (b : Bool). last ≤ course.events + length ((if b then [] else session ∷ []) ++ busy_turns model boot starts turns next)) (sym e)
+          (omega (arith, later, more))

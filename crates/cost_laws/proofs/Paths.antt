@@ -33,7 +33,8 @@ copy_within : {A : Type 0} (g : Geometry) (n block : ℕ) (image : Unit {0} → 
     → Within (suc (suc n)) (write_copy g block image go_on)
 copy_within g n block image go_on h = λ erased. by_erase (is_good erased)
   where
-    by_erase : (good : Bool) → Within (suc n) (either good (λ u. Then (ProgramEvent (first_page g block) (image tt)) (λ programmed. go_on (is_good programmed))) (λ u. go_on false))
+    by_erase : (good : Bool) → Within (suc n) (either good (λ u. Then (ProgramEvent (first_page g block) (image tt))
+        (λ programmed. go_on (is_good programmed))) (λ u. go_on false))
     by_erase true = λ programmed. h (is_good programmed)
     by_erase false = more_within n (go_on false) (h false)
 
@@ -42,7 +43,8 @@ tables_within : (g : Geometry) (k : Known) (marker : Answer) → Within 4 (write
 tables_within g k marker = copy_within g 2 k.places.primary (λ u. table_page g Primary k.version k.table) after_primary primary_within
   where
     after_mirror : Bool → Path Finished
-    after_mirror mirror = either mirror (λ u. answer k (mark_reply marker Done)) (λ u. answer (record k { copies = 1 }) (mark_reply marker (TableFailed Mirror)))
+    after_mirror mirror = either mirror (λ u. answer k (mark_reply marker Done)) (λ u. answer (record k { copies = 1 })
+        (mark_reply marker (TableFailed Mirror)))
 
     after_primary : Bool → Path Finished
     after_primary primary = either primary (λ u. write_copy g k.places.mirror (λ u. table_page g Mirror k.version k.table) after_mirror)
@@ -58,7 +60,8 @@ tables_within g k marker = copy_within g 2 k.places.primary (λ u. table_page g 
 
 -- what follows the marker of a mark
 marked_within : (g : Geometry) (k : Known) (block : ℕ) (marker : Answer) (tables failed : Bool)
-    → Within 4 (either tables (λ u. write_tables g (with_mark g k block) marker) (λ u. either failed (λ v. answer k MarkerFailed) (λ v. answer (with_mark g k block) Done)))
+    → Within 4 (either tables (λ u. write_tables g (with_mark g k block) marker) (λ u. either failed (λ v. answer k MarkerFailed)
+    (λ v. answer (with_mark g k block) Done)))
 marked_within g k block marker true failed = tables_within g (with_mark g k block) marker
 marked_within g k block marker false true = tt
 marked_within g k block marker false false = tt
@@ -74,13 +77,15 @@ block_within g k block true true false = tt
 block_within g k block true true true = mark_within g k block
 
 write_within : (page : ℕ) (image : List ℕ) (k : Known) (there good : Bool)
-    → Within 6 (only_if there k OutOfRange (λ u. only_if good k BadBlock (λ v. Then (ProgramEvent page image) (λ outcome. answer k (done_or ProgramFailed outcome)))))
+    → Within 6 (only_if there k OutOfRange (λ u. only_if good k BadBlock (λ v. Then (ProgramEvent page image)
+    (λ outcome. answer k (done_or ProgramFailed outcome)))))
 write_within page image k false good = tt
 write_within page image k true false = tt
 write_within page image k true true = λ outcome. tt
 
 raw_write_within : (page : ℕ) (image : List ℕ) (k : Known) (there good marker : Bool)
-    → Within 6 (only_if there k OutOfRange (λ u. only_if good k BadBlock (λ v. only_if marker k MarkerByte (λ w. Then (ProgramEvent page image) (λ outcome. answer k (done_or ProgramFailed outcome))))))
+    → Within 6 (only_if there k OutOfRange (λ u. only_if good k BadBlock (λ v. only_if marker k MarkerByte
+    (λ w. Then (ProgramEvent page image) (λ outcome. answer k (done_or ProgramFailed outcome))))))
 raw_write_within page image k false good marker = tt
 raw_write_within page image k true false marker = tt
 raw_write_within page image k true true false = tt
@@ -92,7 +97,8 @@ erase_within block k false good = tt
 erase_within block k true false = tt
 erase_within block k true true = λ outcome. tt
 
-read_within : (page : ℕ) (k : Known) (after : Answer → Finished) (there : Bool) → Within 6 (only_if there k OutOfRange (λ u. Then (ReadEvent page) (λ seen. Over (after seen))))
+read_within : (page : ℕ) (k : Known) (after : Answer → Finished) (there : Bool) → Within 6
+    (only_if there k OutOfRange (λ u. Then (ReadEvent page) (λ seen. Over (after seen))))
 read_within page k after false = tt
 read_within page k after true = λ seen. tt
 
@@ -102,16 +108,19 @@ ask_within k state h true = h
 
 in_within : (g : Geometry) (k : Known) (part : Part) (op : Op) → Within 6 (operation_in g k part op)
 in_within g k part (Read dev page) = read_within (chip_page g part page) k (λ seen. after_read g k dev (decoded g (cells_of seen))) (has_page g part page)
-in_within g k part (RawRead dev page) = read_within (chip_page g part page) k (λ seen. record { reply = raw_reply (cells_of seen); known = k }) (has_page g part page)
+in_within g k part (RawRead dev page) = read_within (chip_page g part page) k (λ seen. record { reply = raw_reply (cells_of seen); known = k })
+    (has_page g part page)
 in_within g k part (Write dev page body free) =
     write_within (chip_page g part page) (page_image g body free) k (has_page g part page) (is_good_block k (chip_block part (page / g.pages_per_block)))
 in_within g k part (RawWrite dev page image) =
-    raw_write_within (chip_page g part page) image k (has_page g part page) (is_good_block k (chip_block part (page / g.pages_per_block))) (slice_index image g.page == 0xff)
+    raw_write_within (chip_page g part page) image k (has_page g part page) (is_good_block k (chip_block part (page / g.pages_per_block)))
+    (slice_index image g.page == 0xff)
 in_within g k part (Erase dev block) = erase_within (chip_block part block) k (has_block part block) (is_good_block k (chip_block part block))
 in_within g k part (IsBad dev block) = ask_within k (λ u. answer k (State (entry_of k (chip_block part block)))) tt (has_block part block)
 in_within g k part (Mark dev block) =
     ask_within k (λ u. mark_block g k (chip_block part block))
-    (block_within g k (chip_block part block) (not (entry_of k (chip_block part block) == 2)) (not (has_tables g) || nat_le 2 k.copies) (is_good_block k (chip_block part block)))
+    (block_within g k (chip_block part block) (not (entry_of k (chip_block part block) == 2)) (not (has_tables g) || nat_le 2 k.copies)
+    (is_good_block k (chip_block part block)))
     (has_block part block)
 in_within g k part (Stats dev) = tt
 
@@ -132,7 +141,8 @@ none_left (suc n) (Then event rest) w [] h = absurd (omega arith)
 none_left (suc n) (Then event rest) w (a ∷ answers) h = none_left n (rest a) (w a) answers (omega arith)
 
 -- where a next event is left, there were fewer answers
-pub some_left : {A : Type 0} (n : ℕ) (path : Path A) → Within n path → (answers : List Answer) (e : PageEvent) → next_event path answers ≡ Some e → length answers < n
+pub some_left : {A : Type 0} (n : ℕ) (path : Path A) → Within n path → (answers : List Answer) (e : PageEvent) → next_event path answers ≡ Some e
+    → length answers < n
 some_left n path w answers e h = by_order (cases_lt (length answers) n)
   where
     by_order : (length answers < n) ⊎ (n ≤ length answers) → length answers < n
@@ -153,14 +163,16 @@ module _ {W : Type 0} (model : FaultModel W) {A : Type 0} (n : ℕ) (path : Path
   along_within s answers (PowerCut e done ∷ trace) g h = omega arith
 
   -- a whole trace from the start of the path
-  pub answers_within : (s : ChipState W) (trace : List ChipEvent) (answers : List Answer) → GoesAlong model (next_event path) s [] trace → answers ≡ answers_of model s trace → length answers ≤ n
+  pub answers_within : (s : ChipState W) (trace : List ChipEvent) (answers : List Answer) → GoesAlong model (next_event path) s [] trace
+      → answers ≡ answers_of model s trace → length answers ≤ n
   answers_within s trace answers g e =
       let few : 0 + length (answers_of model s trace) ≤ n = along_within s [] trace g (omega arith) in
       let same : length answers ≡ length (answers_of model s trace) = ap length e in
       omega (arith, few, same)
 
 -- the first pages of so many blocks are read with so many events
-reads_within : {A : Type 0} (g : Geometry) (n first : ℕ) (pages : List (List ℕ)) (result : List (List ℕ) → A) → Within n (read_first_pages g (numbers_from first n) pages (λ seen. Over (result seen)))
+reads_within : {A : Type 0} (g : Geometry) (n first : ℕ) (pages : List (List ℕ)) (result : List (List ℕ) → A)
+    → Within n (read_first_pages g (numbers_from first n) pages (λ seen. Over (result seen)))
 reads_within g zero first pages result = tt
 reads_within g (suc n) first pages result = λ answer. reads_within g n (first + 1) (pages ++ cells_of answer ∷ []) result
 

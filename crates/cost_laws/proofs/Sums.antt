@@ -40,7 +40,8 @@ sum-bound f n (y ∷ ys) h =
     omega (arith, sum_by-cons f y ys)
 
 -- and one item counts less
-pub sum-below : {A : Type 0} (f : A → ℕ) (n : ℕ) (xs : List A) (k : ℕ) (x : A) → ((j : ℕ) (y : A) → slice_get xs j ≡ Some y → f y ≤ n) → slice_get xs k ≡ Some x → f x + 1 ≤ n
+pub sum-below : {A : Type 0} (f : A → ℕ) (n : ℕ) (xs : List A) (k : ℕ) (x : A) → ((j : ℕ) (y : A) → slice_get xs j ≡ Some y → f y ≤ n)
+    → slice_get xs k ≡ Some x → f x + 1 ≤ n
     → sum_by f xs + 1 ≤ n * length xs
 sum-below f n [] k x h e less = absurd (none_is_not x e)
 sum-below f n (y ∷ ys) zero x h e less =
@@ -61,7 +62,8 @@ sum-under f g (y ∷ ys) h =
     omega (arith, sum_by-cons f y ys, sum_by-cons g y ys)
 
 -- and one counts less
-pub sum-less : {A : Type 0} (f g : A → ℕ) (xs : List A) (k : ℕ) (x : A) → ((j : ℕ) (y : A) → slice_get xs j ≡ Some y → f y ≤ g y) → slice_get xs k ≡ Some x → f x + 1 ≤ g x
+pub sum-less : {A : Type 0} (f g : A → ℕ) (xs : List A) (k : ℕ) (x : A) → ((j : ℕ) (y : A) → slice_get xs j ≡ Some y → f y ≤ g y) → slice_get xs k ≡ Some x
+    → f x + 1 ≤ g x
     → sum_by f xs + 1 ≤ sum_by g xs
 sum-less f g [] k x h e less = absurd (none_is_not x e)
 sum-less f g (y ∷ ys) zero x h e less =

@@ -56,20 +56,23 @@ module _ {W : Type 0} (model : FaultModel W) (boot : Boot) (starts : List (ChipS
   due_use n chips = flips_use (filter (λ (flip : Flip). flip.before == n) boot.flips) chips
 
   -- an operation in flight has had at most six events
-  used_at : (k : ℕ) (s : ChipState W) (c : ChipRun W) (notes : List Note) (whole : List (ℕ × ChipEvent)) (known : Option Known) (pending : Option Pending) → c.pending ≡ pending
+  used_at : (k : ℕ) (s : ChipState W) (c : ChipRun W) (notes : List Note) (whole : List (ℕ × ChipEvent)) (known : Option Known) (pending : Option Pending)
+      → c.pending ≡ pending
       → ChipLawAt model boot.partitions k s c notes whole known pending → used_by pending ≤ 7
   used_at k s c notes whole None pending e law = subst (λ (p : Option Pending). used_by p ≤ 7) (sym law.idle ∙ e) (omega arith)
   used_at k s c notes whole (Some known) None e law = omega arith
   used_at k s c notes whole (Some known) (Some pending) e law =
       let few : length pending.answers ≤ 6 =
-      answers_within model 6 (operation_path law.rested.geometry boot.partitions known pending.op) (operation_within law.rested.geometry boot.partitions known pending.op)
+      answers_within model 6 (operation_path law.rested.geometry boot.partitions known pending.op)
+      (operation_within law.rested.geometry boot.partitions known pending.op)
       law.rested (events_in law.trace) pending.answers law.goes.along law.goes.answers_are in
       omega (arith, few)
 
   module _ (course : Course W) (live : IsLive model boot starts course) where
     pub use_bound : (k : ℕ) (c : ChipRun W) → slice_get course.chips k ≡ Some c → used_by c.pending ≤ 7
     use_bound k c at =
-        let p = place_start (LawOf model boot starts (by_log model boot starts live.log) k) (notes_of_chip boot.partitions k course.notes) (slice_get starts k) (slice_get course.chips k) c at (live.chips k) in
+        let p = place_start (LawOf model boot starts (by_log model boot starts live.log) k) (notes_of_chip boot.partitions k course.notes)
+        (slice_get starts k) (slice_get course.chips k) c at (live.chips k) in
         used_at k p.0 c (notes_of_chip boot.partitions k course.notes) (by_log model boot starts live.log k p.0) c.known c.pending refl p.2
 
     -- there is a start of each chip
@@ -80,7 +83,8 @@ module _ {W : Type 0} (model : FaultModel W) (boot : Boot) (starts : List (ChipS
             → length starts < length course.chips → length course.chips ≤ length starts
         by_chip (Some s) e p at less = absurd (omega (arith, slice_get_within starts (length starts) s e))
         by_chip None e (Some c) at less =
-            let q = place_start (LawOf model boot starts (by_log model boot starts live.log) (length starts)) (notes_of_chip boot.partitions (length starts) course.notes)
+            let q = place_start (LawOf model boot starts (by_log model boot starts live.log) (length starts))
+            (notes_of_chip boot.partitions (length starts) course.notes)
             (slice_get starts (length starts)) (slice_get course.chips (length starts)) c at (live.chips (length starts)) in
             absurd (none-some q.0 (sym e ∙ q.1))
         by_chip None e None at less = absurd (some_there course.chips (length starts) less at)
@@ -97,14 +101,16 @@ module _ {W : Type 0} (model : FaultModel W) (boot : Boot) (starts : List (ChipS
     -- an operation that has an event left has taken fewer
     pub less_use : (k : ℕ) (c : ChipRun W) → slice_get course.chips k ≡ Some c → used_by c.pending + 1 ≤ 7 → all_used course.chips + 1 ≤ 7 * length starts
     less_use k c at less =
-        let each : all_used course.chips + 1 ≤ 7 * length course.chips = sum-below (λ (x : ChipRun W). used_by x.pending) 7 course.chips k c use_bound at less in
+        let each : all_used course.chips + 1 ≤ 7 * length course.chips = sum-below
+        (λ (x : ChipRun W). used_by x.pending) 7 course.chips k c use_bound at less in
         omega (arith, each, no_more_chips)
 
   -- what a turn that is not idle does
   pub data Spends (course new : Course W) : Type 0 where
     -- it takes one of the turns that are left
     Takes : new.dark ≡ false → EachGood (sizes_of boot starts) new.sessions
-        → 8 * all_left (sizes_of boot starts) new.sessions + all_used course.chips + 1 ≤ 8 * all_left (sizes_of boot starts) course.sessions + all_used new.chips → Spends course new
+        → 8 * all_left (sizes_of boot starts) new.sessions + all_used course.chips + 1 ≤ 8 * all_left
+        (sizes_of boot starts) course.sessions + all_used new.chips → Spends course new
     -- or the controller goes dark
     Darkens : new.dark ≡ true → all_used course.chips + 1 ≤ 7 * length starts → Spends course new
 
@@ -112,12 +118,14 @@ module _ {W : Type 0} (model : FaultModel W) (boot : Boot) (starts : List (ChipS
   advance_use : (now : ChipRun W) (e : PageEvent) (known : Known) (pending : Pending) → now.known ≡ Some known → now.pending ≡ Some pending
       → used (advanced model now e) ≡ length pending.answers + 2
   advance_use now e known pending knows asks =
-      let longer : length (pending.answers ++ answer_to model now.chip e ∷ []) ≡ length pending.answers + 1 = length-append pending.answers (answer_to model now.chip e ∷ []) in
+      let longer : length (pending.answers ++ answer_to model now.chip e ∷ []) ≡ length pending.answers + 1 =
+      length-append pending.answers (answer_to model now.chip e ∷ []) in
       ap (λ (o : Option Known). used (answered_by now (happens model now.chip (Complete e)) (answer_to model now.chip e) o)) knows
       ∙ ap (λ (p : Option Pending). used_by (pending_after p (answer_to model now.chip e))) asks
       ∙ omega (arith, longer)
 
-  module _ (one : HaveOneNumberEach boot.sessions) (course : Course W) (live : IsLive model boot starts course) (good : EachGood (sizes_of boot starts) course.sessions) where
+  module _ (one : HaveOneNumberEach boot.sessions) (course : Course W) (live : IsLive model boot starts course)
+      (good : EachGood (sizes_of boot starts) course.sessions) where
     -- an operation begins
     begin_spends : (session k : ℕ) (op : Op) (c : ChipRun W) → slice_get course.chips k ≡ Some c → c.pending ≡ None → Spends course (began course session k op)
     begin_spends session k op c at idle =
@@ -125,7 +133,8 @@ module _ {W : Type 0} (model : FaultModel W) (boot : Boot) (starts : List (ChipS
         let none : used_by c.pending ≡ 0 = ap used_by idle in
         Takes live.lit good (omega (arith, more, none))
 
-    begin_on_spends : (session k : ℕ) (op : Op) (o : Option (ChipRun W)) → slice_get course.chips k ≡ o → is_free o ≡ true → Spends course (begin_on model boot course session op k o)
+    begin_on_spends : (session k : ℕ) (op : Op) (o : Option (ChipRun W)) → slice_get course.chips k ≡ o → is_free o ≡ true
+        → Spends course (begin_on model boot course session op k o)
     begin_on_spends session k op None at h = absurd (false≢true h)
     begin_on_spends session k op (Some c) at h = by_pending c.pending refl h
       where
@@ -142,17 +151,20 @@ module _ {W : Type 0} (model : FaultModel W) (boot : Boot) (starts : List (ChipS
     begin_step_spends session (Some op) h = begin_at_spends session op (chip_of boot.partitions (device_of op)) h
 
     -- an event of an operation
-    module _ (k : ℕ) (c : ChipRun W) (at : slice_get course.chips k ≡ Some c) (known : Known) (pending : Pending) (knows : c.known ≡ Some known) (asks : c.pending ≡ Some pending) where
+    module _ (k : ℕ) (c : ChipRun W) (at : slice_get course.chips k ≡ Some c) (known : Known) (pending : Pending) (knows : c.known ≡ Some known)
+        (asks : c.pending ≡ Some pending) where
       abbrev flipped : List (ChipRun W)
       flipped = with_flips_before model boot (course.events + 1) course.chips
 
       event_left : (e : PageEvent) → next_event_by boot.partitions c.chip c.attach_answers (Some known) (Some pending) ≡ Some e → used_by c.pending + 1 ≤ 7
       event_left e next =
-          let few : length pending.answers < 6 = some_left 6 (operation_path c.chip.geometry boot.partitions known pending.op) (operation_within c.chip.geometry boot.partitions known pending.op) pending.answers e next in
+          let few : length pending.answers < 6 = some_left 6 (operation_path c.chip.geometry boot.partitions known pending.op)
+          (operation_within c.chip.geometry boot.partitions known pending.op) pending.answers e next in
           let so_far : used_by c.pending ≡ length pending.answers + 1 = ap used_by asks in
           omega (arith, few, so_far)
 
-      done_spends : (now : ChipRun W) (e : PageEvent) (tear : Option Tear) → slice_get flipped k ≡ Some now → now.known ≡ Some known → now.pending ≡ Some pending
+      done_spends : (now : ChipRun W) (e : PageEvent) (tear : Option Tear) → slice_get flipped k ≡ Some now → now.known ≡ Some known
+          → now.pending ≡ Some pending
           → used_by c.pending + 1 ≤ 7 → Spends course (event_done model boot course flipped k (course.events + 1) now e tear)
       done_spends now e None there now_knows now_asks less =
           let more = sum-change (λ (x : ChipRun W). used_by x.pending) flipped k now (λ old. advanced model now e) there in
@@ -164,14 +176,17 @@ module _ {W : Type 0} (model : FaultModel W) (boot : Boot) (starts : List (ChipS
 
       event_spends : (e : PageEvent) → next_event_by boot.partitions c.chip c.attach_answers (Some known) (Some pending) ≡ Some e
           → (o : Option (ChipRun W)) → slice_get flipped k ≡ o → Spends course (event_on model boot course flipped k o e)
-      event_spends e next None there = absurd (none-some _ (sym (ap rest_of there) ∙ due_rest model boot starts course.chips (course.events + 1) k ∙ ap rest_of at))
+      event_spends e next None there = absurd (none-some _ (sym (ap rest_of there) ∙ due_rest model boot starts course.chips (course.events + 1) k
+          ∙ ap rest_of at))
       event_spends e next (Some now) there =
           let same : Some (rest now) ≡ Some (rest c) = sym (ap rest_of there) ∙ due_rest model boot starts course.chips (course.events + 1) k ∙ ap rest_of at in
           let rests : rest now ≡ rest c = same_Some (rest now) (rest c) same in
-          done_spends now e (tear_at boot.cut (course.events + 1)) there (ap (λ (r : Rest). r.known) rests ∙ knows) (ap (λ (r : Rest). r.pending) rests ∙ asks) (event_left e next)
+          done_spends now e (tear_at boot.cut (course.events + 1)) there (ap (λ (r : Rest). r.known) rests ∙ knows)
+          (ap (λ (r : Rest). r.pending) rests ∙ asks) (event_left e next)
 
       -- the session that asked has its operation next
-      asker : (s : SessionRun) × (find (λ (t : SessionRun). t.number == pending.session) course.sessions ≡ Some s) × (next_op_of (sizes_of boot starts) s.commands s.replies ≡ Some pending.op)
+      asker : (s : SessionRun) × (find (λ (t : SessionRun). t.number == pending.session) course.sessions ≡ Some s) ×
+          (next_op_of (sizes_of boot starts) s.commands s.replies ≡ Some pending.op)
       asker =
           let law = live.sessions pending.session in
           let opened = (law.from k pending.op (ap asked_on at ∙ ap asked_by asks)).1 in
@@ -198,16 +213,20 @@ module _ {W : Type 0} (model : FaultModel W) (boot : Boot) (starts : List (ChipS
           (subst (λ (o : Option Finished). Spends course (finish (sizes_of boot starts) course k c pending.session o)) (sym done.1) (answer_spends done.0)))
 
     -- the chip on which a session has its operation
-    chip_spends : (k : ℕ) (c : ChipRun W) → slice_get course.chips k ≡ Some c → (known : Option Known) (pending : Option Pending) → c.known ≡ known → c.pending ≡ pending → is_none known ≡ false
-        → (session : ℕ) → is_pending_of session pending ≡ true → Spends course (event_or_answer model boot (sizes_of boot starts) course k c (next_chip_event boot.partitions c))
+    chip_spends : (k : ℕ) (c : ChipRun W) → slice_get course.chips k ≡ Some c → (known : Option Known) (pending : Option Pending) → c.known ≡ known
+        → c.pending ≡ pending → is_none known ≡ false
+        → (session : ℕ) → is_pending_of session pending ≡ true → Spends course (event_or_answer model boot (sizes_of boot starts) course k c
+        (next_chip_event boot.partitions c))
     chip_spends k c at None pending knows asks attached session mine = absurd (false≢true (sym attached))
     chip_spends k c at (Some known) None knows asks attached session mine = absurd (false≢true mine)
     chip_spends k c at (Some known) (Some pending) knows asks attached session mine =
         pending_spends k c at known pending knows asks (next_chip_event boot.partitions c)
-        (sym (ap (λ (o : Option Known). next_event_by boot.partitions c.chip c.attach_answers o c.pending) knows ∙ ap (λ (p : Option Pending). next_event_by boot.partitions c.chip c.attach_answers (Some known) p) asks))
+        (sym (ap (λ (o : Option Known). next_event_by boot.partitions c.chip c.attach_answers o c.pending) knows
+        ∙ ap (λ (p : Option Pending). next_event_by boot.partitions c.chip c.attach_answers (Some known) p) asks))
 
     -- a turn that is not idle
-    pub turn_spends : (session : ℕ) → is_idle boot.partitions (sizes_of boot starts) course session ≡ false → Spends course (turn_step model boot (sizes_of boot starts) course session)
+    pub turn_spends : (session : ℕ) → is_idle boot.partitions (sizes_of boot starts) course session ≡ false
+        → Spends course (turn_step model boot (sizes_of boot starts) course session)
     turn_spends session e =
         subst (λ b. Spends course (turn_unless model boot b (sizes_of boot starts) course session)) (sym e)
         (by_chip (pending_chip course session) refl (none_there (unattached course) (or_parts course.dark _ (or_parts _ _ e).0).1) (or_parts _ _ e).1)
@@ -231,13 +250,17 @@ module _ {W : Type 0} (model : FaultModel W) (boot : Boot) (starts : List (ChipS
   dark_turns (session ∷ turns) course dark =
       let idle : is_idle boot.partitions (sizes_of boot starts) course session ≡ true =
       ap (λ (b : Bool). b || is_some (unattached course)
-      || (is_none (pending_chip course session) && not (can_begin boot.partitions course (next_op (sizes_of boot starts) (session_run course session))))) dark in
-      let stays : turn_step model boot (sizes_of boot starts) course session ≡ course = ap (λ (b : Bool). turn_unless model boot b (sizes_of boot starts) course session) idle in
-      ap (λ (b : Bool). length ((if b then [] else session ∷ []) ++ busy_turns model boot starts turns (turn_step model boot (sizes_of boot starts) course session))) idle
+      || (is_none (pending_chip course session) && not (can_begin boot.partitions course (next_op (sizes_of boot starts) (session_run course session))))) dark
+      in
+      let stays : turn_step model boot (sizes_of boot starts) course session ≡ course =
+      ap (λ (b : Bool). turn_unless model boot b (sizes_of boot starts) course session) idle in
+      ap (λ (b : Bool). length ((if b then [] else session ∷ []) ++ busy_turns model boot starts turns
+      (turn_step model boot (sizes_of boot starts) course session))) idle
       ∙ dark_turns turns (turn_step model boot (sizes_of boot starts) course session) (ap (λ (c : Course W). c.dark) stays ∙ dark)
 
   -- the turns that do anything take what is left
-  pub turns_taken_few : HaveOneNumberEach boot.sessions → (turns : List ℕ) (course : Course W) → IsLive model boot starts course → EachGood (sizes_of boot starts) course.sessions
+  pub turns_taken_few : HaveOneNumberEach boot.sessions → (turns : List ℕ) (course : Course W) → IsLive model boot starts course
+      → EachGood (sizes_of boot starts) course.sessions
       → length (busy_turns model boot starts turns course) + all_used course.chips ≤ 8 * all_left (sizes_of boot starts) course.sessions + 7 * length starts
   turns_taken_few one [] course live good = omega (arith, all_use course live)
   turns_taken_few one (session ∷ turns) course live good =
@@ -260,7 +283,8 @@ module _ {W : Type 0} (model : FaultModel W) (boot : Boot) (starts : List (ChipS
       by_step holds later (Darkens dark less) = omega (arith, dark_turns turns next dark, less)
 
       by_idle : (b : Bool) → is_idle boot.partitions (sizes_of boot starts) course session ≡ b → Holds model boot starts next → Later
-          → Few (length ((if is_idle boot.partitions (sizes_of boot starts) course session then [] else session ∷ []) ++ busy_turns model boot starts turns next))
+          → Few (length ((if is_idle boot.partitions (sizes_of boot starts) course session then [] else session ∷ []) ++ busy_turns model boot starts turns
+          next))
       by_idle true e holds later =
           let stays : next ≡ course = ap (λ (b : Bool). turn_unless model boot b (sizes_of boot starts) course session) e in
           subst (λ (b : Bool). Few (length ((if b then [] else session ∷ []) ++ busy_turns model boot starts turns next))) (sym e)

@@ -6,8 +6,8 @@ ghost use Rattle.run_model.specs.Run.{HaveOneNumberEach};
 ghost use Rattle.cost_laws.specs.Cost.{CanRunBoot};
 ghost use Rattle.cost_laws.specs.Laws.{BusyTurnsAreFew, EventsAreTurns, HaveNoTables, AttachesReadBlocks};
 
-/// A boot of commands that can be run ends, where each session has one number: whatever the turns, few of them do anything, and each does at most one event. An attach of chips without
-/// tables on flash has at most an event for each block.
+/// A boot of commands that can be run ends, where each session has one number: whatever the turns, few of them do anything, and each does at most
+/// one event. An attach of chips without tables on flash has at most an event for each block.
 pub fn courses_end<W>()
     ensures turns { (model : FaultModel W) (boot : Boot) (starts : List (ChipState W)) (attaches : ℕ) (turns : List ℕ) →
         CanRunBoot boot starts → HaveOneNumberEach boot.sessions → BusyTurnsAreFew model boot starts attaches turns }

@@ -24,7 +24,8 @@ use Rattle.session_steps.specs.Mirrors.{CanAllRun, IsPlaced, Shows, Mirrors}
 use Rattle.session_steps.proofs.Steps.{first_is, shows_put_down, shows_begun, shows_reply, shows_op}
 
 -- a first step that is no operation is none of a command that can be run
-pub starts_with_op : (g : Geometry) (command : Command) (script : Script) (step : Step) → CanRun g command → script ≡ script_of g command → step ≡ step_of (next_in script) → step ≡ Finished → ⊥
+pub starts_with_op : (g : Geometry) (command : Command) (script : Script) (step : Step) → CanRun g command → script ≡ script_of g command
+    → step ≡ step_of (next_in script) → step ≡ Finished → ⊥
 starts_with_op g command script step runs e s f = by_next (next_in script) (ap next_in e) s
   where
     by_next : (next : Next) → next ≡ next_step g command [] → step ≡ step_of next → ⊥
@@ -36,10 +37,15 @@ starts_with_op g command script step runs e s f = by_next (next_in script) (ap n
 
 -- a session with no last reply stands alone
 pub stands_alone : (notes : List Note) (s : Session) → s.last ≡ None → standing notes s ≡ standing_alone s
-stands_alone notes s e = ap (λ (last : Option ℕ). record { number = s.number; script = script_after (reply_at notes last) s.tool; outcomes = s.outcomes.items }) e
+stands_alone notes s e = ap (λ (last : Option ℕ). record {
+  number = s.number;
+  script = script_after (reply_at notes last) s.tool;
+  outcomes = s.outcomes.items;
+}) e
 
 -- commands of which there is no first one are finished
-pub none_left : (first : Option (Bor Command)) (commands : List Command) (over : Bool) → option_copied first ≡ slice_get commands 0 → is_some first ≡ not over → over ≡ is_finished commands
+pub none_left : (first : Option (Bor Command)) (commands : List Command) (over : Bool) → option_copied first ≡ slice_get commands 0 → is_some first ≡ not over
+    → over ≡ is_finished commands
 none_left None [] true e h = refl
 none_left None [] false e h = cc
 none_left None (command ∷ commands) over e h = cc
@@ -63,10 +69,12 @@ place_of : (st alone put : Standing) (place : ℕ) → alone ≡ st → put ≡ 
 place_of st alone put place a p n = n ∙ ap (λ (x : Standing). length x.outcomes) p ∙ ap (λ (x : Standing). length (outcomes_by x)) a
 
 -- the next command, as it is looked up after the last one is put down
-pub next_there : (commands : List Command) (P : Command → Type 0) (st alone put : Standing) (place : ℕ) (command : Command) → alone ≡ st → put ≡ put_down alone → place ≡ length put.outcomes
+pub next_there : (commands : List Command) (P : Command → Type 0) (st alone put : Standing) (place : ℕ) (command : Command) → alone ≡ st
+    → put ≡ put_down alone → place ≡ length put.outcomes
     → First P (commands_by commands st) → slice_get commands place ≡ Some command → P command
 next_there commands P st alone put place command a p n first there =
-    (first_is P (length (outcomes_by st)) commands command first (subst (λ (k : ℕ). slice_get commands k ≡ Some command) (place_of st alone put place a p n) there)).2
+    (first_is P (length (outcomes_by st)) commands command first (subst (λ (k : ℕ). slice_get commands k ≡ Some command)
+    (place_of st alone put place a p n) there)).2
 
 -- an item stays at its place where others are added
 get_before : (notes more : List Note) (place : ℕ) → place < length notes → slice_get (notes ++ more) place ≡ slice_get notes place
@@ -85,7 +93,8 @@ same_reply notes more (Some place) h = ap reply_in (get_before notes more place 
 
 module _ (sizes : Command → Geometry) (commands : List Command) where
   -- a session with no last reply mirrors what it shows
-  pub mirrors_alone : (notes : List Note) (s : Session) (run : SessionRun) → CanAllRun sizes commands → s.last ≡ None → Shows sizes commands (standing_alone s) run → Mirrors sizes commands notes s run
+  pub mirrors_alone : (notes : List Note) (s : Session) (run : SessionRun) → CanAllRun sizes commands → s.last ≡ None
+      → Shows sizes commands (standing_alone s) run → Mirrors sizes commands notes s run
   mirrors_alone notes s run runnable e shows = record {
     runnable = runnable;
     placed = subst (IsPlaced (length notes)) (sym e) tt;
@@ -93,7 +102,8 @@ module _ (sizes : Command → Geometry) (commands : List Command) where
   }
 
   -- the tool of a session that waits gets a reply
-  reply_taken : (number : ℕ) (outcomes : List Outcome) (tool : Option Tool) (reply : Reply) (run : SessionRun) → CanAllRun sizes commands → IsAsking (script_after None tool)
+  reply_taken : (number : ℕ) (outcomes : List Outcome) (tool : Option Tool) (reply : Reply) (run : SessionRun) → CanAllRun sizes commands
+      → IsAsking (script_after None tool)
       → Shows sizes commands (record { number = number; script = script_after None tool; outcomes = outcomes }) run
       → Shows sizes commands (record { number = number; script = script_after (Some reply) tool; outcomes = outcomes }) (with_reply sizes reply run)
   reply_taken number outcomes None reply run runnable asks shows = absurd asks
@@ -101,10 +111,12 @@ module _ (sizes : Command → Geometry) (commands : List Command) where
     where
       by_script : (script : Script) → left_of tool ≡ script → IsAsking (Some script)
           → Shows sizes commands (record { number = number; script = Some script; outcomes = outcomes }) run
-          → Shows sizes commands (record { number = number; script = Some (after_last (Some reply) (left_of tool)); outcomes = outcomes }) (with_reply sizes reply run)
+          → Shows sizes commands (record { number = number; script = Some (after_last (Some reply) (left_of tool)); outcomes = outcomes })
+          (with_reply sizes reply run)
       by_script (End outcome) e asks shows = absurd asks
       by_script (Ask op go_on) e asks shows =
-          subst (λ (script : Script). Shows sizes commands (record { number = number; script = Some (after_last (Some reply) script); outcomes = outcomes }) (with_reply sizes reply run)) (sym e)
+          subst (λ (script : Script). Shows sizes commands (record { number = number; script = Some (after_last (Some reply) script); outcomes = outcomes })
+          (with_reply sizes reply run)) (sym e)
           (shows_reply sizes commands number outcomes op go_on run reply runnable shows)
 
   pub mirrors_reply : (notes later : List Note) (s : Session) (run : SessionRun) (session : ℕ) (reply : Reply) (place : ℕ)
@@ -113,24 +125,31 @@ module _ (sizes : Command → Geometry) (commands : List Command) where
   mirrors_reply notes later s run session reply place mirrors waits there = record {
     runnable = mirrors.runnable;
     placed = slice_get_within later place (Answered session reply) there;
-    shows = subst (λ (r : Option Reply). Shows sizes commands (record { number = s.number; script = script_after r s.tool; outcomes = s.outcomes.items }) (with_reply sizes reply run))
+    shows = subst (λ (r : Option Reply). Shows sizes commands (record { number = s.number; script = script_after r s.tool; outcomes = s.outcomes.items })
+        (with_reply sizes reply run))
         (sym (ap reply_in there))
-        (reply_taken s.number s.outcomes.items s.tool reply run mirrors.runnable waits.1 (subst (λ (st : Standing). Shows sizes commands st run) (stands_alone notes s waits.0) mirrors.shows));
+        (reply_taken s.number s.outcomes.items s.tool reply run mirrors.runnable waits.1
+        (subst (λ (st : Standing). Shows sizes commands st run) (stands_alone notes s waits.0) mirrors.shows));
   }
 
   -- the next command is begun after the last one is put down
-  pub next_begun : (st alone put : Standing) (run : SessionRun) (g : Geometry) (place : ℕ) (command : Command) → alone ≡ st → put ≡ put_down alone → place ≡ length put.outcomes
-      → Shows sizes commands st run → op_asked st.script ≡ None → First (λ c. sizes c ≡ g) run.commands → CanRun g command → slice_get commands place ≡ Some command
+  pub next_begun : (st alone put : Standing) (run : SessionRun) (g : Geometry) (place : ℕ) (command : Command) → alone ≡ st → put ≡ put_down alone
+      → place ≡ length put.outcomes
+      → Shows sizes commands st run → op_asked st.script ≡ None → First (λ c. sizes c ≡ g) run.commands → CanRun g command
+      → slice_get commands place ≡ Some command
       → Shows sizes commands (begun (script_of g command) put) run
   next_begun st alone put run g place command a p n shows none sized runs there =
       subst (λ (x : Standing). Shows sizes commands (begun (script_of g command) x) run) (sym (p ∙ ap put_down a))
-      (shows_begun sizes commands st run g command shows (between st.script none) sized runs (subst (λ (k : ℕ). slice_get commands k ≡ Some command) (place_of st alone put place a p n) there))
+      (shows_begun sizes commands st run g command shows (between st.script none) sized runs
+      (subst (λ (k : ℕ). slice_get commands k ≡ Some command) (place_of st alone put place a p n) there))
 
   -- the session mirrors the same run whether or not its next command was begun
-  pub next_mirrors : {A E : Type 0} (result : Result A E) (notes : List Note) (old mid new : Session) (run : SessionRun) (g : Geometry) (place : ℕ) (command : Command) (alone : Standing)
+  pub next_mirrors : {A E : Type 0} (result : Result A E) (notes : List Note) (old mid new : Session) (run : SessionRun) (g : Geometry) (place : ℕ)
+      (command : Command) (alone : Standing)
       → Mirrors sizes commands notes old run → alone ≡ standing notes old → standing_alone mid ≡ put_down alone → place ≡ length mid.outcomes.items
       → op_asked (standing notes old).script ≡ None → First (λ c. sizes c ≡ g) run.commands → CanRun g command → slice_get commands place ≡ Some command
-      → OnOk result (standing_alone new ≡ begun (script_of g command) (standing_alone mid)) → OnErr result (standing_alone new ≡ standing_alone mid) → new.last ≡ None
+      → OnOk result (standing_alone new ≡ begun (script_of g command) (standing_alone mid)) → OnErr result (standing_alone new ≡ standing_alone mid)
+      → new.last ≡ None
       → Mirrors sizes commands notes new run
   next_mirrors (Ok x) notes old mid new run g place command alone mirrors a p n none sized runs there ok err last =
       mirrors_alone notes new run mirrors.runnable last (subst (λ (st : Standing). Shows sizes commands st run) (sym ok)
@@ -145,7 +164,8 @@ module _ (sizes : Command → Geometry) (commands : List Command) where
       subst (CanAllRun sizes) (sym mirrors.shows.left) (All-drop (λ c. CanRun (sizes c) c) (length (outcomes_by (standing notes s))) commands mirrors.runnable)
 
   -- the next command can be run with its own sizes
-  pub next_runs : (notes : List Note) (s : Session) (run : SessionRun) (g : Geometry) → Mirrors sizes commands notes s run → First (λ c. sizes c ≡ g) run.commands
+  pub next_runs : (notes : List Note) (s : Session) (run : SessionRun) (g : Geometry) → Mirrors sizes commands notes s run
+      → First (λ c. sizes c ≡ g) run.commands
       → First (CanRun g) (commands_by commands (standing notes s))
   next_runs notes s run g mirrors sized = subst (First (CanRun g)) mirrors.shows.left (by_commands run.commands (left_runs notes s run mirrors) sized)
     where
@@ -154,7 +174,8 @@ module _ (sizes : Command → Geometry) (commands : List Command) where
       by_commands (command ∷ left) h sized = subst (λ (k : Geometry). CanRun k command) sized (h 0 command (omega arith))
 
   -- a session mirrors the same run where notes are added
-  pub mirrors_later : (notes more : List Note) (s : Session) (run : SessionRun) → Mirrors sizes commands notes s run → Mirrors sizes commands (notes ++ more) s run
+  pub mirrors_later : (notes more : List Note) (s : Session) (run : SessionRun) → Mirrors sizes commands notes s run
+      → Mirrors sizes commands (notes ++ more) s run
   mirrors_later notes more s run mirrors = record {
     runnable = mirrors.runnable;
     placed = placed_later notes more s.last mirrors.placed;
@@ -163,7 +184,8 @@ module _ (sizes : Command → Geometry) (commands : List Command) where
   }
 
 -- the operation with which the next command begins is the next one of the session of the course
-pub next_op_if : {E : Type 0} (result : Result Op E) (commands : List Command) (notes : List Note) (old : Session) (alone put : Standing) (g : Geometry) (place : ℕ) (command : Command)
+pub next_op_if : {E : Type 0} (result : Result Op E) (commands : List Command) (notes : List Note) (old : Session) (alone put : Standing) (g : Geometry)
+    (place : ℕ) (command : Command)
     → alone ≡ standing notes old → put ≡ put_down alone → place ≡ length put.outcomes
     → op_asked (standing notes old).script ≡ None → CanRun g command → slice_get commands place ≡ Some command
     → IfOk result (λ op. op_asked (Some (script_of g command)) ≡ Some op)

@@ -55,14 +55,18 @@ module _ (g : Geometry) (unit : List ℕ) (dev : ℕ) (page_long : length unit �
   write_raw : (left block skipped failed : ℕ) → AsksRaw g (write_blocks g (raw_write dev) left block 0 (unit ∷ []) (unwritten skipped failed))
   write_raw zero block skipped failed = tt
   write_raw (suc left) block skipped failed =
-      let Raw : Reply → Script → Type 0 = λ r s. AsksRaw g (if says_bad r then later_blocks g unit dev block left (skipped + 1) failed else s) in
-      (tt, λ r. subst (Raw r) (sym (write_pages-one g unit dev block left skipped failed)) (scanned_raw (says_bad r) block left skipped failed (λ s f. write_raw left (block + 1) s f)))
+      let Raw : Reply → Script → Type 0 = λ r s. AsksRaw g (if says_bad r then later_blocks g unit dev block left (skipped + 1) failed else s) in (
+        tt,
+        λ r. subst (Raw r) (sym (write_pages-one g unit dev block left skipped failed))
+            (scanned_raw (says_bad r) block left skipped failed (λ s f. write_raw left (block + 1) s f)),
+      )
 
 first_raw : (g : Geometry) (command : Command) → CanRun g command → AsksRaw g (first_script g command)
 first_raw g (FlashErase dev blocks no_scan start count) h = erase_raw g dev (suc (blocks - 1)) 0 0 0 0
 first_raw g (NandWrite dev blocks mark raw oob pad off bytes) h =
     write_raw g (bytes ++ replicate (g.page - length bytes) 0xff) dev
-    (omega (arith, length-append bytes (replicate (g.page - length bytes) 0xff), length-replicate {A = ℕ} (g.page - length bytes) 0xff, h.one)) (suc (blocks - 1)) 0 0 0
+    (omega (arith, length-append bytes (replicate (g.page - length bytes) 0xff), length-replicate {A = ℕ} (g.page - length bytes) 0xff, h.one))
+    (suc (blocks - 1)) 0 0 0
 first_raw g (NandDump dev blocks off len raw oob bad) h = (tt, λ r. tt)
 first_raw g (NandTest dev blocks keep mark seed passes off len) h = absurd h
 first_raw g (MarkBad dev blocks block) h = absurd h
@@ -80,7 +84,8 @@ own_later dev (r ∷ replies) (End outcome) h = tt
 own_later dev (r ∷ replies) (Ask op go_on) h = own_later dev replies (go_on r) (h.1 r)
 
 -- the next operation of a script
-asked_raw : (g : Geometry) (dev : ℕ) (script : Script) (op : Op) → AsksOnly dev script → AsksRaw g script → op_of_next (next_in script) ≡ Some op → (device_of op ≡ dev) × IsRaw g op
+asked_raw : (g : Geometry) (dev : ℕ) (script : Script) (op : Op) → AsksOnly dev script → AsksRaw g script → op_of_next (next_in script) ≡ Some op
+    → (device_of op ≡ dev) × IsRaw g op
 asked_raw g dev (End outcome) op own raw e = cc
 asked_raw g dev (Ask other go_on) op own raw e = subst (λ (o : Op). (device_of o ≡ dev) × IsRaw g o) (same other e) (own.0, raw.0)
   where

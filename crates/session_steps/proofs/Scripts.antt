@@ -20,13 +20,15 @@ abbrev pub within : ℕ → List Command → List Reply → List Outcome → Ses
 within number commands replies outcomes = record { number = number; commands = commands; replies = replies; outcomes = outcomes }
 
 -- a command that asks for an operation is not finished
-pub not_finished : (sizes : Command → Geometry) (number : ℕ) (command : Command) (commands : List Command) (replies : List Reply) (outcomes : List Outcome) (op : Op)
+pub not_finished : (sizes : Command → Geometry) (number : ℕ) (command : Command) (commands : List Command) (replies : List Reply) (outcomes : List Outcome)
+    (op : Op)
     → next_step (sizes command) command replies ≡ Do op
     → without_finished sizes number (command ∷ commands) replies outcomes ≡ within number (command ∷ commands) replies outcomes
 not_finished sizes number command commands replies outcomes op e = rw e refl
 
 -- a command that is over is taken out
-pub one_finished : (sizes : Command → Geometry) (number : ℕ) (command : Command) (commands : List Command) (replies : List Reply) (outcomes : List Outcome) (outcome : Outcome)
+pub one_finished : (sizes : Command → Geometry) (number : ℕ) (command : Command) (commands : List Command) (replies : List Reply) (outcomes : List Outcome)
+    (outcome : Outcome)
     → next_step (sizes command) command replies ≡ Over outcome
     → without_finished sizes number (command ∷ commands) replies outcomes ≡ without_finished sizes number commands [] (outcomes ++ outcome ∷ [])
 one_finished sizes number command commands replies outcomes outcome e = rw e refl

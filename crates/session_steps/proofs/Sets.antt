@@ -46,7 +46,8 @@ same-prop (Ask o f) (End b) = hlevel props
 same-prop (Ask o f) (Ask p g) = ×_prop (Op-set o p) (Π_prop (λ r. same-prop (f r) (g r)))
 
 pub Script-set : IsSet Script
-Script-set = collapsible→set (λ x y p. same-eq x y (subst (Same x) p (same_script x))) (λ x y p q. ap (same-eq x y) (same-prop x y (subst (Same x) p (same_script x)) (subst (Same x) q (same_script x))))
+Script-set = collapsible→set (λ x y p. same-eq x y (subst (Same x) p (same_script x)))
+    (λ x y p q. ap (same-eq x y) (same-prop x y (subst (Same x) p (same_script x)) (subst (Same x) q (same_script x))))
 
 -- that a command can be run is a proposition
 CanRun-prop : (g : Geometry) (command : Command) → IsProp (CanRun g command)
@@ -58,7 +59,8 @@ CanRun-prop g (MarkBad dev blocks block) = hlevel props
 CanRun-prop g (IsBad dev blocks block) = hlevel props
 CanRun-prop g (Stats dev blocks) = hlevel props
 
-GoesOn-prop : (sizes : Command → Geometry) (commands : List Command) (replies : List Reply) (script : Option Script) → IsProp (GoesOn sizes commands replies script)
+GoesOn-prop : (sizes : Command → Geometry) (commands : List Command) (replies : List Reply) (script : Option Script)
+    → IsProp (GoesOn sizes commands replies script)
 GoesOn-prop sizes commands replies None = hlevel props
 GoesOn-prop sizes commands replies (Some (End outcome)) = hlevel props
 GoesOn-prop sizes [] replies (Some (Ask op go_on)) = hlevel props
@@ -72,5 +74,6 @@ Shows-prop : (sizes : Command → Geometry) (commands : List Command) (st : Stan
 Shows-prop sizes commands st run = hlevel (props, GoesOn-prop)
 
 -- that a session mirrors one of a course is a proposition
-pub Mirrors-prop : (sizes : Command → Geometry) (commands : List Command) (notes : List Note) (s : Session) (run : SessionRun) → IsProp (Mirrors sizes commands notes s run)
+pub Mirrors-prop : (sizes : Command → Geometry) (commands : List Command) (notes : List Note) (s : Session) (run : SessionRun)
+    → IsProp (Mirrors sizes commands notes s run)
 Mirrors-prop sizes commands notes s run = hlevel (props, CanRun-prop, IsPlaced-prop, Shows-prop)

@@ -43,7 +43,8 @@ module _ (sizes : Command → Geometry) (commands : List Command) where
   }
 
   -- the script of a command that can be run asks for an operation
-  script_asks : (g : Geometry) (command : Command) → CanRun g command → (script : Script) → script_of g command ≡ script → (op : Op) × (go_on : Reply → Script) × (script ≡ Ask op go_on)
+  script_asks : (g : Geometry) (command : Command) → CanRun g command → (script : Script) → script_of g command ≡ script
+      → (op : Op) × (go_on : Reply → Script) × (script ≡ Ask op go_on)
   script_asks g command h (Ask op go_on) e = (op, go_on, refl)
   script_asks g command h (End outcome) e =
       let over : is_over (next_step g command []) ≡ true = ap (λ (s : Script). is_over (next_in s)) e in
@@ -53,13 +54,16 @@ module _ (sizes : Command → Geometry) (commands : List Command) where
       true-not-false e = cc
 
   -- a session at its start
-  pub shows_new : (number : ℕ) → CanAllRun sizes commands → Shows sizes commands (record { number = number; script = None; outcomes = [] }) (without_finished sizes number commands [] [])
-  shows_new number runnable = subst (Shows sizes commands (record { number = number; script = None; outcomes = [] })) (sym (none_finished sizes number commands [] runnable))
+  pub shows_new : (number : ℕ) → CanAllRun sizes commands → Shows sizes commands (record { number = number; script = None; outcomes = [] })
+      (without_finished sizes number commands [] [])
+  shows_new number runnable = subst (Shows sizes commands (record { number = number; script = None; outcomes = [] }))
+      (sym (none_finished sizes number commands [] runnable))
       (record { number = refl; outcomes = refl; left = refl; goes_on = refl })
 
   -- the first command is begun
   begins : (run : SessionRun) (number : ℕ) (outcomes : List Outcome) (command : Command) (rest : List Command) (op : Op) (go_on : Reply → Script)
-      → run.number ≡ number → run.outcomes ≡ outcomes ++ [] → run.commands ≡ drop (length (outcomes ++ [])) commands → run.replies ≡ [] → run.commands ≡ command ∷ rest
+      → run.number ≡ number → run.outcomes ≡ outcomes ++ [] → run.commands ≡ drop (length (outcomes ++ [])) commands → run.replies ≡ []
+      → run.commands ≡ command ∷ rest
       → script_of (sizes command) command ≡ Ask op go_on
       → Shows sizes commands (record { number = number; script = Some (Ask op go_on); outcomes = outcomes }) run
   begins run number outcomes command rest op go_on n o l r first asks = record {
@@ -101,15 +105,19 @@ module _ (sizes : Command → Geometry) (commands : List Command) where
       → Shows sizes commands (at number outcomes (End outcome)) (without_finished sizes run.number (command ∷ rest) (run.replies ++ reply ∷ []) run.outcomes)
   reply_ends number outcomes run reply command rest outcome runnable n o l over =
       let same : run.outcomes ≡ outcomes = o ∙ append-nil outcomes in
-      let one_more : suc (length (outcomes ++ [])) ≡ length (outcomes ++ outcome ∷ []) = omega (arith, length-append outcomes [], length-append outcomes (outcome ∷ [])) in
+      let one_more : suc (length (outcomes ++ [])) ≡ length (outcomes ++ outcome ∷ []) =
+      omega (arith, length-append outcomes [], length-append outcomes (outcome ∷ [])) in
       let later : rest ≡ drop (length (outcomes ++ outcome ∷ [])) commands = drop_first _ commands command rest l ∙ ap (λ (k : ℕ). drop k commands) one_more in
-      let run_on : CanAllRun sizes rest = subst (CanAllRun sizes) (sym later) (All-drop (λ c. CanRun (sizes c) c) (length (outcomes ++ outcome ∷ [])) commands runnable) in
+      let run_on : CanAllRun sizes rest = subst (CanAllRun sizes) (sym later) (All-drop (λ c. CanRun (sizes c) c)
+      (length (outcomes ++ outcome ∷ [])) commands runnable) in
       subst (Shows sizes commands (at number outcomes (End outcome)))
-      (sym (one_finished sizes run.number command rest (run.replies ++ reply ∷ []) run.outcomes outcome over ∙ none_finished sizes run.number rest (run.outcomes ++ outcome ∷ []) run_on))
+      (sym (one_finished sizes run.number command rest (run.replies ++ reply ∷ []) run.outcomes outcome over
+      ∙ none_finished sizes run.number rest (run.outcomes ++ outcome ∷ []) run_on))
       (record { number = n; outcomes = ap (λ (os : List Outcome). os ++ outcome ∷ []) same; left = later; goes_on = refl })
 
   -- the command asks for more
-  reply_goes_on : (number : ℕ) (outcomes : List Outcome) (run : SessionRun) (reply : Reply) (command : Command) (rest : List Command) (op : Op) (go_on : Reply → Script)
+  reply_goes_on : (number : ℕ) (outcomes : List Outcome) (run : SessionRun) (reply : Reply) (command : Command) (rest : List Command) (op : Op)
+      (go_on : Reply → Script)
       → run.number ≡ number → run.outcomes ≡ outcomes ++ [] → command ∷ rest ≡ drop (length (outcomes ++ [])) commands
       → Ask op go_on ≡ after_replies (run.replies ++ reply ∷ []) (script_of (sizes command) command)
       → Shows sizes commands (at number outcomes (Ask op go_on)) (without_finished sizes run.number (command ∷ rest) (run.replies ++ reply ∷ []) run.outcomes)
@@ -126,22 +134,28 @@ module _ (sizes : Command → Geometry) (commands : List Command) where
       by_script : (command : Command) (rest : List Command) → run.commands ≡ command ∷ rest → (script : Script)
           → script ≡ after_replies (run.replies ++ reply ∷ []) (script_of (sizes command) command)
           → Shows sizes commands (at number outcomes script) (without_finished sizes run.number (command ∷ rest) (run.replies ++ reply ∷ []) run.outcomes)
-      by_script command rest e (End outcome) s = reply_ends number outcomes run reply command rest outcome runnable shows.number shows.outcomes (sym e ∙ shows.left) (ap next_in (sym s))
-      by_script command rest e (Ask next more) s = reply_goes_on number outcomes run reply command rest next more shows.number shows.outcomes (sym e ∙ shows.left) s
+      by_script command rest e (End outcome) s = reply_ends number outcomes run reply command rest outcome runnable shows.number shows.outcomes
+          (sym e ∙ shows.left) (ap next_in (sym s))
+      by_script command rest e (Ask next more) s = reply_goes_on number outcomes run reply command rest next more shows.number shows.outcomes
+          (sym e ∙ shows.left) s
 
-      by_commands : (left : List Command) → run.commands ≡ left → GoesOn sizes left run.replies (Some (Ask op go_on)) → Shows sizes commands (at number outcomes (go_on reply)) (with_reply sizes reply run)
+      by_commands : (left : List Command) → run.commands ≡ left → GoesOn sizes left run.replies (Some (Ask op go_on))
+          → Shows sizes commands (at number outcomes (go_on reply)) (with_reply sizes reply run)
       by_commands [] e g = absurd g
       by_commands (command ∷ rest) e g =
           let script : go_on reply ≡ after_replies (run.replies ++ reply ∷ []) (script_of (sizes command) command) =
           ap (after_replies (reply ∷ [])) g ∙ sym (after_replies-append run.replies (reply ∷ []) (script_of (sizes command) command)) in
-          subst (λ (cs : List Command). Shows sizes commands (at number outcomes (go_on reply)) (without_finished sizes run.number cs (run.replies ++ reply ∷ []) run.outcomes)) (sym e)
+          subst (λ (cs : List Command). Shows sizes commands (at number outcomes (go_on reply))
+          (without_finished sizes run.number cs (run.replies ++ reply ∷ []) run.outcomes)) (sym e)
           (by_script command rest e (go_on reply) script)
 
   -- the operation that a session asks for is the next one of the session of the course
-  pub shows_op : (st : Standing) (run : SessionRun) (op : Op) → Shows sizes commands st run → op_asked st.script ≡ Some op → next_op_of sizes run.commands run.replies ≡ Some op
+  pub shows_op : (st : Standing) (run : SessionRun) (op : Op) → Shows sizes commands st run → op_asked st.script ≡ Some op
+      → next_op_of sizes run.commands run.replies ≡ Some op
   shows_op st run op shows e = by_script st.script run.commands e shows.goes_on
     where
-      by_script : (script : Option Script) (left : List Command) → op_asked script ≡ Some op → GoesOn sizes left run.replies script → next_op_of sizes left run.replies ≡ Some op
+      by_script : (script : Option Script) (left : List Command) → op_asked script ≡ Some op → GoesOn sizes left run.replies script
+          → next_op_of sizes left run.replies ≡ Some op
       by_script None left e g = cc
       by_script (Some (End outcome)) left e g = cc
       by_script (Some (Ask other go_on)) [] e g = absurd g

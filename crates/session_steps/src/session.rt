@@ -104,7 +104,7 @@ impl Session {
         self.last = Some(at);
     }
 
-    /// The end of the session, with the outcomes of all finished commands.
+    /// The end of the session, with the outcomes of all finished commands; `cut` tells that others were left. Err comes for want of memory alone.
     pub fn finish(self, notes: &History, cut: bool) -> Result<SessionEnd, AllocError>
         ensures { IfOk result (λ ended. ended ≡ end_of cut (standing notes.now.notes self)) }
     {

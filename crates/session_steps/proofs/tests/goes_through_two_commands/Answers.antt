@@ -50,8 +50,10 @@ module _ (g : Geometry) (page : g.page ≡ 2048) where
   one_left : (replies : List Reply) → First (λ c. sizes c ≡ g) (without_finished sizes 7 (asking ∷ dumping ∷ []) replies []).commands
   one_left replies = by_next (next_step g asking replies) refl
     where
-      by_next : (next : Next) → next_step g asking replies ≡ next → First (λ c. sizes c ≡ g) (without_finished sizes 7 (asking ∷ dumping ∷ []) replies []).commands
-      by_next (Do op) e = subst (λ (run : SessionRun). First (λ c. sizes c ≡ g) run.commands) (sym (not_finished sizes 7 asking (dumping ∷ []) replies [] op e)) refl
+      by_next : (next : Next) → next_step g asking replies ≡ next → First (λ c. sizes c ≡ g)
+          (without_finished sizes 7 (asking ∷ dumping ∷ []) replies []).commands
+      by_next (Do op) e = subst (λ (run : SessionRun). First (λ c. sizes c ≡ g) run.commands)
+          (sym (not_finished sizes 7 asking (dumping ∷ []) replies [] op e)) refl
       by_next (Over outcome) e =
           subst (λ (run : SessionRun). First (λ c. sizes c ≡ g) run.commands)
           (sym (one_finished sizes 7 asking (dumping ∷ []) replies [] outcome e ∙ none_finished sizes 7 (dumping ∷ []) (outcome ∷ []) only)) refl
@@ -67,7 +69,8 @@ module _ (g : Geometry) (page : g.page ≡ 2048) where
     at_first = subst (λ (cs : List Command). First (λ c. sizes c ≡ g) (without_finished sizes 7 cs [] []).commands) (sym are) refl
 
     later : (reply : Reply) → First (λ c. sizes c ≡ g) (with_reply sizes reply run).commands
-    later reply = subst (λ (cs : List Command). First (λ c. sizes c ≡ g) (with_reply sizes reply (without_finished sizes 7 cs [] [])).commands) (sym are) (one_left (reply ∷ []))
+    later reply = subst (λ (cs : List Command). First (λ c. sizes c ≡ g) (with_reply sizes reply (without_finished sizes 7 cs [] [])).commands) (sym are)
+        (one_left (reply ∷ []))
 
 pub next_op-requires : goal.next_op-requires
 next_op-requires g c =
@@ -97,5 +100,7 @@ next_op-requires-3 g c =
     let new = c.new-session.ensures (sizes k page) cs c.new-notes.result.notes (runnable k page cs are) in
     let again = c.next_op.ensures.mirrors (sizes k page) (run k page cs are) new (at_first k page cs are) in
     let waits = c.next_op-2.ensures.mirrors (sizes k page) (run k page cs are) again (at_first k page cs are) in
-    let answered = c.replied.ensures (sizes k page) cs c.new-notes.result.notes c.answered.new.notes.notes (run k page cs are) 7 (State 0) waits c.in_ok-again.ensures.waits c.in_ok-answered.ensures in
-    next_runs (sizes k page) cs c.answered.new.notes.notes c.replied.new.self (with_reply (sizes k page) (State 0) (run k page cs are)) k answered (later k page cs are (State 0))
+    let answered = c.replied.ensures (sizes k page) cs c.new-notes.result.notes c.answered.new.notes.notes (run k page cs are) 7
+    (State 0) waits c.in_ok-again.ensures.waits c.in_ok-answered.ensures in
+    next_runs (sizes k page) cs c.answered.new.notes.notes c.replied.new.self (with_reply (sizes k page) (State 0) (run k page cs are)) k answered
+    (later k page cs are (State 0))

@@ -9,6 +9,7 @@ pub returns : goal.returns
 returns c sizes commands notes runnable = record {
   runnable = runnable;
   placed = tt;
-  shows = subst (λ (outcomes : List Outcome). Shows sizes commands (record { number = c.args.number; script = None; outcomes = outcomes }) (without_finished sizes c.args.number commands [] []))
+  shows = subst (λ (outcomes : List Outcome). Shows sizes commands (record { number = c.args.number; script = None; outcomes = outcomes })
+      (without_finished sizes c.args.number commands [] []))
       (sym c.new.ensures.items) (shows_new sizes commands c.args.number runnable);
 }

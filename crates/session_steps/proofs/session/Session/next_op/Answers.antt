@@ -8,7 +8,8 @@ at_place : (c : goal.After-get) → c.len-place.result ≡ length c.put_outcome_
 at_place c = c.len-place.ensures ∙ c.put_outcome_down.new.self.outcomes.ok.0
 
 pub begin-requires : goal.begin-requires
-begin-requires c = next_there c.args.commands.now (CanRun c.args.g.now) _ _ _ c.len-place.result c.get.result.now c.in_ok-op.ensures.stands c.in_ok-put_outcome_down.ensures.put_down
+begin-requires c = next_there c.args.commands.now (CanRun c.args.g.now) _ _ _ c.len-place.result c.get.result.now c.in_ok-op.ensures.stands
+    c.in_ok-put_outcome_down.ensures.put_down
     (at_place c) c.requires c.get.ensures
 
 pub returns-clause-op : goal.returns-clause-op
@@ -17,7 +18,9 @@ returns-clause-op c = next_op_if c.begin.result c.args.commands.now c.args.notes
     (no_op c.in_ok-op.field-0 _ c.in_ok-op.ensures.op c.in_default.not-Some) (begin-requires c.before) c.get.ensures c.begin.ensures.op
 
 pub returns-clause-mirrors : goal.returns-clause-mirrors
-returns-clause-mirrors c sizes run mirrors sized = next_mirrors sizes c.args.commands.now c.begin.result c.args.notes.now.notes c.args.self.now c.put_outcome_down.new.self c.begin.new.self run c.args.g.now
+returns-clause-mirrors c sizes run mirrors sized = next_mirrors sizes c.args.commands.now c.begin.result c.args.notes.now.notes c.args.self.now
+    c.put_outcome_down.new.self c.begin.new.self run c.args.g.now
     c.len-place.result c.get.result.now _ mirrors c.in_ok-op.ensures.stands c.in_ok-put_outcome_down.ensures.put_down (at_place c.before)
-    (no_op c.in_ok-op.field-0 _ c.in_ok-op.ensures.op c.in_default.not-Some) sized (begin-requires c.before) c.get.ensures c.begin.ensures.begun c.begin.ensures.no_memory
+    (no_op c.in_ok-op.field-0 _ c.in_ok-op.ensures.op c.in_default.not-Some) sized
+    (begin-requires c.before) c.get.ensures c.begin.ensures.begun c.begin.ensures.no_memory
     (c.begin.ensures.last ∙ c.put_outcome_down.ensures.last ∙ c.in_ok-op.ensures.taken)
