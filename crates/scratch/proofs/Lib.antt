@@ -1,2 +1,0 @@
-mod NoReads
-mod Turns
