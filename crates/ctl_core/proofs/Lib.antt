@@ -14,3 +14,4 @@ pub mod PastSteps
 pub mod Limits
 pub mod CoreSteps
 pub mod FirstAndLast
+pub mod LastStates

@@ -1,0 +1,183 @@
+-- What is left of a course that is over, by what its controller keeps.
+use Rattle.std.proofs.Common.{◌≡◌, ◌<◌, ◌≤◌, ◌⊎◌, inl, inr, ◌+◌, ◌*◌, arith, ℕ, zero, suc, Bool, true, false, not, ◌&&◌, ◌||◌, List, [], ◌∷◌, ◌++◌, length, map, take, Option, Some, None, refl, ap, sym, ◌∙◌, subst, get_or, add-one, cond}
+use Rattle.std.specs.Prelude.{slice_get, find, option_map, ◌==◌, All, sum_by, is_none, is_some, count_by}
+use Rattle.std.specs.List.{list_all}
+use Rattle.std.proofs.lemmas.Bool.{and_parts}
+use Rattle.std.proofs.lemmas.List.{take_more}
+use Rattle.std.proofs.lemmas.List.Sums.{sum_by-cons, sum_by_push}
+use Rattle.std.proofs.lemmas.Option.{slice_get_within, slice_get-map, slice_get-get_or}
+use Rattle.nand_iface.specs.declared.flash.Flash.{Ghosts}
+use Rattle.nand_model.specs.declared.geometry.Geometry.{Geometry}
+use Rattle.nand_model.specs.declared.words.Command.{Command}
+use Rattle.nand_model.specs.declared.words.Op.{Op}
+use Rattle.nand_model.specs.declared.words.Reply.{Reply}
+use Rattle.nand_model.specs.declared.words.Part.{Part}
+use Rattle.nand_model.specs.declared.words.Stats.{Stats}
+use Rattle.nand_model.specs.Sizes.{numbers_from}
+use Rattle.nand_model.specs.Chip.{ChipState, FaultModel}
+use Rattle.nand_model.specs.Operation.{Partitions, Known}
+use Rattle.nand_model.specs.ChipRun.{ChipRun, Pending, bad_blocks, bad_blocks_in, table_now, table_during}
+use Rattle.nand_model.proofs.Bounds.{bounds_of}
+use Rattle.run_model.specs.Course.{Boot, Course, SessionRun, chip_of, end_states, is_over, is_finished, next_op_of}
+use Rattle.session_steps.specs.declared.session.Session.{Session}
+use Rattle.session_steps.specs.Ended.{EndOfSession}
+use Rattle.session_steps.specs.Standing.{standing, end_of}
+use Rattle.session_steps.specs.Mirrors.{Mirrors}
+use Rattle.chip_model.specs.Stage.{stage_by, stage_statistics, stage_table}
+use Rattle.ctl_core.specs.declared.bench.Bench.{Bench}
+use Rattle.ctl_core.specs.KeptChip.{KeptChip, kept_as, all_kept}
+use Rattle.ctl_core.specs.Past.{Past, starts_of, sizes_in, course_of}
+use Rattle.ctl_core.specs.Start.{CanStart, IsOnChip}
+use Rattle.ctl_core.specs.Ended.{end_of_run, statistics_known, statistics_on, statistics_at, device_numbers, device_statistics, all_bad_blocks, kept_state, kept_statistics_on, kept_statistics_at, kept_statistics, kept_bad_blocks}
+use Rattle.ctl_core.specs.Bench.{kept_slot, kept_chips, IsOnCourse}
+use Rattle.ctl_core.proofs.Places.{item_at}
+use Rattle.ctl_core.proofs.Positions.{mapped_length}
+use Rattle.ctl_core.proofs.Sessions.{one_number_each}
+use Rattle.ctl_core.proofs.Devices.{all_at, chip_stays}
+use Rattle.ctl_core.proofs.FirstAndLast.{true_at}
+use Rattle.ctl_core.proofs.OnCourse.{holds, slot_there}
+use Rattle.ctl_core.proofs.Pending.{pending_is_next}
+
+-- the numbers from one on, and one more
+pub one_number_more : (a n : ℕ) → numbers_from a (n + 1) ≡ numbers_from a n ++ (a + n) ∷ []
+one_number_more a n = ap (numbers_from a) (add-one n) ∙ later a n
+  where
+    later : (b m : ℕ) → numbers_from b (suc m) ≡ numbers_from b m ++ (b + m) ∷ []
+    later b zero = let same : b ≡ b + 0 = omega arith in ap (λ x. x ∷ []) same
+    later b (suc m) =
+        let same : (b + 1) + m ≡ b + suc m = omega arith in
+        ap (λ zs. b ∷ zs) (later (b + 1) m) ∙ ap (λ x. b ∷ numbers_from (b + 1) m ++ x ∷ []) same
+
+pub mapped_push : {A B : Type 0} (f : A → B) (xs : List A) (x : A) → map f (xs ++ x ∷ []) ≡ map f xs ++ f x ∷ []
+mapped_push f [] x = refl
+mapped_push f (y ∷ xs) x = ap (λ zs. f y ∷ zs) (mapped_push f xs x)
+
+-- one more item of a sum
+pub sum_more : {A B : Type 0} (g : B → ℕ) (f : A → B) (xs : List A) (i : ℕ) (x : A) → i < length xs → x ≡ get_or xs i x → sum_by g (map f (take (i + 1) xs)) ≡ sum_by g (map f (take i xs)) + g (f x)
+sum_more g f xs i x h is =
+    ap (λ zs. sum_by g (map f zs)) (take_more xs i x h) ∙ ap (sum_by g) (mapped_push f (take i xs) (get_or xs i x))
+    ∙ sum_by_push g (map f (take i xs)) (f (get_or xs i x)) ∙ ap (λ y. sum_by g (map f (take i xs)) + g (f y)) (sym is)
+
+-- lists whose items are alike
+pub same_mapped : {A B C : Type 0} (f : A → C) (g : B → C) (xs : List A) (ys : List B) → length xs ≡ length ys
+    → ((i : ℕ) (x : A) (y : B) → slice_get xs i ≡ Some x → slice_get ys i ≡ Some y → f x ≡ g y) → map f xs ≡ map g ys
+same_mapped f g [] [] l h = refl
+same_mapped f g [] (y ∷ ys) l h = absurd (omega (arith, l))
+same_mapped f g (x ∷ xs) [] l h = absurd (omega (arith, l))
+same_mapped f g (x ∷ xs) (y ∷ ys) l h = λ d. h zero x y refl refl d ∷ same_mapped f g xs ys (omega (arith, l)) (λ i a b e k. h (suc i) a b e k) d
+
+pub same_sums : {A B : Type 0} (f : A → B) (g : B → ℕ) (h : A → ℕ) (xs : List A) → ((i : ℕ) (x : A) → slice_get xs i ≡ Some x → g (f x) ≡ h x) → sum_by g (map f xs) ≡ sum_by h xs
+same_sums f g h [] same = refl
+same_sums f g h (x ∷ xs) same =
+    sum_by-cons g (f x) (map f xs) ∙ (λ d. same zero x refl d + same_sums f g h xs (λ i y e. same (suc i) y e) d) ∙ sym (sum_by-cons h x xs)
+
+pub few_blocks_of : (g : Geometry) → g.blocks ≤ 4096
+few_blocks_of g = (bounds_of g.page g.spare g.pages_per_block g.blocks g.t g.bbt g.threshold g.in_bounds).blocks_high
+
+states_kept : {W : Type 0} (partitions : Partitions) (chips : List (ChipRun W)) → map kept_state (all_kept partitions chips) ≡ map (λ c. c.chip) chips
+states_kept partitions [] = refl
+states_kept partitions (c ∷ chips) = ap (λ zs. c.chip ∷ zs) (states_kept partitions chips)
+
+statistics_by : {W : Type 0} (partitions : Partitions) (c : ChipRun W) (known : Option Known) (pending : Option Pending) (dev : ℕ) → stage_statistics (stage_by partitions c known pending) dev ≡ statistics_known known dev
+statistics_by partitions c None pending dev = refl
+statistics_by partitions c (Some known) None dev = refl
+statistics_by partitions c (Some known) (Some pending) dev = refl
+
+statistics_kept : {W : Type 0} (partitions : Partitions) (chips : List (ChipRun W)) (k dev : ℕ) → kept_statistics_on (slice_get (all_kept partitions chips) k) dev ≡ statistics_on (slice_get chips k) dev
+statistics_kept {W} partitions chips k dev = ap (λ (o : Option (KeptChip W)). kept_statistics_on o dev) (slice_get-map (kept_as partitions) chips k) ∙ by_place (slice_get chips k)
+  where
+    by_place : (o : Option (ChipRun W)) → kept_statistics_on (option_map (kept_as partitions) o) dev ≡ statistics_on o dev
+    by_place None = refl
+    by_place (Some c) = statistics_by partitions c c.known c.pending dev
+
+bad_by : {W : Type 0} (partitions : Partitions) (c : ChipRun W) (known : Option Known) → is_some known ≡ true
+    → bad_blocks_in (stage_table (stage_by partitions c known None)) ≡ bad_blocks partitions (record c { known = known; pending = None })
+bad_by partitions c None h = cc
+bad_by partitions c (Some known) h = refl
+
+over_parts : (dark known done : Bool) → dark ≡ false → (dark || (known && done)) ≡ true → (known ≡ true) × (done ≡ true)
+over_parts true known done d h = cc
+over_parts false true true d h = (refl, refl)
+over_parts false true false d h = cc
+over_parts false false done d h = cc
+
+-- a session that is found passes each test that all pass
+found_passes : (test is_it : SessionRun → Bool) (xs : List SessionRun) (x : SessionRun) → list_all test xs ≡ true → find is_it xs ≡ Some x → test x ≡ true
+found_passes test is_it [] x h g = cc
+found_passes test is_it (y ∷ ys) x h g = by_test (is_it y) g (found_passes test is_it ys x (and_parts (test y) _ h).1)
+  where
+    by_test : (b : Bool) → cond b (Some y) (find is_it ys) ≡ Some x → (find is_it ys ≡ Some x → test x ≡ true) → test x ≡ true
+    by_test true e later = let same : y ≡ x = cc in ap test (sym same) ∙ (and_parts _ _ h).0
+    by_test false e later = later e
+
+module _ {F : Type 0} {flash : Ghosts F} (past : Past F) (bench : Bench F flash) (on : IsOnCourse past bench) where
+  -- the parts lie on chips that are there
+  pub parts_there : All (λ (part : Part). part.chip < length bench.slots.items) past.boot.partitions.parts
+  parts_there k d h =
+      let part : Part = get_or past.boot.partitions.parts k d in
+      let chip = all_at (IsOnChip (starts_of flash.state past)) past.boot.partitions.parts k part on.conditions.parts (slice_get-get_or past.boot.partitions.parts k d h) in
+      let stays = chip_stays flash.fault_model past.boot (starts_of flash.state past) (course_of flash.fault_model flash.state past) (holds past bench on) part.chip chip.0 chip.1 in
+      (slot_there past bench on part.chip stays.0 stays.1).1
+
+  pub last_states : map kept_state (kept_chips bench) ≡ end_states (course_of flash.fault_model flash.state past)
+  last_states = ap (map kept_state) on.stands.keeps.of_chips ∙ states_kept past.boot.partitions (course_of flash.fault_model flash.state past).chips
+
+  pub last_outcomes : map (λ (s : Session). end_of false (standing bench.notes.notes s)) bench.sessions.items ≡ map end_of_run (course_of flash.fault_model flash.state past).sessions
+  last_outcomes = same_mapped (λ (s : Session). end_of false (standing bench.notes.notes s)) end_of_run bench.sessions.items (course_of flash.fault_model flash.state past).sessions
+      (on.stands.mirrors.many ∙ sym on.stands.mirrors.runs_many) same_end
+    where
+      same_end : (i : ℕ) (s : Session) (run : SessionRun) → slice_get bench.sessions.items i ≡ Some s → slice_get (course_of flash.fault_model flash.state past).sessions i ≡ Some run
+          → end_of false (standing bench.notes.notes s) ≡ end_of_run run
+      same_end i s run at there =
+          let within = slice_get_within bench.sessions.items i s at in
+          let b = item_at past.boot.sessions i (omega (arith, within, on.stands.mirrors.many)) in
+          let m = (on.stands.mirrors.each i b.0 s run b.1 at there).1 in
+          λ d. record { session = sym m.shows.number d; cut = false; outcomes = sym m.shows.outcomes d }
+
+  pub last_statistics : kept_statistics past.boot.partitions (kept_chips bench) (device_numbers past.boot.partitions) ≡ device_statistics past.boot.partitions (course_of flash.fault_model flash.state past)
+  last_statistics =
+      ap (λ cs. kept_statistics past.boot.partitions cs (device_numbers past.boot.partitions)) on.stands.keeps.of_chips
+      ∙ same_mapped (λ dev. (dev, kept_statistics_at (all_kept past.boot.partitions (course_of flash.fault_model flash.state past).chips) (chip_of past.boot.partitions dev) dev))
+      (λ dev. (dev, statistics_at (course_of flash.fault_model flash.state past) (chip_of past.boot.partitions dev) dev)) (device_numbers past.boot.partitions) (device_numbers past.boot.partitions) refl same_device
+    where
+      by_chip : (o : Option ℕ) (dev : ℕ) → kept_statistics_at (all_kept past.boot.partitions (course_of flash.fault_model flash.state past).chips) o dev ≡ statistics_at (course_of flash.fault_model flash.state past) o dev
+      by_chip None dev = refl
+      by_chip (Some k) dev = statistics_kept past.boot.partitions (course_of flash.fault_model flash.state past).chips k dev
+
+      same_device : (i : ℕ) (x y : ℕ) → slice_get (device_numbers past.boot.partitions) i ≡ Some x → slice_get (device_numbers past.boot.partitions) i ≡ Some y
+          → ◌≡◌ {A = ℕ × Stats} (x, kept_statistics_at (all_kept past.boot.partitions (course_of flash.fault_model flash.state past).chips) (chip_of past.boot.partitions x) x)
+          (y, statistics_at (course_of flash.fault_model flash.state past) (chip_of past.boot.partitions y) y)
+      same_device i x y h g =
+          let same : x ≡ y = cc (h, g) in
+          (λ d. (x, by_chip (chip_of past.boot.partitions x) x d)) ∙ ap (λ z. (z, statistics_at (course_of flash.fault_model flash.state past) (chip_of past.boot.partitions z) z)) same
+
+  -- nothing is pending where all is over
+  none_pending : is_over (course_of flash.fault_model flash.state past) ≡ true → (k : ℕ) (c : ChipRun flash.FaultState) → slice_get (course_of flash.fault_model flash.state past).chips k ≡ Some c
+      → (is_some c.known ≡ true) × (c.pending ≡ None)
+  none_pending over k c at =
+      let parts = over_parts (course_of flash.fault_model flash.state past).dark (list_all (λ (d : ChipRun flash.FaultState). is_some d.known) (course_of flash.fault_model flash.state past).chips)
+          (list_all (λ (s : SessionRun). is_finished s.commands) (course_of flash.fault_model flash.state past).sessions) on.stands.keeps.lit over in
+      (true_at (λ (d : ChipRun flash.FaultState). is_some d.known) (course_of flash.fault_model flash.state past).chips k c parts.0 at, by_pending parts.1 c.pending refl)
+    where
+      no_op : (replies : List Reply) (op : Op) (cs : List Command) → is_finished cs ≡ true → next_op_of (sizes_in flash.state past) cs replies ≡ Some op → ⊥
+      no_op replies op [] h e = cc
+      no_op replies op (command ∷ rest) h e = cc
+
+      by_pending : list_all (λ (s : SessionRun). is_finished s.commands) (course_of flash.fault_model flash.state past).sessions ≡ true → (p : Option Pending) → c.pending ≡ p → c.pending ≡ None
+      by_pending done None h = h
+      by_pending done (Some pending) h =
+          let n = pending_is_next flash.fault_model past.boot (starts_of flash.state past) (course_of flash.fault_model flash.state past) on.stands.keeps.lit (holds past bench on)
+              (one_number_each past.boot.sessions on.conditions.ascending) k pending.session c pending at h refl in
+          absurd (no_op n.0.replies pending.op n.0.commands
+          (found_passes (λ (s : SessionRun). is_finished s.commands) (λ (s : SessionRun). s.number == pending.session) (course_of flash.fault_model flash.state past).sessions n.0 done n.1) n.2)
+
+  pub last_bad : is_over (course_of flash.fault_model flash.state past) ≡ true → sum_by kept_bad_blocks (kept_chips bench) ≡ all_bad_blocks past.boot.partitions (course_of flash.fault_model flash.state past)
+  last_bad over =
+      ap (sum_by kept_bad_blocks) on.stands.keeps.of_chips
+      ∙ same_sums (kept_as past.boot.partitions) kept_bad_blocks (λ (c : ChipRun flash.FaultState). bad_blocks past.boot.partitions c) (course_of flash.fault_model flash.state past).chips same_bad
+    where
+      same_bad : (i : ℕ) (c : ChipRun flash.FaultState) → slice_get (course_of flash.fault_model flash.state past).chips i ≡ Some c → kept_bad_blocks (kept_as past.boot.partitions c) ≡ bad_blocks past.boot.partitions c
+      same_bad i c at =
+          let n = none_pending over i c at in
+          ap (λ p. bad_blocks_in (stage_table (stage_by past.boot.partitions c c.known p))) n.1 ∙ bad_by past.boot.partitions c c.known n.0
+          ∙ ap (λ p. bad_blocks past.boot.partitions (record c { pending = p })) (sym n.1)
