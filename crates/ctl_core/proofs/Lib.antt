@@ -15,3 +15,5 @@ pub mod Limits
 pub mod CoreSteps
 pub mod FirstAndLast
 pub mod LastStates
+pub mod Exchanges
+pub mod LastEnds

@@ -5,7 +5,11 @@ use Rattle.nand_model.specs.Sizes.{numbers_from}
 use Rattle.nand_model.specs.Operation.{Partitions, Known}
 use Rattle.nand_model.specs.ChipRun.{ChipRun, bad_blocks, bad_blocks_in}
 use Rattle.nand_model.specs.declared.words.Stats.{Stats}
-use Rattle.run_model.specs.Course.{Course, SessionRun, chip_of}
+use Rattle.nand_model.specs.declared.words.Command.{Command}
+use Rattle.nand_model.specs.declared.words.Note.{Note}
+use Rattle.run_model.specs.Course.{Boot, Course, SessionRun, chip_of, sizes_of}
+use Rattle.run_model.specs.History.{exchanges_of, session_after}
+use Rattle.run_model.specs.Run.{session_at_start}
 use Rattle.session_steps.specs.Ended.{EndOfSession}
 use Rattle.chip_model.specs.Stage.{stage_statistics, stage_table}
 use Rattle.ctl_core.specs.KeptChip.{KeptChip}
@@ -13,6 +17,14 @@ use Rattle.ctl_core.specs.KeptChip.{KeptChip}
 -- a session of a course that no power cut ended
 abbrev pub end_of_run : SessionRun → EndOfSession
 end_of_run run = record { session = run.number; cut = false; outcomes = run.outcomes }
+
+-- how a session with these commands ended, by the notes of its controller
+abbrev pub end_by_notes : {W : Type 0} → Boot → List (ChipState W) → List Note → ℕ × List Command → EndOfSession
+end_by_notes boot starts notes own = end_of_run (session_after (sizes_of boot starts) (session_at_start boot starts own.0 own.1) (exchanges_of own.0 notes))
+
+-- how each session of a boot ended, by the notes of its controller
+abbrev pub ends_by_notes : {W : Type 0} → Boot → List (ChipState W) → List Note → List EndOfSession
+ends_by_notes boot starts notes = map (end_by_notes boot starts notes) boot.sessions
 
 -- no bit corrected, no step failed
 abbrev pub no_statistics : Stats

@@ -6,7 +6,7 @@ ghost use Rattle.tool_steps.specs.Boot.{session_number};
 ghost use Rattle.cost_laws.specs.Cost.{boot_cost};
 ghost use Rattle.cost_laws.specs.Laws.{blocks_of};
 ghost use Rattle.ctl_core.specs.Answer.{is_did, turn_answer, attach_answer, after_turn, after_attach_turn};
-ghost use Rattle.ctl_core.specs.Ended.{all_bad_blocks, device_statistics, end_of_run};
+ghost use Rattle.ctl_core.specs.Ended.{all_bad_blocks, device_statistics, end_of_run, ends_by_notes};
 ghost use Rattle.ctl_core.specs.Past.{at_start, starts_of, sizes_in, course_of, next_course};
 ghost use Rattle.ctl_core.specs.Start.{CanStart, HasSession};
 
@@ -143,6 +143,13 @@ impl<F: Flash> Core<F> {
         self.bench.is_over(&self.journal)
     }
 
+    /// The number of sessions.
+    pub fn session_count(&self) -> usize
+        ensures { result ≡ length self.now.boot.sessions }
+    {
+        self.bench.sessions.len()
+    }
+
     /// The number of turns that did something.
     pub fn turn_count(&self) -> usize
         ensures count { result ≡ length self.now.turns }
@@ -158,6 +165,7 @@ impl<F: Flash> Core<F> {
         ensures flashes { IfOk result (λ ended. map F.state ended.flashes ≡ end_states (course_of F.fault_model F.state self)) }
         ensures notes { IfOk result (λ ended. ended.notes.notes ≡ (course_of F.fault_model F.state self).notes) }
         ensures outcomes { IfOk result (λ ended. ended.outcomes ≡ map end_of_run (course_of F.fault_model F.state self).sessions) }
+        ensures ends { IfOk result (λ ended. ended.outcomes ≡ ends_by_notes self.boot (starts_of F.state self) (course_of F.fault_model F.state self).notes) }
         ensures stats { IfOk result (λ ended. ended.stats ≡ device_statistics self.boot.partitions (course_of F.fault_model F.state self)) }
         ensures bad { IfOk result (λ ended. ended.bad ≡ all_bad_blocks self.boot.partitions (course_of F.fault_model F.state self)) }
     {

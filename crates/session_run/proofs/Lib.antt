@@ -1,6 +1,5 @@
 mod Rounds
 mod Progress
 mod Once
-mod Sessions
 mod Pasts
 mod Starts

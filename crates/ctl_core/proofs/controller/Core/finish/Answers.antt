@@ -4,11 +4,12 @@ use Rattle.nand_model.specs.Operation.{Partitions}
 use Rattle.nand_model.specs.declared.words.Part.{Part}
 use Rattle.run_model.specs.Course.{end_states, is_over}
 use Rattle.ctl_core.specs.declared.bench.Slot.{Slot}
-use Rattle.ctl_core.specs.Past.{Past, course_of}
+use Rattle.ctl_core.specs.Past.{Past, course_of, starts_of}
 use Rattle.ctl_core.specs.Bench.{past_of, kept_slot}
-use Rattle.ctl_core.specs.Ended.{end_of_run, device_numbers, device_statistics, all_bad_blocks, kept_statistics, kept_bad_blocks}
+use Rattle.ctl_core.specs.Ended.{end_of_run, ends_by_notes, device_numbers, device_statistics, all_bad_blocks, kept_statistics, kept_bad_blocks}
 use Rattle.ctl_core.proofs.Limits.{few_slots}
 use Rattle.ctl_core.proofs.LastStates.{parts_there, last_states, last_outcomes, last_statistics, last_bad}
+use Rattle.ctl_core.proofs.LastEnds.{last_ends}
 use Rattle.ctl_core.proofs.controller.Core.finish.Goals as goal
 
 pub all_statistics-requires : goal.all_statistics-requires
@@ -33,6 +34,11 @@ pub returns-clause-outcomes : goal.returns-clause-outcomes
 returns-clause-outcomes g c =
     c.in_ok-outcomes.ensures ∙ last_outcomes (past_of c.self.inside.journal) c.self.inside.bench c.self.invariant
     ∙ ap (λ (p : Past g.row.F.Denot). map end_of_run (course_of g.F.Flash.fault_model g.F.Flash.state p).sessions) c.self.view_is
+
+pub returns-clause-ends : goal.returns-clause-ends
+returns-clause-ends g c =
+    c.in_ok-outcomes.ensures ∙ last_outcomes (past_of c.self.inside.journal) c.self.inside.bench c.self.invariant ∙ last_ends (past_of c.self.inside.journal) c.self.inside.bench c.self.invariant
+    ∙ ap (λ (p : Past g.row.F.Denot). ends_by_notes p.boot (starts_of g.F.Flash.state p) (course_of g.F.Flash.fault_model g.F.Flash.state p).notes) c.self.view_is
 
 pub returns-clause-stats : goal.returns-clause-stats
 returns-clause-stats g c =
