@@ -3,3 +3,4 @@ mod Progress
 mod Once
 mod Pasts
 mod Starts
+mod Replays
