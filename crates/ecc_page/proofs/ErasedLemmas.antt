@@ -1,9 +1,8 @@
 -- Zero bits of bytes, and the read of an erased step.
-use Rattle.std.proofs.Common.{◌≡◌, ◌≢◌, ℕ, zero, suc, ◌+◌, ◌-◌, ◌*◌, ◌/◌, ◌%◌, ◌^◌, ◌<◌, ◌≤◌, List, [], ◌∷◌, ◌++◌, length, take, drop, get_or, cond, Some, refl, sym, ap, ap₂, ◌∙◌, subst, arith}
-use Rattle.std.specs.Prelude.{count_by, nat_eq, replicate, slice_index, count_ones}
+use Rattle.std.proofs.Common.{◌≡◌, ℕ, zero, suc, ◌+◌, ◌-◌, ◌*◌, ◌/◌, ◌%◌, ◌^◌, ◌<◌, ◌≤◌, List, [], ◌∷◌, ◌++◌, length, take, get_or, cond, Some, refl, sym, ap, ap₂, ◌∙◌, arith}
+use Rattle.std.specs.Prelude.{count_by, replicate, slice_index, count_ones}
 use Rattle.std.proofs.lemmas.List.{length-replicate, get_or-replicate, replicate-append-replicate, take-replicate, take-append-drop, length-take-le, length-append}
 use Rattle.std.proofs.lemmas.List.Sums.{sum_by-cons, sum_by-append}
-use Rattle.std.specs.Int.{bit_at, bit_not}
 use Rattle.std.proofs.Common.{w8}
 use Rattle.std.proofs.lemmas.Nat.Bits.{bit_at-lt, bit_at_not}
 use lib.Count.{ones_step}
@@ -14,15 +13,14 @@ use Rattle.std.proofs.Math.Seq.{take-append-add}
 use Rattle.code_laws.proofs.BytesLemmas.{bits_of-append}
 use Rattle.code_model.specs.Bits.{byte_bits, bits_of}
 use Rattle.code_model.specs.Word.{AreBits, distance}
-use Rattle.code_model.specs.Code.{code_512, masked, parity_len, parity_of}
+use Rattle.code_model.specs.Code.{code_512, parity_len}
 use Rattle.code_model.proofs.ByteLemmas.{length-bits_of, AreBits-append, AreBits-take, AreBits-bits_of}
 use Rattle.code_model.proofs.DistanceLemmas.{distance-cons_same, distance-cons_off, distance-same}
 use Rattle.code_model.proofs.ParityLemmas.{masked-erased}
-use Rattle.nand_model.specs.Page.{StepRead}
 use Rattle.ecc_page.specs.Erased.{is_zero, zero_bits, IsErasedRead}
 use Rattle.ecc_page.specs.Steps.{parity_stored, read_of}
 use Rattle.ecc_page.proofs.StepLemmas.{AreBytes}
-use Rattle.ecc_page.proofs.NearLemmas.{ReadsBack, reads_back}
+use Rattle.ecc_page.proofs.NearLemmas.{reads_back}
 
 -- the distance to a word of ones
 distance-ones : (w : List ℕ) → AreBits w → distance w (replicate (length w) 1) ≡ count_by is_zero w

@@ -1,9 +1,9 @@
 -- A step whose word is near to one that was written.
-use Rattle.std.proofs.Common.{◌≡◌, ℕ, zero, suc, ◌+◌, ◌-◌, ◌*◌, ◌/◌, ◌<◌, ◌≤◌, List, [], ◌∷◌, ◌++◌, length, take, drop, Option, Some, None, refl, sym, ap, ap₂, ◌∙◌, subst, arith}
+use Rattle.std.proofs.Common.{◌≡◌, ℕ, ◌+◌, ◌*◌, ◌≤◌, List, ◌++◌, length, take, drop, Some, refl, sym, ap, ap₂, ◌∙◌, subst, arith}
 use Rattle.std.proofs.lemmas.List.{length-append, length-take-le, length-drop, take_at, drop_at}
 use Rattle.code_model.specs.Bits.{bits_of, bytes_of_bits}
 use Rattle.code_model.specs.Word.{AreBits, distance}
-use Rattle.code_model.specs.Code.{Code, code_512, IsCodeWord, IsNearest, nearest, masked, mask_of, parity_len, parity_of}
+use Rattle.code_model.specs.Code.{code_512, IsNearest, nearest, masked, mask_of, parity_len, parity_of}
 use Rattle.code_model.proofs.ByteLemmas.{length-bits_of, AreBits-append, AreBits-take, AreBits-drop, AreBits-bits_of}
 use Rattle.code_model.proofs.NearestLemmas.{decodes-nearest, code_512-bch}
 use Rattle.code_model.proofs.ParityLemmas.{parity-completes, masked-masked, length-mask_of, length-parity_of}

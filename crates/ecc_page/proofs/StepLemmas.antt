@@ -1,15 +1,15 @@
 -- What the decoder leaves of a step, as a read of the step.
-use Rattle.std.proofs.Common.{◌≡◌, ℕ, zero, suc, ◌+◌, ◌-◌, ◌*◌, ◌/◌, ◌<◌, ◌≤◌, List, [], ◌∷◌, ◌++◌, length, take, drop, get_or, subst, Option, Some, None, refl, sym, ap, ap₂, ◌∙◌, arith}
+use Rattle.std.proofs.Common.{◌≡◌, ℕ, zero, suc, ◌+◌, ◌-◌, ◌*◌, ◌<◌, ◌≤◌, List, ◌∷◌, ◌++◌, length, take, drop, get_or, subst, Some, None, refl, sym, ap, ap₂, ◌∙◌, arith}
 use Rattle.std.specs.Prelude.{slice_index}
 use Rattle.std.proofs.lemmas.List.{length-append, length-take-le, length-drop, take_at, drop_at, take_all, take-append-drop}
 use Rattle.code_model.specs.Bits.{bits_of, bit_of, bits_from, bytes_of_bits, xor_bytes}
 use Rattle.code_model.specs.Word.{AreBits}
-use Rattle.code_model.specs.Code.{Code, code_512, Decodes, nearest, masked, mask_of, parity_len, parity_of}
+use Rattle.code_model.specs.Code.{code_512, Decodes, nearest, masked, mask_of, parity_len, parity_of}
 use Rattle.code_model.proofs.ByteLemmas.{length-bits_of, AreBits-append, AreBits-take, AreBits-bits_of}
 use Rattle.code_model.proofs.NearestLemmas.{decodes-nearest, code_512-bch}
 use Rattle.code_model.proofs.ParityLemmas.{masked-masked, length-mask_of, length-parity_of}
 use Rattle.code_laws.proofs.BytesLemmas.{bytes_of_bits-bits_of, bits_from-part}
-use Rattle.nand_model.specs.Page.{StepRead, read_as, received_word}
+use Rattle.nand_model.specs.Page.{read_as, received_word}
 use Rattle.ecc_page.specs.Steps.{parity_stored, read_of}
 use Rattle.ecc_page.proofs.MaskLemmas.{length-xor, xor-small}
 

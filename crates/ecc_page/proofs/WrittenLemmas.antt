@@ -1,11 +1,11 @@
 -- Pages made of steps, and what is read of a written page with few bits off.
-use Rattle.std.proofs.Common.{◌≡◌, ℕ, zero, suc, ◌+◌, ◌-◌, ◌*◌, ◌/◌, ◌<◌, ◌≤◌, List, [], ◌∷◌, ◌++◌, length, take, drop, map, get_or, Option, Some, None, refl, sym, ap, ap₂, ◌∙◌, subst, arith, add-one, add-zero, append_assoc, max, cond}
+use Rattle.std.proofs.Common.{◌≡◌, ℕ, zero, suc, ◌+◌, ◌-◌, ◌*◌, ◌<◌, ◌≤◌, List, [], ◌∷◌, ◌++◌, length, take, drop, map, refl, sym, ap, ap₂, ◌∙◌, subst, arith, add-one, add-zero, append_assoc, max, cond}
 use Rattle.std.specs.Prelude.{slice_range, All, unwrap_or, is_none}
 use Rattle.std.specs.List.{flat_map}
 use Rattle.std.proofs.lemmas.List.{length-append, length-take-le, take_at, take_all, take-append-le, drop-append-le}
 use Rattle.std.proofs.Math.Seq.{take-add, drop-append-add}
 use Rattle.nand_model.specs.Sizes.{numbers_from}
-use Rattle.std.specs.List.{fold, sum_by, count_by}
+use Rattle.std.specs.List.{fold}
 use Rattle.std.proofs.lemmas.List.Edits.{length-between, get_or-between}
 use Rattle.std.proofs.lemmas.List.Elements.{All-get_or}
 use Rattle.std.proofs.lemmas.List.Folds.{flat_map-map, fold-map}
@@ -14,7 +14,7 @@ use Rattle.nand_model.specs.Sizes.{parity_bytes, parity_start, raw_len, step_cou
 use Rattle.nand_model.specs.declared.geometry.Geometry.{Geometry}
 use Rattle.code_model.specs.Bits.{bits_of}
 use Rattle.code_model.specs.Word.{distance}
-use Rattle.ecc_page.specs.Steps.{parity_stored, read_of}
+use Rattle.ecc_page.specs.Steps.{parity_stored}
 use Rattle.ecc_page.specs.Written.{bits_off, GivesBack, IsNearImage}
 use Rattle.ecc_page.proofs.Parts.{slice-take}
 use Rattle.ecc_page.proofs.PageLemmas.{page-steps, parities-room, parity-inside, strength}

@@ -1,4 +1,4 @@
-use Rattle.std.proofs.Common.{◌≡◌, ◌<◌, ◌≤◌, ◌+◌, ℕ, get_or, sym, ap₂, ◌∙◌, arith}
+use Rattle.std.proofs.Common.{◌<◌, ◌+◌, get_or, sym, ap₂, ◌∙◌, arith}
 use Rattle.ecc_page.proofs.ErasedLemmas.{zeros_more, zeros_most, zeros_none}
 use Rattle.ecc_page.proofs.erased.zeros_of.Goals as goal
 

@@ -1,4 +1,4 @@
-use Rattle.std.proofs.Common.{◌≡◌, ◌<◌, ◌≤◌, ◌+◌, ◌-◌, ◌*◌, ℕ, List, ◌++◌, max, length, take, drop, map, cond, Option, Some, None, sym, ap, ap₂, ◌∙◌, arith}
+use Rattle.std.proofs.Common.{◌≡◌, ◌<◌, ◌≤◌, ◌+◌, ◌-◌, ◌*◌, ℕ, ◌++◌, max, length, take, drop, map, cond, Option, Some, None, sym, ap, ap₂, ◌∙◌, arith}
 use Rattle.std.specs.Prelude.{unwrap_or, is_none, IfSome, slice_range}
 use Rattle.std.specs.List.{flat_map, sum_by, count_by, fold}
 use Rattle.std.proofs.lemmas.List.{length-take-le, take_all}

@@ -1,6 +1,6 @@
-use Rattle.std.proofs.Common.{◌≡◌, ◌*◌, ◌++◌, ℕ, List, length, take, Some, None, refl, sym, ap, ◌∙◌, subst, arith}
-use Rattle.code_model.specs.Bits.{bit_of, bits_of, xor_bytes}
-use Rattle.code_model.specs.Code.{code_512, masked, mask_of, parity_len, IsNearest, NoneNear}
+use Rattle.std.proofs.Common.{◌≡◌, ◌*◌, ◌++◌, ℕ, List, length, take, Some, None, sym, ap, ◌∙◌, subst, arith}
+use Rattle.code_model.specs.Bits.{bit_of, bits_of}
+use Rattle.code_model.specs.Code.{code_512, masked, IsNearest, NoneNear}
 use Rattle.code_model.proofs.ParityLemmas.{length-mask_of, masked-masked}
 use Rattle.nand_model.specs.Page.{StepRead}
 use Rattle.ecc_page.specs.Steps.{read_of}
