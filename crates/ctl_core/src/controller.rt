@@ -1,5 +1,5 @@
 // A controller in one boot.
-ghost use Rattle.std.specs.Prelude.{◌≡◌, ◌≤◌, ◌+◌, ◌*◌, ◌↔◌, map, length, true, not, None, IsTrue, OnOk, IfOk, is_none};
+ghost use Rattle.std.specs.Prelude.{◌≡◌, ◌≤◌, ◌+◌, ◌*◌, ◌↔◌, map, length, true, false, not, None, IsTrue, OnOk, IfOk, is_none};
 ghost use Rattle.run_model.specs.Course.{attach_step, end_states, is_idle, is_over, unattached};
 ghost use Rattle.run_model.specs.Run.{AreInOrder, CoursesAreFaithful};
 ghost use Rattle.tool_steps.specs.Boot.{session_number};
@@ -163,6 +163,7 @@ impl<F: Flash> Core<F> {
     pub fn finish(self) -> Result<Ended<F>, AllocError>
         requires { is_over (course_of F.fault_model F.state self) ≡ true }
         ensures flashes { IfOk result (λ ended. map F.state ended.flashes ≡ end_states (course_of F.fault_model F.state self)) }
+        ensures lit { OnOk result ((course_of F.fault_model F.state self).dark ≡ false) }
         ensures notes { IfOk result (λ ended. ended.notes.notes ≡ (course_of F.fault_model F.state self).notes) }
         ensures outcomes { IfOk result (λ ended. ended.outcomes ≡ map end_of_run (course_of F.fault_model F.state self).sessions) }
         ensures ends { IfOk result (λ ended. ended.outcomes ≡ ends_by_notes self.boot (starts_of F.state self) (course_of F.fault_model F.state self).notes) }

@@ -1,11 +1,9 @@
 mod RowSteps
 mod Joined
 mod Entries
-mod FirstPage
-mod PlanNotes
-mod PlanReport
-mod Reading
 mod Holding
 mod EndedTexts
 mod Dumps
 mod BootText
+mod NoReads
+mod PlanTurns

@@ -3,7 +3,6 @@
 
 mod answer;
 mod boot_report;
-mod nine_lines;
 mod outcomes;
 mod print;
 mod report;

@@ -27,6 +27,9 @@ returns-clause-flashes g c =
     c.in_ok-flashes.ensures ∙ last_states (past_of c.self.inside.journal) c.self.inside.bench c.self.invariant
     ∙ ap (λ (p : Past g.row.F.Denot). end_states (course_of g.F.Flash.fault_model g.F.Flash.state p)) c.self.view_is
 
+pub returns-clause-lit : goal.returns-clause-lit
+returns-clause-lit g c = ap (λ (p : Past g.row.F.Denot). (course_of g.F.Flash.fault_model g.F.Flash.state p).dark) (sym c.self.view_is) ∙ c.self.invariant.stands.keeps.lit
+
 pub returns-clause-notes : goal.returns-clause-notes
 returns-clause-notes g c = c.self.invariant.stands.keeps.of_notes ∙ ap (λ (p : Past g.row.F.Denot). (course_of g.F.Flash.fault_model g.F.Flash.state p).notes) c.self.view_is
 

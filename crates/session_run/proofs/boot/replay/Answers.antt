@@ -3,7 +3,7 @@ use Rattle.std.specs.Prelude.{All}
 use Rattle.ctl_core.specs.Start.{HasSession}
 use Rattle.session_run.proofs.Pasts.{same_again}
 use Rattle.session_run.proofs.Replays.{replay_begins, replay_goes_on, fewer_left}
-use Rattle.session_run.proofs.replay.replay.Goals as goal
+use Rattle.session_run.proofs.boot.replay.Goals as goal
 
 pub take_turns-requires-clause-own : goal.take_turns-requires-clause-own
 take_turns-requires-clause-own g c = subst (λ boot. All (HasSession boot) c.args.schedule.now) (sym c.in_ok-attach_all.ensures.same.boot) c.requires.own

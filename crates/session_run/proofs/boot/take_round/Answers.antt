@@ -4,7 +4,7 @@ use Rattle.session_run.proofs.Pasts.{same_again, round_on}
 use Rattle.session_run.proofs.Progress.{round_done}
 use Rattle.session_run.proofs.Starts.{some_busy}
 use Rattle.ctl_core.specs.Past.{course_of, starts_of}
-use Rattle.session_run.proofs.replay.take_round.Goals as goal
+use Rattle.session_run.proofs.boot.take_round.Goals as goal
 
 pub loop-k-preserved : goal.loop-k-preserved
 loop-k-preserved g c =

@@ -3,7 +3,7 @@ use Rattle.run_model.specs.Course.{course_after, unattached}
 use Rattle.cost_laws.specs.Cost.{boot_cost}
 use Rattle.ctl_core.specs.Past.{starts_of, course_of}
 use Rattle.session_run.specs.Replay.{IsOfTheSameStart, rounds_after, session_numbers}
-use Rattle.session_run.proofs.replay.replay.Given as goal
+use Rattle.session_run.proofs.boot.replay.Given as goal
 
 abbrev pub invariant-loop-core : goal.invariant-loop-core
 invariant-loop-core g l = record {
