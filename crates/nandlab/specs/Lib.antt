@@ -1,5 +1,4 @@
 pub mod Printing
+pub mod Reading
 pub mod Status
 pub mod Answer
-pub mod Ends
-pub mod Run

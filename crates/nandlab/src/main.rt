@@ -2,8 +2,7 @@
 #![tactic(auto)]
 
 mod answer;
-mod boot_report;
-mod outcomes;
+mod nine_lines;
 mod print;
 mod report;
 mod run;

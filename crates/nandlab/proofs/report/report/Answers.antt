@@ -1,21 +1,14 @@
-use Rattle.std.proofs.Common.{rules, ◌≡◌, ◌≤◌, ◌^◌, length, map, All, IfOk, OnOk, IsTrue, ◌++◌, ◌∷◌, [], ℕ, ◌+◌, ◌-◌, ◌*◌, ◌<◌, ◌/◌, ◌%◌, Bool, true, false, nat_eq, nat_lt, List, slice_index_or, slice_set, bit_and, bit_or, Fits, w8, w32, w64, Bor, MutBor}
-use Rattle.nand_model.specs.Sizes.{numbers_from}
-use Rattle.nand_model.specs.declared.words.Note.{Note as Noted}
-use Rattle.several_chip_plan.specs.SeveralChips.{IsPlan}
-use Rattle.chips_boot.specs.Ready.{IsReady}
-use Rattle.nandlab.specs.Answer.{IsReportOfPlan}
-use Rattle.nandlab.specs.Ends.{uncounted}
-use Rattle.nandlab.specs.Printing.{ForAnswer, ForPage}
+use Rattle.std.proofs.Common.{◌∙◌}
+use Rattle.nandlab.proofs.PlanReport.{are_printable, is_report}
 use Rattle.nandlab.proofs.report.report.Goals as goal
 
--- src/report.rt:80:5
-pub boot_report-requires-clause-ends : goal.boot_report-requires-clause-ends
-boot_report-requires-clause-ends c = ?
+pub put_notes-requires : goal.put_notes-requires
+put_notes-requires c =
+    are_printable c.args.payload.now c.requires.some c.requires.fits (λ i. (c.type_inv.payload i).fits) c.in_ok-run.run'.notes.notes c.in_ok-run.ensures.notes
 
--- src/report.rt:80:5
-pub boot_report-requires-clause-stats : goal.boot_report-requires-clause-stats
-boot_report-requires-clause-stats c = ?
-
--- src/report.rt:70:1
 pub returns : goal.returns
-returns c = ?
+returns c =
+    is_report c.args.payload.now c.requires.some c.requires.fits (λ i. (c.type_inv.payload i).fits) c.in_ok-run.run'.notes.notes c.as_slice.result.now
+    c.in_ok-out.out c.put_text.new.out c.put_notes.new.out c.put_text-2.new.out c.put_rows.new.out c.put_text-3.new.out
+    c.in_ok-run.ensures.notes (c.as_slice.ensures ∙ c.in_ok-run.ensures.dumped)
+    c.in_ok-out.ensures c.in_ok-put_text.ensures c.in_ok-put_notes.ensures c.in_ok-put_text-2.ensures c.in_ok-put_rows.ensures c.in_ok-put_text-3.ensures
