@@ -52,21 +52,21 @@ module _ {F : Type 0} {flash : Ghosts F} (past : Past F) (bench : Bench F flash)
       → finished_in (kept_slot slot).stage ≡ Some finished → kept_slot now_slot ≡ after_answer finished.known (kept_slot slot)
       → now_notes ≡ bench.notes.notes ++ Answered session finished.reply ∷ []
       → ((sizes : Command → Geometry) (commands : List Command) (notes later : List Note) (run : SessionRun) (n : ℕ) (reply : Reply) → Mirrors sizes commands notes s run → IsWaiting s
-          → slice_get later (length bench.notes.notes) ≡ Some (Answered n reply) → Mirrors sizes commands later now_session (with_reply sizes reply run))
+      → slice_get later (length bench.notes.notes) ≡ Some (Answered n reply) → Mirrors sizes commands later now_session (with_reply sizes reply run))
       → Follows past.boot (starts_of flash.state past) (next_course flash.fault_model flash.state past session) (map kept_slot (set bench.slots.items k now_slot)) bench.events now_notes (set bench.sessions.items place now_session)
   stands_answer finished now_slot now_session now_notes held over is_slot is_notes replied_so =
       let after = follows_answer flash.fault_model past.boot turn.on_course.calm (starts_of flash.state past) (course_of flash.fault_model flash.state past) (kept_chips bench) bench.events bench.notes.notes bench.sessions.items
-          turn.on_course.stands turn.on_course.conditions.ascending (holds past bench turn.on_course) place k s now_session (set bench.sessions.items place now_session) (kept_slot slot) finished turn.attached at
-          (ap (λ n. first_held_by n (kept_chips bench)) number ∙ held) (at_mapped kept_slot bench.slots.items k slot slot_at) over
-          (set_changes bench.sessions.items place now_session (slice_get_within bench.sessions.items place s at))
-          (λ commands run m w. replied_so (sizes_in flash.state past) commands bench.notes.notes (bench.notes.notes ++ Answered (number_of s) finished.reply ∷ []) run (number_of s) finished.reply m w
-              (get_last bench.notes.notes (Answered (number_of s) finished.reply))) in
+      turn.on_course.stands turn.on_course.conditions.ascending (holds past bench turn.on_course) place k s now_session (set bench.sessions.items place now_session) (kept_slot slot) finished turn.attached at
+      (ap (λ n. first_held_by n (kept_chips bench)) number ∙ held) (at_mapped kept_slot bench.slots.items k slot slot_at) over
+      (set_changes bench.sessions.items place now_session (slice_get_within bench.sessions.items place s at))
+      (λ commands run m w. replied_so (sizes_in flash.state past) commands bench.notes.notes (bench.notes.notes ++ Answered (number_of s) finished.reply ∷ []) run (number_of s) finished.reply m w
+      (get_last bench.notes.notes (Answered (number_of s) finished.reply))) in
       follows_as past.boot (starts_of flash.state past) (next_course flash.fault_model flash.state past session)
       (change_at (kept_chips bench) k (after_answer finished.known)) (map kept_slot (set bench.slots.items k now_slot)) bench.events bench.events
       (bench.notes.notes ++ Answered session finished.reply ∷ []) now_notes (set bench.sessions.items place now_session) (set bench.sessions.items place now_session)
       (mapped_set kept_slot (after_answer finished.known) bench.slots.items k slot now_slot slot_at is_slot) refl is_notes refl
       (subst (λ n. Follows past.boot (starts_of flash.state past) (next_course flash.fault_model flash.state past n) (change_at (kept_chips bench) k (after_answer finished.known)) bench.events
-          (bench.notes.notes ++ Answered n finished.reply ∷ []) (set bench.sessions.items place now_session)) number after)
+      (bench.notes.notes ++ Answered n finished.reply ∷ []) (set bench.sessions.items place now_session)) number after)
 
   module _ (command : Command) (first : FirstLeft past bench session place turn s at number command) (same_chip : first.is_ready.part.chip ≡ k) where
     -- the sizes of the command are those of the chip
@@ -74,9 +74,9 @@ module _ {F : Type 0} {flash : Ghosts F} (past : Past F) (bench : Bench F flash)
     sizes_here =
         let there : slice_get (kept_chips bench) k ≡ Some (kept_slot slot) = at_mapped kept_slot bench.slots.items k slot slot_at in
         let run : slice_get (kept_chips bench) k ≡ Some (kept_as past.boot.partitions first.is_ready.run) =
-            ap (λ xs. slice_get xs k) turn.on_course.stands.keeps.of_chips
-            ∙ at_mapped (kept_as past.boot.partitions) (course_of flash.fault_model flash.state past).chips k first.is_ready.run
-            (ap (slice_get (course_of flash.fault_model flash.state past).chips) (sym same_chip) ∙ first.is_ready.run_at) in
+        ap (λ xs. slice_get xs k) turn.on_course.stands.keeps.of_chips
+        ∙ at_mapped (kept_as past.boot.partitions) (course_of flash.fault_model flash.state past).chips k first.is_ready.run
+        (ap (slice_get (course_of flash.fault_model flash.state past).chips) (sym same_chip) ∙ first.is_ready.run_at) in
         let same : kept_as past.boot.partitions first.is_ready.run ≡ kept_slot slot = cc (there, run) in
         first.is_ready.sizes_are ∙ sym first.is_ready.same_sizes ∙ ap (λ (y : KeptChip flash.FaultState). y.state.geometry) same
 
@@ -91,9 +91,9 @@ module _ {F : Type 0} {flash : Ghosts F} (past : Past F) (bench : Bench F flash)
         let p = own_place past bench session place turn s at number in
         let own : p.own.1 ≡ commands = own_commands past bench session place turn s at number commands given in
         let one : next_op_of (sizes_in flash.state past) p.run.commands p.run.replies ≡ Some op =
-            gives (sizes_in flash.state past) p.run (subst (λ cs. Mirrors (sizes_in flash.state past) cs bench.notes.notes s p.run) own p.mirrors) first_sizes in
+        gives (sizes_in flash.state past) p.run (subst (λ cs. Mirrors (sizes_in flash.state past) cs bench.notes.notes s p.run) own p.mirrors) first_sizes in
         let other : next_op_of (sizes_in flash.state past) p.run.commands p.run.replies ≡ Some first.op =
-            sym (ap (next_op (sizes_in flash.state past)) (run_found past bench session place turn s at number)) ∙ first.next in
+        sym (ap (next_op (sizes_in flash.state past)) (run_found past bench session place turn s at number)) ∙ first.next in
         cc (one, other)
 
     pub can_run_here : CanRun (kept_slot slot).state.geometry command
@@ -150,14 +150,14 @@ module _ {F : Type 0} {flash : Ghosts F} (past : Past F) (bench : Bench F flash)
         → Follows past.boot (starts_of flash.state past) (next_course flash.fault_model flash.state past session) (map kept_slot (set bench.slots.items k now_slot)) bench.events now_notes (set bench.sessions.items place now_session)
     stands_begun now_slot now_session now_notes commands given free no_holder is_slot is_notes waits resumed =
         let after = follows_begin flash.fault_model past.boot turn.on_course.calm (starts_of flash.state past) (course_of flash.fault_model flash.state past) (kept_chips bench) bench.events bench.notes.notes bench.sessions.items
-            turn.on_course.stands turn.on_course.conditions.ascending (holds past bench turn.on_course) place k s now_session (set bench.sessions.items place now_session) (kept_slot slot) first.op turn.attached at
-            (ap (λ n. first_held_by n (kept_chips bench)) number ∙ free) (at_mapped kept_slot bench.slots.items k slot slot_at) no_holder
-            (set_changes bench.sessions.items place now_session (slice_get_within bench.sessions.items place s at)) waits
-            (ap (λ n. next_op (sizes_in flash.state past) (session_run (course_of flash.fault_model flash.state past) n)) number ∙ first.next) (first.chip ∙ ap Some same_chip)
-            (resumed_so now_session commands given resumed) in
+        turn.on_course.stands turn.on_course.conditions.ascending (holds past bench turn.on_course) place k s now_session (set bench.sessions.items place now_session) (kept_slot slot) first.op turn.attached at
+        (ap (λ n. first_held_by n (kept_chips bench)) number ∙ free) (at_mapped kept_slot bench.slots.items k slot slot_at) no_holder
+        (set_changes bench.sessions.items place now_session (slice_get_within bench.sessions.items place s at)) waits
+        (ap (λ n. next_op (sizes_in flash.state past) (session_run (course_of flash.fault_model flash.state past) n)) number ∙ first.next) (first.chip ∙ ap Some same_chip)
+        (resumed_so now_session commands given resumed) in
         follows_as past.boot (starts_of flash.state past) (next_course flash.fault_model flash.state past session)
         (change_at (kept_chips bench) k (after_begin past.boot.partitions session first.op)) (map kept_slot (set bench.slots.items k now_slot)) bench.events bench.events
         (bench.notes.notes ++ Began session first.op ∷ []) now_notes (set bench.sessions.items place now_session) (set bench.sessions.items place now_session)
         (mapped_set kept_slot (after_begin past.boot.partitions session first.op) bench.slots.items k slot now_slot slot_at is_slot) refl is_notes refl
         (subst (λ n. Follows past.boot (starts_of flash.state past) (next_course flash.fault_model flash.state past n) (change_at (kept_chips bench) k (after_begin past.boot.partitions n first.op)) bench.events
-            (bench.notes.notes ++ Began n first.op ∷ []) (set bench.sessions.items place now_session)) number after)
+        (bench.notes.notes ++ Began n first.op ∷ []) (set bench.sessions.items place now_session)) number after)

@@ -51,7 +51,11 @@ module _ {F : Type 0} {flash : Ghosts F} (past : Past F) (bench : Bench F flash)
   -- with another room for notes
   pub renoted : (notes : NotesAndRoom) → notes.notes ≡ bench.notes.notes → IsOnCourse past (record bench { notes = notes })
   renoted notes same = record {
-    conditions = on.conditions; calm = on.calm; attached_first = on.attached_first; attach_events = on.attach_events; all_busy = on.all_busy;
+    conditions = on.conditions;
+    calm = on.calm;
+    attached_first = on.attached_first;
+    attach_events = on.attach_events;
+    all_busy = on.all_busy;
     stands = follows_as past.boot (starts_of flash.state past) (course_of flash.fault_model flash.state past) (kept_chips bench) (kept_chips bench) bench.events bench.events
         bench.notes.notes notes.notes bench.sessions.items bench.sessions.items refl refl same refl on.stands;
   }
@@ -63,7 +67,12 @@ module _ {F : Type 0} {flash : Ghosts F} (past : Past F) (bench : Bench F flash)
   -- at the same course with other chips, notes or sessions
   pub stayed_on : (new : Bench F flash) → StandsAt past (course_of flash.fault_model flash.state past) new → IsOnCourse past new
   stayed_on new stands = record {
-    conditions = on.conditions; calm = on.calm; attached_first = on.attached_first; attach_events = on.attach_events; all_busy = on.all_busy; stands = stands;
+    conditions = on.conditions;
+    calm = on.calm;
+    attached_first = on.attached_first;
+    attach_events = on.attach_events;
+    all_busy = on.all_busy;
+    stands = stands;
   }
 
   -- the first chip that is not attached has an event
@@ -91,10 +100,10 @@ module _ {F : Type 0} {flash : Ghosts F} (past : Past F) (bench : Bench F flash)
       by_event c at first unknown counts (Some e) h = (e, refl)
       by_event c at first unknown counts None h =
           let stays : attach_step flash.fault_model past.boot (sizes_in flash.state past) (course_of flash.fault_model flash.state past) ≡ course_of flash.fault_model flash.state past =
-              ap (λ b. if b then course_of flash.fault_model flash.state past else attach_first flash.fault_model past.boot (sizes_in flash.state past) (course_of flash.fault_model flash.state past) (unattached (course_of flash.fault_model flash.state past))) on.stands.keeps.lit
-              ∙ ap (attach_first flash.fault_model past.boot (sizes_in flash.state past) (course_of flash.fault_model flash.state past)) first
-              ∙ ap (chip_step flash.fault_model past.boot (sizes_in flash.state past) (course_of flash.fault_model flash.state past) k) at
-              ∙ ap (event_or_answer flash.fault_model past.boot (sizes_in flash.state past) (course_of flash.fault_model flash.state past) k c) h ∙ by_known c c.known c.pending unknown in
+          ap (λ b. if b then course_of flash.fault_model flash.state past else attach_first flash.fault_model past.boot (sizes_in flash.state past) (course_of flash.fault_model flash.state past) (unattached (course_of flash.fault_model flash.state past))) on.stands.keeps.lit
+          ∙ ap (attach_first flash.fault_model past.boot (sizes_in flash.state past) (course_of flash.fault_model flash.state past)) first
+          ∙ ap (chip_step flash.fault_model past.boot (sizes_in flash.state past) (course_of flash.fault_model flash.state past) k) at
+          ∙ ap (event_or_answer flash.fault_model past.boot (sizes_in flash.state past) (course_of flash.fault_model flash.state past) k c) h ∙ by_known c c.known c.pending unknown in
           let same : (course_of flash.fault_model flash.state past).events ≡ (course_of flash.fault_model flash.state past).events + 1 = ap (λ (d : Course flash.FaultState). d.events) (sym stays) ∙ counts in
           absurd (omega (arith, same))
 

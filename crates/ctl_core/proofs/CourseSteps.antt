@@ -140,14 +140,14 @@ module _ {W : Type 0} (model : FaultModel W) (boot : Boot) (calm : IsCalm boot) 
   pub event_kept : (kept : List (KeptChip W)) (events : ℕ) (notes : List Note) (k : ℕ) (c : ChipRun W) (e : PageEvent)
       → Keeps boot.partitions course kept events notes → slice_get course.chips k ≡ Some c
       → Keeps boot.partitions (after_chip_event k c e) (change_at kept k (λ x. with_news_told (after_event model e x))) (events + 1)
-        (notes ++ failure_notes k (events + 1) e (failure_told model c.chip e) ++ news_notes k (after_event model e (kept_as boot.partitions c)).news)
+      (notes ++ failure_notes k (events + 1) e (failure_told model c.chip e) ++ news_notes k (after_event model e (kept_as boot.partitions c)).news)
   event_kept kept events notes k c e keeps at = record {
     lit = refl;
     of_chips = ap (λ xs. change_at xs k (λ x. with_news_told (after_event model e x))) keeps.of_chips
         ∙ sym (mapped_change (kept_as boot.partitions) (λ old. advanced model c e) (λ x. with_news_told (after_event model e x)) course.chips k c at (kept_advanced boot.partitions model c e));
     of_events = ap (λ n. n + 1) keeps.of_events;
     of_notes = let failed : failure_notes k (events + 1) e (failure_told model c.chip e) ≡ notes_of_advance model k (course.events + 1) c e =
-            ap (λ n. failure_notes k (n + 1) e (failure_told model c.chip e)) keeps.of_events ∙ sym (failure_is boot.partitions model k (course.events + 1) c e) in
+        ap (λ n. failure_notes k (n + 1) e (failure_told model c.chip e)) keeps.of_events ∙ sym (failure_is boot.partitions model k (course.events + 1) c e) in
         let news : news_notes k (after_event model e (kept_as boot.partitions c)).news ≡ attach_notes k c (advanced model c e) = sym (news_is boot.partitions model k c e) in
         λ j. keeps.of_notes j ++ failed j ++ news j;
   }

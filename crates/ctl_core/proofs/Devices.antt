@@ -81,7 +81,14 @@ module _ {W : Type 0} (model : FaultModel W) (boot : Boot) (starts : List (ChipS
       let chip = all_at (IsOnChip starts) boot.partitions.parts place.0 device.0 start.parts place.1 in
       let stays = chip_stays device.0.chip chip.0 chip.1 in
       record {
-        part = device.0; part_is = device.1; start = chip.0; start_at = chip.1; within = chip.2; run = stays.0; run_at = stays.1; same_sizes = stays.2;
+        part = device.0;
+        part_is = device.1;
+        start = chip.0;
+        start_at = chip.1;
+        within = chip.2;
+        run = stays.0;
+        run_at = stays.1;
+        same_sizes = stays.2;
         sizes_are = ap (λ o. geometry_of_chip (map (λ (c : ChipState W). c.geometry) starts) (chip_of_part o)) device.1
             ∙ get_or_from_slice_get (map (λ (c : ChipState W). c.geometry) starts) device.0.chip chip.0.geometry small_chip
             (slice_get-map (λ (c : ChipState W). c.geometry) starts device.0.chip ∙ ap (λ (o : Option (ChipState W)). option_map (λ (c : ChipState W). c.geometry) o) chip.1);

@@ -132,7 +132,7 @@ module _ {F : Type 0} {flash : Ghosts F} (past : Past F) (bench : Bench F flash)
   over_where_done none done o first same absent all =
       let attached : unattached (course_of flash.fault_model flash.state past) ≡ None = attached_there past bench on ∙ sym first ∙ (same_none o none same).0 absent in
       let known : list_all (λ (c : ChipRun flash.FaultState). is_some c.known) (course_of flash.fault_model flash.state past).chips ≡ true =
-          all_true (λ (c : ChipRun flash.FaultState). is_some c.known) (course_of flash.fault_model flash.state past).chips (λ k c at. is_known c (all_known (course_of flash.fault_model flash.state past) attached k c at)) in
+      all_true (λ (c : ChipRun flash.FaultState). is_some c.known) (course_of flash.fault_model flash.state past).chips (λ k c at. is_known c (all_known (course_of flash.fault_model flash.state past) attached k c at)) in
       over_by (course_of flash.fault_model flash.state past).dark (list_all (λ (c : ChipRun flash.FaultState). is_some c.known) (course_of flash.fault_model flash.state past).chips) done on.stands.keeps.lit known
       ∙ ap (λ b. (course_of flash.fault_model flash.state past).dark || (list_all (λ (c : ChipRun flash.FaultState). is_some c.known) (course_of flash.fault_model flash.state past).chips && b)) (done_there done all)
     where

@@ -156,7 +156,7 @@ module _ {F : Type 0} {flash : Ghosts F} (past : Past F) (bench : Bench F flash)
       → (is_some c.known ≡ true) × (c.pending ≡ None)
   none_pending over k c at =
       let parts = over_parts (course_of flash.fault_model flash.state past).dark (list_all (λ (d : ChipRun flash.FaultState). is_some d.known) (course_of flash.fault_model flash.state past).chips)
-          (list_all (λ (s : SessionRun). is_finished s.commands) (course_of flash.fault_model flash.state past).sessions) on.stands.keeps.lit over in
+      (list_all (λ (s : SessionRun). is_finished s.commands) (course_of flash.fault_model flash.state past).sessions) on.stands.keeps.lit over in
       (true_at (λ (d : ChipRun flash.FaultState). is_some d.known) (course_of flash.fault_model flash.state past).chips k c parts.0 at, by_pending parts.1 c.pending refl)
     where
       no_op : (replies : List Reply) (op : Op) (cs : List Command) → is_finished cs ≡ true → next_op_of (sizes_in flash.state past) cs replies ≡ Some op → ⊥
@@ -167,7 +167,7 @@ module _ {F : Type 0} {flash : Ghosts F} (past : Past F) (bench : Bench F flash)
       by_pending done None h = h
       by_pending done (Some pending) h =
           let n = pending_is_next flash.fault_model past.boot (starts_of flash.state past) (course_of flash.fault_model flash.state past) on.stands.keeps.lit (holds past bench on)
-              (one_number_each past.boot.sessions on.conditions.ascending) k pending.session c pending at h refl in
+          (one_number_each past.boot.sessions on.conditions.ascending) k pending.session c pending at h refl in
           absurd (no_op n.0.replies pending.op n.0.commands
           (found_passes (λ (s : SessionRun). is_finished s.commands) (λ (s : SessionRun). s.number == pending.session) (course_of flash.fault_model flash.state past).sessions n.0 done n.1) n.2)
 

@@ -85,7 +85,7 @@ module _ {F : Type 0} {flash : Ghosts F} (past : Past F) (bench : Bench F flash)
   few_turns =
       let busy = busy_few flash.fault_model past.boot (starts_of flash.state past) past.attaches past.turns on.conditions.runnable (one_number_each past.boot.sessions on.conditions.ascending) in
       let same : length (busy_turns flash.fault_model past.boot (starts_of flash.state past) past.turns (course_after flash.fault_model past.boot (starts_of flash.state past) past.attaches [])) ≡ length past.turns =
-          ap length on.all_busy in
+      ap length on.all_busy in
       let starts : length (starts_of flash.state past) ≡ length past.started = mapped_length flash.state past.started in
       omega (arith, busy, same, starts)
 
@@ -102,7 +102,7 @@ module _ {F : Type 0} {flash : Ghosts F} (past : Past F) (bench : Bench F flash)
   few_events =
       let events = events_few flash.fault_model past.boot (starts_of flash.state past) past.turns (course_after flash.fault_model past.boot (starts_of flash.state past) past.attaches []) in
       let same : length (busy_turns flash.fault_model past.boot (starts_of flash.state past) past.turns (course_after flash.fault_model past.boot (starts_of flash.state past) past.attaches [])) ≡ length past.turns =
-          ap length on.all_busy in
+      ap length on.all_busy in
       let starts : length (starts_of flash.state past) ≡ length past.started = mapped_length flash.state past.started in
       omega (arith, events, same, starts, on.attach_events, few_attaches, few_blocks, few_turns, on.conditions.cheap, on.conditions.few, on.stands.keeps.of_events)
 
@@ -124,12 +124,14 @@ module _ {F : Type 0} {flash : Ghosts F} (past : Past F) (bench : Bench F flash)
   pub at_turn : (session place : ℕ) → unattached (course_of flash.fault_model flash.state past) ≡ None
       → position (λ (s : Session). number_of s == session) bench.sessions.items ≡ Some place → (place < length bench.sessions.items) × IsAtTurn past session place bench
   at_turn session place attached here =
-      let s = position_is (λ (x : Session). number_of x == session) bench.sessions.items place here in
-      (slice_get_within bench.sessions.items place s.0 s.1, record {
-        on_course = on;
-        attached = sym attached_there ∙ attached;
-        own = ap (option_map number_of) s.1 ∙ ap Some (eqb-true _ _ s.2);
-      })
+      let s = position_is (λ (x : Session). number_of x == session) bench.sessions.items place here in (
+        slice_get_within bench.sessions.items place s.0 s.1,
+        record {
+          on_course = on;
+          attached = sym attached_there ∙ attached;
+          own = ap (option_map number_of) s.1 ∙ ap Some (eqb-true _ _ s.2);
+        },
+      )
 
   -- the chip that a session holds is at work
   pub held_works : (session k : ℕ) → first_held_by session (kept_chips bench) ≡ Some k
@@ -137,7 +139,7 @@ module _ {F : Type 0} {flash : Ghosts F} (past : Past F) (bench : Bench F flash)
   held_works session k h =
       let x = position_is (λ (y : KeptChip flash.FaultState). is_held_by session y.holder) (kept_chips bench) k h in
       let holder = found_held flash.fault_model past.boot on.calm (starts_of flash.state past) (course_of flash.fault_model flash.state past) (kept_chips bench) bench.events bench.notes.notes bench.sessions.items on.stands
-          on.conditions.ascending (holds past bench on) session k x.0 h x.1 in
+      on.conditions.ascending (holds past bench on) session k x.0 h x.1 in
       let c = chip_there flash.fault_model past.boot on.calm (starts_of flash.state past) (course_of flash.fault_model flash.state past) (kept_chips bench) bench.events bench.notes.notes bench.sessions.items on.stands k x.0 x.1 in
       ap (option_map (λ (y : KeptChip flash.FaultState). is_working y.stage)) x.1
       ∙ ap Some (ap (λ (y : KeptChip flash.FaultState). is_working y.stage) (sym c.2)

@@ -104,7 +104,7 @@ module _ {F : Type 0} {flash : Ghosts F} (past : Past F) (bench : Bench F flash)
       → (slice_get (kept_chips bench) k ≡ Some (kept_as past.boot.partitions c)) × (k < length bench.slots.items)
   slot_there k c h =
       let there : slice_get (kept_chips bench) k ≡ Some (kept_as past.boot.partitions c) =
-          ap (λ xs. slice_get xs k) on.stands.keeps.of_chips ∙ at_mapped (kept_as past.boot.partitions) (course_of flash.fault_model flash.state past).chips k c h in
+      ap (λ xs. slice_get xs k) on.stands.keeps.of_chips ∙ at_mapped (kept_as past.boot.partitions) (course_of flash.fault_model flash.state past).chips k c h in
       (there, (let within : k < length (kept_chips bench) = slice_get_within (kept_chips bench) k (kept_as past.boot.partitions c) there in omega (arith, mapped_length kept_slot bench.slots.items)))
 
   -- a step that does an event
@@ -124,9 +124,9 @@ module _ {F : Type 0} {flash : Ghosts F} (past : Past F) (bench : Bench F flash)
   held_not_done session k h =
       let x = position_is (λ (y : KeptChip flash.FaultState). is_held_by session y.holder) (kept_chips bench) k h in
       let holder = found_held flash.fault_model past.boot on.calm (starts_of flash.state past) (course_of flash.fault_model flash.state past) (kept_chips bench) bench.events bench.notes.notes bench.sessions.items on.stands
-          on.conditions.ascending holds session k x.0 h x.1 in
+      on.conditions.ascending holds session k x.0 h x.1 in
       let n = held_next flash.fault_model past.boot on.calm (starts_of flash.state past) (course_of flash.fault_model flash.state past) (kept_chips bench) bench.events bench.notes.notes bench.sessions.items on.stands
-          on.conditions.ascending holds k session x.0 x.1 holder in
+      on.conditions.ascending holds k session x.0 x.1 holder in
       ap has_no_command n.2 ∙ asks_on n.0.replies n.1 n.0.commands n.3
     where
       asks_on : (replies : List Reply) (op : Op) (cs : List Command) → next_op_of (sizes_in flash.state past) cs replies ≡ Some op → is_finished cs ≡ false
@@ -173,17 +173,21 @@ module _ {F : Type 0} {flash : Ghosts F} (past : Past F) (bench : Bench F flash)
     first_left command h =
         let f = first_of_list own_place.run.commands command h in
         let own_at : slice_get own_place.own.1 (length (outcomes_by (standing bench.notes.notes s))) ≡ Some command =
-            first_at (length (outcomes_by (standing bench.notes.notes s))) own_place.own.1 command f.0 (sym own_place.mirrors.shows.left ∙ f.1) in
+        first_at (length (outcomes_by (standing bench.notes.notes s))) own_place.own.1 command f.0 (sym own_place.mirrors.shows.left ∙ f.1) in
         let r = ready flash.fault_model past.boot (starts_of flash.state past) (course_of flash.fault_model flash.state past) (holds past bench turn.on_course) turn.on_course.conditions
-            place (length (outcomes_by (standing bench.notes.notes s))) own_place.own command own_place.begun_at own_at in
+        place (length (outcomes_by (standing bench.notes.notes s))) own_place.own command own_place.begun_at own_at in
         let o = next_of (sizes_in flash.state past) own_place.own.1 bench.notes.notes s own_place.run own_place.mirrors command f.0 f.1 r.can in
         let all = drop_all (λ c. CanRun (sizes_in flash.state past c) c) (length (outcomes_by (standing bench.notes.notes s))) own_place.own.1 own_place.mirrors.runnable in
         let raw = subst (First (λ c. (device_of o.0 ≡ command_device c) × IsRaw (sizes_in flash.state past c) o.0)) f.1
-            (next_raw (sizes_in flash.state past) own_place.run o.0 (subst (All (λ c. CanRun (sizes_in flash.state past c) c)) (sym own_place.mirrors.shows.left) all) o.1) in
+        (next_raw (sizes_in flash.state past) own_place.run o.0 (subst (All (λ c. CanRun (sizes_in flash.state past c) c)) (sym own_place.mirrors.shows.left) all) o.1) in
         record {
-          rest = f.0; left = f.1; is_ready = r; op = o.0;
+          rest = f.0;
+          left = f.1;
+          is_ready = r;
+          op = o.0;
           next = ap (next_op (sizes_in flash.state past)) run_found ∙ o.1;
-          device = raw.0; raw = raw.1;
+          device = raw.0;
+          raw = raw.1;
           chip = ap (chip_of past.boot.partitions) raw.0 ∙ ap chip_of_part r.part_is;
         }
 
@@ -198,7 +202,7 @@ module _ {F : Type 0} {flash : Ghosts F} (past : Past F) (bench : Bench F flash)
         × (is_done (course_of flash.fault_model flash.state past) session ≡ true)
     done_where_none h =
         let none : next_op (sizes_in flash.state past) (session_run (course_of flash.fault_model flash.state past) session) ≡ None =
-            ap (next_op (sizes_in flash.state past)) run_found ∙ ap (λ cs. next_op_of (sizes_in flash.state past) cs own_place.run.replies) h in
+        ap (next_op (sizes_in flash.state past)) run_found ∙ ap (λ cs. next_op_of (sizes_in flash.state past) cs own_place.run.replies) h in
         (ap (option_and_then (λ (op : Op). chip_of past.boot.partitions (device_of op))) none, ap has_no_command run_found ∙ ap is_finished h)
 
     -- where a chip is next, a command is
@@ -262,13 +266,13 @@ module _ {F : Type 0} {flash : Ghosts F} (past : Past F) (bench : Bench F flash)
       → is_idle past.boot.partitions (sizes_in flash.state past) (course_of flash.fault_model flash.state past) session ≡ true
   idle_where_blocked i blocked =
       let attached = unattached_there flash.fault_model past.boot turn.on_course.calm (starts_of flash.state past) (course_of flash.fault_model flash.state past) (kept_chips bench) bench.events bench.notes.notes bench.sessions.items
-          turn.on_course.stands ∙ turn.attached in
+      turn.on_course.stands ∙ turn.attached in
       idle_else flash.fault_model past.boot (sizes_in flash.state past) (course_of flash.fault_model flash.state past) session turn.on_course.stands.keeps.lit attached (pending_is_none i) blocked
 
   pub busy_pending : (k : ℕ) → first_held_by session (kept_chips bench) ≡ Some k → is_idle past.boot.partitions (sizes_in flash.state past) (course_of flash.fault_model flash.state past) session ≡ false
   busy_pending k h =
       let attached = unattached_there flash.fault_model past.boot turn.on_course.calm (starts_of flash.state past) (course_of flash.fault_model flash.state past) (kept_chips bench) bench.events bench.notes.notes bench.sessions.items
-          turn.on_course.stands ∙ turn.attached in
+      turn.on_course.stands ∙ turn.attached in
       busy_where_pending flash.fault_model past.boot (sizes_in flash.state past) (course_of flash.fault_model flash.state past) session turn.on_course.stands.keeps.lit attached k
       (pending_there flash.fault_model past.boot turn.on_course.calm (starts_of flash.state past) (course_of flash.fault_model flash.state past) (kept_chips bench) bench.events bench.notes.notes bench.sessions.items
       turn.on_course.stands session turn.attached ∙ h)
@@ -283,7 +287,7 @@ module _ {F : Type 0} {flash : Ghosts F} (past : Past F) (bench : Bench F flash)
           → next_course flash.fault_model flash.state past session ≡ course_of flash.fault_model flash.state past
       turn_is_idle_by h =
           let attached = unattached_there flash.fault_model past.boot turn.on_course.calm (starts_of flash.state past) (course_of flash.fault_model flash.state past) (kept_chips bench) bench.events bench.notes.notes bench.sessions.items
-              turn.on_course.stands ∙ turn.attached in
+          turn.on_course.stands ∙ turn.attached in
           turn_is_idle flash.fault_model past.boot (sizes_in flash.state past) (course_of flash.fault_model flash.state past) session turn.on_course.stands.keeps.lit attached h
 
   -- a chip that no session holds is at rest
@@ -291,7 +295,7 @@ module _ {F : Type 0} {flash : Ghosts F} (past : Past F) (bench : Bench F flash)
   rests_here k slot at holder =
       let c = chip_of_slot k slot at in
       let attached = unattached_there flash.fault_model past.boot turn.on_course.calm (starts_of flash.state past) (course_of flash.fault_model flash.state past) (kept_chips bench) bench.events bench.notes.notes bench.sessions.items
-          turn.on_course.stands ∙ turn.attached in
+      turn.on_course.stands ∙ turn.attached in
       let known = position_none (λ (d : ChipRun flash.FaultState). is_none d.known) (course_of flash.fault_model flash.state past).chips attached k c.0 c.1 in
       let r = resting past.boot.partitions c.0 known (ap (λ (y : KeptChip flash.FaultState). y.holder) c.2 ∙ holder) in
       ap (λ (y : KeptChip flash.FaultState). is_resting y.stage) (sym c.2) ∙ (λ d. is_resting (stage_by past.boot.partitions c.0 (r.1 d) (r.2 d)))
@@ -307,7 +311,7 @@ module _ {F : Type 0} {flash : Ghosts F} (past : Past F) (bench : Bench F flash)
       let found : session_at (course_of flash.fault_model flash.state past) (Some k) ≡ Some by = ap session_on c.1 ∙ ap session_of p.1 ∙ ap Some p.2 in
       let op = and_then_some (λ (op : Op). chip_of past.boot.partitions (device_of op)) (next_op (sizes_in flash.state past) (session_run (course_of flash.fault_model flash.state past) session)) k j in
       let blocked : can_begin past.boot.partitions (course_of flash.fault_model flash.state past) (next_op (sizes_in flash.state past) (session_run (course_of flash.fault_model flash.state past) session)) ≡ false =
-          ap (can_begin past.boot.partitions (course_of flash.fault_model flash.state past)) op.1 ∙ ap (is_free_at (course_of flash.fault_model flash.state past)) op.2 ∙ ap is_free c.1 ∙ ap (λ (q : Option Pending). is_none q) p.1 in
+      ap (can_begin past.boot.partitions (course_of flash.fault_model flash.state past)) op.1 ∙ ap (is_free_at (course_of flash.fault_model flash.state past)) op.2 ∙ ap is_free c.1 ∙ ap (λ (q : Option Pending). is_none q) p.1 in
       (ap held_or_did (sym found) ∙ answers_else None (Some k) h (pending_is_none i) j, stays_where_blocked i blocked, idle_where_blocked i blocked)
 
   -- a session that holds no chip begins on a free chip
@@ -318,15 +322,16 @@ module _ {F : Type 0} {flash : Ghosts F} (past : Past F) (bench : Bench F flash)
   answers_did_begin k slot h i j at holder =
       let c = chip_of_slot k slot at in
       let attached = unattached_there flash.fault_model past.boot turn.on_course.calm (starts_of flash.state past) (course_of flash.fault_model flash.state past) (kept_chips bench) bench.events bench.notes.notes bench.sessions.items
-          turn.on_course.stands ∙ turn.attached in
+      turn.on_course.stands ∙ turn.attached in
       let known = position_none (λ (d : ChipRun flash.FaultState). is_none d.known) (course_of flash.fault_model flash.state past).chips attached k c.0 c.1 in
       let r = resting past.boot.partitions c.0 known (ap (λ (y : KeptChip flash.FaultState). y.holder) c.2 ∙ holder) in
       let found : session_at (course_of flash.fault_model flash.state past) (Some k) ≡ None = ap session_on c.1 ∙ ap session_of r.2 in
       let op = and_then_some (λ (op : Op). chip_of past.boot.partitions (device_of op)) (next_op (sizes_in flash.state past) (session_run (course_of flash.fault_model flash.state past) session)) k j in
       let begins : can_begin past.boot.partitions (course_of flash.fault_model flash.state past) (next_op (sizes_in flash.state past) (session_run (course_of flash.fault_model flash.state past) session)) ≡ true =
-          ap (can_begin past.boot.partitions (course_of flash.fault_model flash.state past)) op.1 ∙ ap (is_free_at (course_of flash.fault_model flash.state past)) op.2 ∙ ap is_free c.1 ∙ ap (λ (q : Option Pending). is_none q) r.2 in
-      (ap held_or_did (sym found) ∙ answers_else None (Some k) h (pending_is_none i) j,
-      busy_where_begins flash.fault_model past.boot (sizes_in flash.state past) (course_of flash.fault_model flash.state past) session turn.on_course.stands.keeps.lit attached begins)
+      ap (can_begin past.boot.partitions (course_of flash.fault_model flash.state past)) op.1 ∙ ap (is_free_at (course_of flash.fault_model flash.state past)) op.2 ∙ ap is_free c.1 ∙ ap (λ (q : Option Pending). is_none q) r.2 in (
+        ap held_or_did (sym found) ∙ answers_else None (Some k) h (pending_is_none i) j,
+        busy_where_begins flash.fault_model past.boot (sizes_in flash.state past) (course_of flash.fault_model flash.state past) session turn.on_course.stands.keeps.lit attached begins,
+      )
 
   -- nothing is done where no command is left
   pub stays_where_done : first_held_by session (kept_chips bench) ≡ None → is_done (course_of flash.fault_model flash.state past) session ≡ true

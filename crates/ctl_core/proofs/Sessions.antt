@@ -99,28 +99,33 @@ module _ (sizes : Command → Geometry) (begun : List (ℕ × List Command)) (no
                 let here : Some new ≡ Some t = sym o.here ∙ ap (slice_get changed) e ∙ there in
                 let same : new ≡ t = cc in
                 let mapped : slice_get (replied sizes (number_of s) reply runs) i ≡ Some (with_reply sizes reply p.run) =
-                    slice_get-map _ runs i ∙ ap (option_map _) p.run_at ∙ ap (λ b. Some (if b then with_reply sizes reply p.run else p.run)) (eq-eqb _ _ (run_number i s p.run h p.run_at)) in
+                slice_get-map _ runs i ∙ ap (option_map _) p.run_at ∙ ap (λ b. Some (if b then with_reply sizes reply p.run else p.run)) (eq-eqb _ _ (run_number i s p.run h p.run_at)) in
                 let runs_same : Some (with_reply sizes reply p.run) ≡ Some r = sym mapped ∙ ap (slice_get (replied sizes (number_of s) reply runs)) e ∙ is in
                 let run_same : with_reply sizes reply p.run ≡ r = cc in
-                let owns : p.own ≡ b = cc (p.begun_at) in
-                (ap number_of (sym same) ∙ sym m.shows.number ∙ number_stays sizes p.run.number p.run.commands (p.run.replies ++ reply ∷ []) p.run.outcomes
-                ∙ run_number i s p.run h p.run_at ∙ p.number ∙ ap (λ (x : ℕ × List Command). x.0) owns,
-                subst₂ (λ x y. Mirrors sizes b.1 (notes ++ more) x y) same run_same m)
+                let owns : p.own ≡ b = cc (p.begun_at) in (
+                  ap number_of (sym same) ∙ sym m.shows.number ∙ number_stays sizes p.run.number p.run.commands (p.run.replies ++ reply ∷ []) p.run.outcomes
+                      ∙ run_number i s p.run h p.run_at ∙ p.number ∙ ap (λ (x : ℕ × List Command). x.0) owns,
+                  subst₂ (λ x y. Mirrors sizes b.1 (notes ++ more) x y) same run_same m,
+                )
             by_case (inr n) =
                 let old : slice_get sessions j ≡ Some t = sym (o.elsewhere j n) ∙ there in
                 let p = placed j t old in
                 let owns : p.own ≡ b = cc (p.begun_at) in
                 let other : p.run.number ≡ number_of s → ⊥ = λ e. n (same_place i j s t h old (sym e ∙ run_number j t p.run old p.run_at)) in
                 let mapped : slice_get (replied sizes (number_of s) reply runs) j ≡ Some p.run =
-                    slice_get-map _ runs j ∙ ap (option_map _) p.run_at ∙ ap (λ b. Some (if b then with_reply sizes reply p.run else p.run)) (ne_eqb _ _ other) in
-                let run_same : p.run ≡ r = cc (mapped) in
-                (p.number ∙ ap (λ (x : ℕ × List Command). x.0) owns,
-                subst₂ (λ (x : ℕ × List Command) y. Mirrors sizes x.1 (notes ++ more) t y) owns run_same (mirrors_later sizes p.own.1 notes more t p.run p.mirrors))
+                slice_get-map _ runs j ∙ ap (option_map _) p.run_at ∙ ap (λ b. Some (if b then with_reply sizes reply p.run else p.run)) (ne_eqb _ _ other) in
+                let run_same : p.run ≡ r = cc (mapped) in (
+                  p.number ∙ ap (λ (x : ℕ × List Command). x.0) owns,
+                  subst₂ (λ (x : ℕ × List Command) y. Mirrors sizes x.1 (notes ++ more) t y) owns run_same (mirrors_later sizes p.own.1 notes more t p.run p.mirrors),
+                )
 
   -- there are more notes
   pub all_later : (more : List Note) → SessionsMirror sizes begun (notes ++ more) sessions runs
-  all_later more = record { many = all.many; runs_many = all.runs_many;
-    each = λ i b s run h g k. let e = all.each i b s run h g k in (e.0, mirrors_later sizes b.1 notes more s run e.1) }
+  all_later more = record {
+    many = all.many;
+    runs_many = all.runs_many;
+    each = λ i b s run h g k. let e = all.each i b s run h g k in (e.0, mirrors_later sizes b.1 notes more s run e.1);
+  }
 
   -- a session stands where it stood
   pub one_resumed : (i : ℕ) (s new : Session) (changed : List Session) → slice_get sessions i ≡ Some s → OneChanged sessions i new changed

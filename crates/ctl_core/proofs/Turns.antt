@@ -141,7 +141,7 @@ module _ {W : Type 0} (model : FaultModel W) (boot : Boot) (calm : IsCalm boot) 
     pub follows_answer : (i k : ℕ) (s new : Session) (changed : List Session) (x : KeptChip W) (finished : Finished) → first_attaching chips ≡ None → slice_get sessions i ≡ Some s
         → first_held_by (number_of s) chips ≡ Some k → slice_get chips k ≡ Some x → finished_in x.stage ≡ Some finished → OneChanged sessions i new changed
         → ((commands : List Command) (run : SessionRun) → Mirrors (sizes_of boot starts) commands notes s run → IsWaiting s
-            → Mirrors (sizes_of boot starts) commands (notes ++ Answered (number_of s) finished.reply ∷ []) new (with_reply (sizes_of boot starts) finished.reply run))
+        → Mirrors (sizes_of boot starts) commands (notes ++ Answered (number_of s) finished.reply ∷ []) new (with_reply (sizes_of boot starts) finished.reply run))
         → Follows boot starts (turn_step model boot (sizes_of boot starts) course (number_of s)) (change_at chips k (after_answer finished.known)) events (notes ++ Answered (number_of s) finished.reply ∷ []) changed
     follows_answer i k s new changed x finished attached is_at held at over o replied_so =
         let c = chip_there k x at in
@@ -152,11 +152,11 @@ module _ {W : Type 0} (model : FaultModel W) (boot : Boot) (calm : IsCalm boot) 
         let pendings : w.1 ≡ p.0 = cc in
         let session : w.1.session ≡ number_of s = ap (λ (q : Pending). q.session) pendings ∙ p.2 in
         let is = turn_answer_is model boot calm (sizes_of boot starts) course (number_of s) k c.0 w.0 w.1 finished follows.keeps.lit (unattached_there ∙ attached) (pending_there (number_of s) attached ∙ held) c.1
-            (next_there c.0 x c.2 ∙ finished_stage x.stage finished over) w.2 w.3 w.4 in
+        (next_there c.0 x c.2 ∙ finished_stage x.stage finished over) w.2 w.3 w.4 in
         let placed_s = placed (sizes_of boot starts) boot.sessions notes sessions course.sessions follows.mirrors i s is_at in
         let m = replied_so placed_s.own.1 placed_s.run placed_s.mirrors (follows.wait k i x s at is_at holder) in
         let number_new : number_of new ≡ number_of s = sym m.shows.number ∙ number_stays (sizes_of boot starts) placed_s.run.number placed_s.run.commands (placed_s.run.replies ++ finished.reply ∷ []) placed_s.run.outcomes
-            ∙ placed_s.mirrors.shows.number in
+        ∙ placed_s.mirrors.shows.number in
         subst (λ d. Follows boot starts d (change_at chips k (after_answer finished.known)) events (notes ++ Answered (number_of s) finished.reply ∷ []) changed)
         (sym (is ∙ ap (λ n. finish (sizes_of boot starts) course k c.0 n (Some finished)) session)) (record {
           keeps = answer_kept model boot calm (sizes_of boot starts) course chips events notes (number_of s) k c.0 finished follows.keeps c.1;
@@ -171,9 +171,9 @@ module _ {W : Type 0} (model : FaultModel W) (boot : Boot) (calm : IsCalm boot) 
         → first_held_by (number_of s) chips ≡ None → slice_get chips k ≡ Some x → x.holder ≡ None → OneChanged sessions i new changed → IsWaiting new
         → next_op (sizes_of boot starts) (session_run course (number_of s)) ≡ Some op → chip_of boot.partitions (device_of op) ≡ Some k
         → ((own : ℕ × List Command) (run : SessionRun) → slice_get boot.sessions i ≡ Some own → slice_get course.sessions i ≡ Some run → Mirrors (sizes_of boot starts) own.1 notes s run
-            → Mirrors (sizes_of boot starts) own.1 notes new run)
+        → Mirrors (sizes_of boot starts) own.1 notes new run)
         → Follows boot starts (turn_step model boot (sizes_of boot starts) course (number_of s)) (change_at chips k (after_begin boot.partitions (number_of s) op)) events
-          (notes ++ Began (number_of s) op ∷ []) changed
+        (notes ++ Began (number_of s) op ∷ []) changed
     follows_begin i k s new changed x op attached is_at held at free o waits next of_chip resumed =
         let c = chip_there k x at in
         let known = position_none (λ (d : ChipRun W). is_none d.known) course.chips (unattached_there ∙ attached) k c.0 c.1 in
@@ -183,7 +183,7 @@ module _ {W : Type 0} (model : FaultModel W) (boot : Boot) (calm : IsCalm boot) 
         let m = resumed placed_s.own placed_s.run placed_s.begun_at placed_s.run_at placed_s.mirrors in
         let number_new : number_of new ≡ number_of s = sym m.shows.number ∙ placed_s.mirrors.shows.number in
         let mirrors_now = one_resumed (sizes_of boot starts) boot.sessions notes sessions course.sessions follows.mirrors i s new changed is_at o
-            (λ own run b at_run. resumed own run b at_run (follows.mirrors.each i own s run b is_at at_run).1) in
+        (λ own run b at_run. resumed own run b at_run (follows.mirrors.each i own s run b is_at at_run).1) in
         subst (λ d. Follows boot starts d (change_at chips k (after_begin boot.partitions (number_of s) op)) events (notes ++ Began (number_of s) op ∷ []) changed) (sym is) (record {
           keeps = begin_kept model boot calm (sizes_of boot starts) course chips events notes (number_of s) k op c.0 r.0 follows.keeps c.1 r.1 r.2;
           mirrors = all_later (sizes_of boot starts) boot.sessions notes changed course.sessions mirrors_now (Began (number_of s) op ∷ []);
@@ -194,7 +194,7 @@ module _ {W : Type 0} (model : FaultModel W) (boot : Boot) (calm : IsCalm boot) 
     -- a session that could not begin for want of memory
     pub follows_resumed : (i : ℕ) (s new : Session) (changed : List Session) → slice_get sessions i ≡ Some s → first_held_by (number_of s) chips ≡ None → OneChanged sessions i new changed
         → ((own : ℕ × List Command) (run : SessionRun) → slice_get boot.sessions i ≡ Some own → slice_get course.sessions i ≡ Some run → Mirrors (sizes_of boot starts) own.1 notes s run
-            → Mirrors (sizes_of boot starts) own.1 notes new run)
+        → Mirrors (sizes_of boot starts) own.1 notes new run)
         → Follows boot starts course chips events notes changed
     follows_resumed i s new changed is_at held o resumed =
         let placed_s = placed (sizes_of boot starts) boot.sessions notes sessions course.sessions follows.mirrors i s is_at in

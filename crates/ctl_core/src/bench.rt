@@ -118,9 +118,7 @@ impl<F: Flash> Bench<F> {
     pub fn first_attaching(&self) -> Option<usize>
         ensures { result ≡ position (λ slot. not (is_attached (chip_stage slot.chip))) self.now.slots.items }
     {
-        self.slots
-            .iter()
-            .position(|slot| !slot.chip.is_attached())
+        self.slots.iter().position(|slot| !slot.chip.is_attached())
     }
 
     // The chip that a session holds.
@@ -136,9 +134,7 @@ impl<F: Flash> Bench<F> {
     pub fn place_of(&self, session: u32) -> Option<usize>
         ensures { result ≡ position (λ s. number_of s == session) self.now.sessions.items }
     {
-        self.sessions
-            .iter()
-            .position(|one| one.number() == session)
+        self.sessions.iter().position(|one| one.number() == session)
     }
 
     // Does the next event of a chip.

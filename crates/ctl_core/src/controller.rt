@@ -48,7 +48,11 @@ impl<F: Flash> Core<F> {
     ///
     /// There are at most eight flashes, without tables and turned bits. The partitions lie on these chips, the commands name devices that are there, with their sizes, and can
     /// be run; the sessions' numbers ascend; and the commands cost at most 16,777,216 operations together.
-    pub fn start(alloc: Global, boot: ControllerBoot, flashes: FlashList<F>) -> Result<Core<F>, AllocError>
+    pub fn start(
+        alloc: Global,
+        boot: ControllerBoot,
+        flashes: FlashList<F>,
+    ) -> Result<Core<F>, AllocError>
         requires { CanStart boot (map F.state flashes) }
         ensures { IfOk result (λ core. core ≡ at_start boot flashes) }
     {

@@ -43,7 +43,11 @@ pub fn stop_all<F: Flash>(alloc: Global, slots: Vec<Slot<F>>) -> Result<FlashLis
 }
 
 // How the sessions ended.
-pub fn end_all(alloc: Global, sessions: Vec<Session>, notes: &History) -> Result<OutcomeList, AllocError>
+pub fn end_all(
+    alloc: Global,
+    sessions: Vec<Session>,
+    notes: &History,
+) -> Result<OutcomeList, AllocError>
     ensures { IfOk result (λ ends. ends ≡ map (λ s. end_of false (standing notes.now.notes s)) sessions.items) }
 {
     let mut ends = OutcomeList::new(alloc);
@@ -57,7 +61,11 @@ pub fn end_all(alloc: Global, sessions: Vec<Session>, notes: &History) -> Result
 }
 
 // The statistics of each device.
-pub fn all_statistics<F: Flash>(alloc: Global, slots: &[Slot<F>], parts: &Parts) -> Result<StatsList, AllocError>
+pub fn all_statistics<F: Flash>(
+    alloc: Global,
+    slots: &[Slot<F>],
+    parts: &Parts,
+) -> Result<StatsList, AllocError>
     requires { All (λ (part : Partition). part.chip < length slots.now) parts.now.parts }
     ensures { IfOk result (λ stats. stats ≡ kept_statistics parts.now (map kept_slot slots.now) (device_numbers parts.now)) }
 {

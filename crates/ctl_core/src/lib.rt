@@ -11,4 +11,6 @@ mod turn;
 
 pub use controller::Core;
 pub use ending::Ended;
+pub use session_steps::{OutcomeList, SessionEnd, StatsList};
+pub use tool_steps::{ControllerBoot, FlashList, Schedule};
 pub use turn::Turn;

@@ -14,7 +14,10 @@ use std::alloc::{AllocError, Global};
 use tool_steps::{ControllerBoot, FlashList};
 
 // The chips of these flashes at the start of their attaches, none of them held.
-pub fn first_slots<F: Flash>(alloc: Global, flashes: FlashList<F>) -> Result<Vec<Slot<F>>, AllocError>
+pub fn first_slots<F: Flash>(
+    alloc: Global,
+    flashes: FlashList<F>,
+) -> Result<Vec<Slot<F>>, AllocError>
     requires { All IsPlain (map F.state flashes) }
     ensures { IfOk result (λ slots. map kept_slot slots.items ≡ map kept_first (map F.state flashes)) }
 {

@@ -95,7 +95,12 @@ impl<F: Flash> Bench<F> {
 
     // Begins the next operation of a session that has none in flight, where its commands are not over and its chip is free.
     // Where memory runs out, chips, sessions and notes stand where they stood.
-    fn begin(&mut self, journal: &Journal<F>, place: usize, session: u32) -> Result<Turn, AllocError>
+    fn begin(
+        &mut self,
+        journal: &Journal<F>,
+        place: usize,
+        session: u32,
+    ) -> Result<Turn, AllocError>
         requires turn { IsAtTurn (past_of journal.now) session place self.old }
         requires free { first_held_by session (kept_chips self.old) ≡ None }
         requires room { 0 < self.old.notes.room }
@@ -129,7 +134,13 @@ impl<F: Flash> Bench<F> {
     }
 
     // Begins the next operation of a session on its chip, which is free.
-    fn begin_on(&mut self, journal: &Journal<F>, place: usize, k: usize, session: u32) -> Result<(), AllocError>
+    fn begin_on(
+        &mut self,
+        journal: &Journal<F>,
+        place: usize,
+        k: usize,
+        session: u32,
+    ) -> Result<(), AllocError>
         requires turn { IsAtTurn (past_of journal.now) session place self.old }
         requires none { first_held_by session (kept_chips self.old) ≡ None }
         requires chip { next_chip journal.now.boot.partitions (sizes_in F.state (past_of journal.now)) (course_of F.fault_model F.state (past_of journal.now)) session ≡ Some k }

@@ -11,7 +11,7 @@ use Rattle.ctl_core.proofs.starting.first_sessions.Goals as goal
 pub loop-number-preserved : goal.loop-number-preserved
 loop-number-preserved c =
     let here : session_number c.args.boot.now (length c.loop-number.sessions.items) ≡ Some c.in-Some.number =
-        ap (session_number c.args.boot.now) (sym (c.len.ensures ∙ c.loop-number.sessions.ok.0)) ∙ sym c.session.ensures.number ∙ c.in-Some.is in
+    ap (session_number c.args.boot.now) (sym (c.len.ensures ∙ c.loop-number.sessions.ok.0)) ∙ sym c.session.ensures.number ∙ c.in-Some.is in
     let below = before_end (λ (s : ℕ × List Command). s.0) c.args.boot.now.sessions (length c.loop-number.sessions.items) c.in-Some.number here in
     record {
       within = let longer : length c.push.new.self.items ≡ length c.loop-number.sessions.items + 1 = ap length c.in_ok-push.ensures.items ∙ length_push c.loop-number.sessions.items c.new.result in omega (arith, longer, below);
@@ -23,13 +23,13 @@ loop-number-preserved c =
     by_place i b s at here (inl old) = c.loop-number.invariant.each i b s at old
     by_place i b s at here (inr (e, same)) =
         let number : session_number c.args.boot.now (length c.loop-number.sessions.items) ≡ Some b.0 =
-            ap (option_map (λ (x : ℕ × List Command). x.0)) (ap (slice_get c.args.boot.now.sessions) (sym e) ∙ at) in
+        ap (option_map (λ (x : ℕ × List Command). x.0)) (ap (slice_get c.args.boot.now.sessions) (sym e) ∙ at) in
         let own : c.in-Some.number ≡ b.0 = cc (number, here) in
         subst₂ (λ n t. IsFresh n t) own same c.new.ensures
 
 pub returns-clause-fresh : goal.returns-clause-fresh
 returns-clause-fresh c =
     let here : session_number c.args.boot.now (length c.loop-number.sessions.items) ≡ None =
-        ap (session_number c.args.boot.now) (sym (c.len.ensures ∙ c.loop-number.sessions.ok.0)) ∙ sym c.session.ensures.number ∙ c.in_default.is in
+    ap (session_number c.args.boot.now) (sym (c.len.ensures ∙ c.loop-number.sessions.ok.0)) ∙ sym c.session.ensures.number ∙ c.in_default.is in
     let end = past_end (λ (s : ℕ × List Command). s.0) c.args.boot.now.sessions (length c.loop-number.sessions.items) here in
     record { many = omega (arith, end, c.loop-number.invariant.within); each = c.loop-number.invariant.each }

@@ -26,4 +26,5 @@ returns g c = (
   (λ h i b s at there. let within = slice_get_within c.args.self.now.sessions.items i s there in
       let all : length c.args.self.now.sessions.items ≤ c.loop-k.k = omega (arith, c.loop-k-test.false, c.len-k-end.ensures, c.args.self.now.sessions.ok.0) in
       c.loop-k.invariant i b s (omega (arith, within, all)) at there),
-  (λ h. refl))
+  (λ h. refl),
+)

@@ -71,8 +71,8 @@ begin-requires-clause-can g c =
     let own = own_session past bench c.args.session c.args.place c.requires.turn c.index_mut.result.now c.index_mut.ensures.value in
     let first = begins_with past bench c.args.session c.args.place c.requires.turn c.index_mut.result.now own.0 own.1 c.args.k c.requires.chip in
     let op = op_here past bench c.args.session c.args.place c.requires.turn c.index_mut.result.now own.0 own.1 c.args.k c.index_mut-2.result.now slot.0 first.0 first.1 first.2
-        c.in_ok-op.op c.commands-commands.result.now c.commands-commands.ensures
-        (λ sz run m f. c.in_ok-op.ensures.op sz run m (subst (λ (all : Geometry). First (λ (command : Command). sz command ≡ all) run.commands) (sym sizes) f)) in
+    c.in_ok-op.op c.commands-commands.result.now c.commands-commands.ensures
+    (λ sz run m f. c.in_ok-op.ensures.op sz run m (subst (λ (all : Geometry). First (λ (command : Command). sz command ≡ all) run.commands) (sym sizes) f)) in
     subst (λ (partitions : Partitions). CanBegin (kept_slot c.index_mut-2.result.now).state.geometry partitions c.in_ok-op.op) (sym c.parts.ensures)
     (subst (CanBegin (kept_slot c.index_mut-2.result.now).state.geometry c.args.journal.now.boot.partitions) op
     (can_begin_here past bench c.args.session c.args.place c.requires.turn c.index_mut.result.now own.0 own.1 c.args.k c.index_mut-2.result.now slot.0 first.0 first.1 first.2))
@@ -105,8 +105,8 @@ returns-clause-stands g c =
     let own = own_session past bench c.args.session c.args.place c.requires.turn c.index_mut.result.now c.index_mut.ensures.value in
     let first = begins_with past bench c.args.session c.args.place c.requires.turn c.index_mut.result.now own.0 own.1 c.args.k c.requires.chip in
     let op = op_here past bench c.args.session c.args.place c.requires.turn c.index_mut.result.now own.0 own.1 c.args.k c.index_mut-2.result.now slot.0 first.0 first.1 first.2
-        c.in_ok-op.op c.commands-commands.result.now c.commands-commands.ensures
-        (λ sz run m f. c.in_ok-op.ensures.op sz run m (subst (λ (all : Geometry). First (λ (command : Command). sz command ≡ all) run.commands) (sym sizes) f)) in
+    c.in_ok-op.op c.commands-commands.result.now c.commands-commands.ensures
+    (λ sz run m f. c.in_ok-op.ensures.op sz run m (subst (λ (all : Geometry). First (λ (command : Command). sz command ≡ all) run.commands) (sym sizes) f)) in
     stands_begun past bench c.args.session c.args.place c.requires.turn c.index_mut.result.now own.0 own.1 c.args.k c.index_mut-2.result.now slot.0 first.0 first.1 first.2
     c.begin.new.self c.next_op.new.self c.push.new.self.notes c.commands-commands.result.now c.commands-commands.ensures c.requires.none
     (ap (λ (y : KeptChip g.F.Flash.FaultState). y.holder) slot.1 ∙ x.2)

@@ -27,9 +27,9 @@ returns-in_err-part-clause-chip g c =
     let past = past_of c.args.journal.now in
     let own = own_session past c.args.self.now c.args.session c.args.place c.requires c.index.result.now c.index.ensures in
     let first = some_next past c.args.self.now c.args.session c.args.place c.requires c.index.result.now own.0 own.1
-        c.commands-commands.result.now c.next_command.result c.in_ok-command.command c.commands-commands.ensures c.next_command.ensures c.in_ok-command.was in
+    c.commands-commands.result.now c.next_command.result c.in_ok-command.command c.commands-commands.ensures c.next_command.ensures c.in_ok-command.was in
     let there = part_next past c.args.self.now c.args.session c.args.place c.requires c.index.result.now own.0 own.1 c.in_ok-command.command.now first
-        c.parts.result.now c.device_of.result c.get.result c.parts.ensures c.device_of.ensures c.get.ensures.lent in
+    c.parts.result.now c.device_of.result c.get.result c.parts.ensures c.device_of.ensures c.get.ensures.lent in
     absurd (no_part _ first.is_ready.part (none_lent c.get.result _ refl c.in_err-part.was) there)
 
 pub returns-in_err-part-clause-over : goal.returns-in_err-part-clause-over
@@ -37,9 +37,9 @@ returns-in_err-part-clause-over g c =
     let past = past_of c.args.journal.now in
     let own = own_session past c.args.self.now c.args.session c.args.place c.requires c.index.result.now c.index.ensures in
     let first = some_next past c.args.self.now c.args.session c.args.place c.requires c.index.result.now own.0 own.1
-        c.commands-commands.result.now c.next_command.result c.in_ok-command.command c.commands-commands.ensures c.next_command.ensures c.in_ok-command.was in
+    c.commands-commands.result.now c.next_command.result c.in_ok-command.command c.commands-commands.ensures c.next_command.ensures c.in_ok-command.was in
     let there = part_next past c.args.self.now c.args.session c.args.place c.requires c.index.result.now own.0 own.1 c.in_ok-command.command.now first
-        c.parts.result.now c.device_of.result c.get.result c.parts.ensures c.device_of.ensures c.get.ensures.lent in
+    c.parts.result.now c.device_of.result c.get.result c.parts.ensures c.device_of.ensures c.get.ensures.lent in
     absurd (no_part _ first.is_ready.part (none_lent c.get.result _ refl c.in_err-part.was) there)
 
 same_part : (one other : Part) → Some one ≡ Some other → one ≡ other
@@ -50,9 +50,9 @@ returns-clause-chip g c =
     let past = past_of c.args.journal.now in
     let own = own_session past c.args.self.now c.args.session c.args.place c.requires c.index.result.now c.index.ensures in
     let first = some_next past c.args.self.now c.args.session c.args.place c.requires c.index.result.now own.0 own.1
-        c.commands-commands.result.now c.next_command.result c.in_ok-command.command c.commands-commands.ensures c.next_command.ensures c.in_ok-command.was in
+    c.commands-commands.result.now c.next_command.result c.in_ok-command.command c.commands-commands.ensures c.next_command.ensures c.in_ok-command.was in
     let there = part_next past c.args.self.now c.args.session c.args.place c.requires c.index.result.now own.0 own.1 c.in_ok-command.command.now first
-        c.parts.result.now c.device_of.result c.get.result c.parts.ensures c.device_of.ensures c.get.ensures.lent in
+    c.parts.result.now c.device_of.result c.get.result c.parts.ensures c.device_of.ensures c.get.ensures.lent in
     let part = same_part c.in_ok-part.part.now first.is_ready.part (sym (some_lent c.get.result _ c.in_ok-part.part refl c.in_ok-part.was) ∙ there) in
     ap (λ (p : Part). Some p.chip) part ∙ chip_next past c.args.self.now c.args.session c.args.place c.requires c.index.result.now own.0 own.1 c.in_ok-command.command.now first
 
@@ -61,7 +61,7 @@ returns-clause-over g c =
     let past = past_of c.args.journal.now in
     let own = own_session past c.args.self.now c.args.session c.args.place c.requires c.index.result.now c.index.ensures in
     let first = some_next past c.args.self.now c.args.session c.args.place c.requires c.index.result.now own.0 own.1
-        c.commands-commands.result.now c.next_command.result c.in_ok-command.command c.commands-commands.ensures c.next_command.ensures c.in_ok-command.was in
+    c.commands-commands.result.now c.next_command.result c.in_ok-command.command c.commands-commands.ensures c.next_command.ensures c.in_ok-command.was in
     not_done past c.args.self.now c.args.session c.args.place c.requires c.index.result.now own.0 own.1 c.in_ok-command.command.now first
 
 pub returns-clause-there : goal.returns-clause-there
@@ -69,8 +69,8 @@ returns-clause-there g c =
     let past = past_of c.args.journal.now in
     let own = own_session past c.args.self.now c.args.session c.args.place c.requires c.index.result.now c.index.ensures in
     let first = some_next past c.args.self.now c.args.session c.args.place c.requires c.index.result.now own.0 own.1
-        c.commands-commands.result.now c.next_command.result c.in_ok-command.command c.commands-commands.ensures c.next_command.ensures c.in_ok-command.was in
+    c.commands-commands.result.now c.next_command.result c.in_ok-command.command c.commands-commands.ensures c.next_command.ensures c.in_ok-command.was in
     let there = part_next past c.args.self.now c.args.session c.args.place c.requires c.index.result.now own.0 own.1 c.in_ok-command.command.now first
-        c.parts.result.now c.device_of.result c.get.result c.parts.ensures c.device_of.ensures c.get.ensures.lent in
+    c.parts.result.now c.device_of.result c.get.result c.parts.ensures c.device_of.ensures c.get.ensures.lent in
     let part = same_part c.in_ok-part.part.now first.is_ready.part (sym (some_lent c.get.result _ c.in_ok-part.part refl c.in_ok-part.was) ∙ there) in
     subst (λ (p : Part). p.chip < length c.args.self.now.slots.items) (sym part) (slot_there past c.args.self.now c.requires.on_course first.is_ready.part.chip first.is_ready.run first.is_ready.run_at).1

@@ -53,7 +53,7 @@ returns-clause-stats g c =
 pub returns-clause-bad : goal.returns-clause-bad
 returns-clause-bad g c =
     let over : is_over (course_of g.F.Flash.fault_model g.F.Flash.state (past_of c.self.inside.journal)) ≡ true =
-        ap (λ (p : Past g.row.F.Denot). is_over (course_of g.F.Flash.fault_model g.F.Flash.state p)) c.self.view_is ∙ c.requires in
+    ap (λ (p : Past g.row.F.Denot). is_over (course_of g.F.Flash.fault_model g.F.Flash.state p)) c.self.view_is ∙ c.requires in
     c.all_bad-bad.ensures ∙ ap (λ (slots : List (Slot g.row.F.Denot g.F.Flash)). sum_by kept_bad_blocks (map kept_slot slots)) c.deref-2.ensures.value
     ∙ last_bad (past_of c.self.inside.journal) c.self.inside.bench c.self.invariant over
     ∙ ap (λ (p : Past g.row.F.Denot). all_bad_blocks p.boot.partitions (course_of g.F.Flash.fault_model g.F.Flash.state p)) c.self.view_is
