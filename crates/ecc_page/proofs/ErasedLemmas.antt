@@ -52,7 +52,8 @@ erased_word : (t : ℕ) → bits_of (replicate 512 0xff) ++ take (13 * t) (bits_
 erased_word t =
     let e = parity_len (code_512 t) in
     let front : take (13 * t) (bits_of (parity_stored t (replicate 512 0xff))) ≡ replicate (13 * t) 1 =
-    ap (λ xs. take (13 * t) (bits_of xs)) (masked-erased (code_512 t)) ∙ ap (take (13 * t)) (bits_of-ones e) ∙ take-replicate (13 * t) (8 * e) 1 (omega arith) in
+    ap (λ xs. take (13 * t) (bits_of xs)) (masked-erased (code_512 t)) ∙ ap (take (13 * t)) (bits_of-ones e)
+    ∙ take-replicate (13 * t) (8 * e) 1 (omega arith) in
     ap₂ (λ xs ys. xs ++ ys) (bits_of-ones 512) front ∙ replicate-append-replicate 4096 (13 * t) 1
 
 -- a step with few zero bits is read as an erased one
@@ -142,7 +143,8 @@ pub zeros_more : (bytes : List ℕ) (k : ℕ) → k < length bytes → get_or by
 zeros_more bytes k inside small =
     let b = get_or bytes k 0 in
     ap (λ xs. count_by is_zero (bits_of xs)) (take_more bytes k 0 inside) ∙ ap (count_by is_zero) (bits_of-push (take k bytes) b)
-    ∙ sum_by-append (λ x. cond (is_zero x) 1 0) (bits_of (take k bytes)) (byte_bits b) ∙ ap (λ n. count_by is_zero (bits_of (take k bytes)) + n) (zeros_down b small).7
+    ∙ sum_by-append (λ x. cond (is_zero x) 1 0) (bits_of (take k bytes)) (byte_bits b)
+    ∙ ap (λ n. count_by is_zero (bits_of (take k bytes)) + n) (zeros_down b small).7
 
 pub zeros_none : count_by is_zero (bits_of []) ≡ 0
 unfolding bits_of

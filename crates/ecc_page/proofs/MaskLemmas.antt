@@ -79,7 +79,8 @@ unfolding xor_bytes bits_of sum_bits
 bits_of-xor [] ms e = refl
 bits_of-xor (x ∷ xs) [] e = absurd (omega arith)
 bits_of-xor (x ∷ xs) (m ∷ ms) e =
-    let last : bit_xor x m % 2 ≡ (x % 2 + m % 2) % 2 = sym (bit_at_lowest (bit_xor x m)) ∙ bit_at_xor x m 0 ∙ ap₂ (λ a b. (a + b) % 2) (bit_at_lowest x) (bit_at_lowest m) in
+    let last : bit_xor x m % 2 ≡ (x % 2 + m % 2) % 2 = sym (bit_at_lowest (bit_xor x m)) ∙ bit_at_xor x m 0
+    ∙ ap₂ (λ a b. (a + b) % 2) (bit_at_lowest x) (bit_at_lowest m) in
     cons (bit_at_xor x m 7) (cons (bit_at_xor x m 6) (cons (bit_at_xor x m 5) (cons (bit_at_xor x m 4)
     (cons (bit_at_xor x m 3) (cons (bit_at_xor x m 2) (cons (bit_at_xor x m 1) (cons last (bits_of-xor xs ms (omega arith)))))))))
 
@@ -113,8 +114,10 @@ distance-sum (x ∷ xs) (y ∷ ys) (m ∷ ms) bx by e e' =
     let ly : y < 2 = by.0 in
     let rest = distance-sum xs ys ms bx.1 by.1 (omega arith) (omega arith) in
     elim (cases_eq x y) [
-      | inl same ↦ distance-cons_same ((x + m) % 2) ((y + m) % 2) (sum_bits xs ms) (sum_bits ys ms) (ap (λ v. (v + m) % 2) same) ∙ rest ∙ sym (distance-cons_same x y xs ys same)
-      | inr off ↦ distance-cons_off ((x + m) % 2) ((y + m) % 2) (sum_bits xs ms) (sum_bits ys ms) (λ q. off (same_bit x y m lx ly q)) ∙ ap suc rest ∙ sym (distance-cons_off x y xs ys off)
+      | inl same ↦ distance-cons_same ((x + m) % 2) ((y + m) % 2) (sum_bits xs ms) (sum_bits ys ms) (ap (λ v. (v + m) % 2) same) ∙ rest
+          ∙ sym (distance-cons_same x y xs ys same)
+      | inr off ↦ distance-cons_off ((x + m) % 2) ((y + m) % 2) (sum_bits xs ms) (sum_bits ys ms) (λ q. off (same_bit x y m lx ly q)) ∙ ap suc rest
+          ∙ sym (distance-cons_off x y xs ys off)
     ]
 
 -- the distance of words in two parts

@@ -13,7 +13,8 @@ use Rattle.ecc_page.specs.Steps.{parity_at, parity_stored, read_of, read_at, rea
 use Rattle.ecc_page.proofs.Parts.{slice-take, slice-drop, take-two_set}
 use Rattle.ecc_page.proofs.Runs.{map-numbers}
 
-whole_steps : (page spare : ℕ) → ((page ≡ 2048) × (spare ≡ 64)) ⊎ (((page ≡ 4096) × (spare ≡ 128)) ⊎ ((page ≡ 4096) × (spare ≡ 224))) → page ≡ 512 * (page / 512)
+whole_steps : (page spare : ℕ) → ((page ≡ 2048) × (spare ≡ 64)) ⊎ (((page ≡ 4096) × (spare ≡ 128)) ⊎ ((page ≡ 4096) × (spare ≡ 224)))
+    → page ≡ 512 * (page / 512)
 whole_steps page spare (inl e) = let p = e.0 in omega arith
 whole_steps page spare (inr (inl e)) = let p = e.0 in omega arith
 whole_steps page spare (inr (inr e)) = let p = e.0 in omega arith
@@ -45,15 +46,18 @@ pub parity-inside : (g : Geometry) (s : ℕ) → s < step_count g → (s + 1) * 
 parity-inside g s below = let h : s + 1 ≤ step_count g = omega arith in mul-le-mul_right (parity_bytes g) h
 
 -- the steps of a page, read in the body beside the parities
-pub read-page : (g : Geometry) (cells : List ℕ) (s : ℕ) → s < step_count g → step_read g cells s ≡ read_at g (take g.page cells) (drop (parity_start g) (drop g.page cells)) s
+pub read-page : (g : Geometry) (cells : List ℕ) (s : ℕ) → s < step_count g
+    → step_read g cells s ≡ read_at g (take g.page cells) (drop (parity_start g) (drop g.page cells)) s
 read-page g cells s below =
     let whole = page-steps g in
     let body : step_body g cells s ≡ step_body g (take g.page cells) s = sym (slice-take cells (512 * s) (512 * (s + 1)) g.page (omega arith) (omega arith)) in
     let parity : stored_parity g cells s ≡ parity_at g (drop (parity_start g) (drop g.page cells)) s =
-    sym (ap (λ xs. parity_at g xs s) (drop-drop (parity_start g) g.page cells) ∙ slice-drop cells (s * parity_bytes g) ((s + 1) * parity_bytes g) (g.page + parity_start g)) in
+    sym (ap (λ xs. parity_at g xs s) (drop-drop (parity_start g) g.page cells)
+    ∙ slice-drop cells (s * parity_bytes g) ((s + 1) * parity_bytes g) (g.page + parity_start g)) in
     ap₂ (read_of g.t) body parity
 
-pub reads-page : (g : Geometry) (cells : List ℕ) → map (step_read g cells) (numbers_from 0 (step_count g)) ≡ reads_of g (take g.page cells) (drop (parity_start g) (drop g.page cells))
+pub reads-page : (g : Geometry) (cells : List ℕ)
+    → map (step_read g cells) (numbers_from 0 (step_count g)) ≡ reads_of g (take g.page cells) (drop (parity_start g) (drop g.page cells))
 reads-page g cells = map-numbers _ _ 0 (step_count g) (λ s below. read-page g cells s (omega arith))
 
 -- a step that was not yet read stands as it stood
@@ -80,7 +84,8 @@ encoded_parts g cells body spare parities post long eb es ep none =
     let middle : take (parity_start g) (set (set rest 0 0xff) 1 0xff) ≡ marks ++ free =
     take-two_set rest 0xff 0xff (parity_start g) lrest room.0
     ∙ ap (λ xs. 0xff ∷ 0xff ∷ xs) (sym (ap₂ take count (sym (drop-drop 2 g.page cells)))) in
-    let last : parities ++ post ≡ stored = ap (λ xs. parities ++ xs) none ∙ append-nil parities ∙ ep ∙ ap (λ xs. flat_map (λ s. parity_stored g.t (step_body g xs s)) (numbers_from 0 (step_count g))) eb in
+    let last : parities ++ post ≡ stored = ap (λ xs. parities ++ xs) none ∙ append-nil parities ∙ ep
+    ∙ ap (λ xs. flat_map (λ s. parity_stored g.t (step_body g xs s)) (numbers_from 0 (step_count g))) eb in
     ap₂ (λ xs ys. xs ++ ys) eb (ap₂ (λ xs ys. xs ++ ys) (ap (λ xs. take (parity_start g) (set (set xs 0 0xff) 1 0xff)) es ∙ middle) last)
     ∙ sym (append_assoc (front ++ marks) free stored ∙ append_assoc front marks (free ++ stored))
 

@@ -27,13 +27,15 @@ take-two_set (a ∷ b ∷ xs) x y (suc zero) long two = absurd (omega arith)
 take-two_set (a ∷ b ∷ xs) x y (suc (suc n)) long two = let e : n ≡ suc (suc n) - 2 = omega arith in ap (λ k. x ∷ y ∷ take k xs) e
 
 -- a part written over, behind what is done
-pub part_done : (xs new done : List ℕ) (a b : ℕ) → a ≤ b → b ≤ length xs → length new ≡ b - a → take a xs ≡ done → take b (put_mid a (b - a) xs new) ≡ done ++ new
+pub part_done : (xs new done : List ℕ) (a b : ℕ) → a ≤ b → b ≤ length xs → length new ≡ b - a → take a xs ≡ done
+    → take b (put_mid a (b - a) xs new) ≡ done ++ new
 part_done xs new done a b low high long e =
     let n : b ≡ a + length new = omega arith in
     take-put_mid a (b - a) xs new b n (omega arith) ∙ ap (λ ys. ys ++ new) e
 
 -- and before what is left
-pub part_left : (xs old new : List ℕ) (a b : ℕ) → a ≤ b → b ≤ length xs → length new ≡ b - a → drop a xs ≡ drop a old → drop b (put_mid a (b - a) xs new) ≡ drop b old
+pub part_left : (xs old new : List ℕ) (a b : ℕ) → a ≤ b → b ≤ length xs → length new ≡ b - a → drop a xs ≡ drop a old
+    → drop b (put_mid a (b - a) xs new) ≡ drop b old
 part_left xs old new a b low high long e =
     let n : a + (b - a) ≡ b = omega arith in
     drop-put_mid a (b - a) xs new b (omega arith) (omega arith) long

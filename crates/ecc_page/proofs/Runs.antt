@@ -33,10 +33,12 @@ map-numbers f h first (suc n) same =
     ap₂ (λ x xs. x ∷ xs) (same first (omega arith)) (map-numbers f h (first + 1) n (λ s below. same s (omega arith)))
 
 -- what is picked of one more
-pub flat_map-more : {A : Type 0} (pick : A → List ℕ) (f : ℕ → A) (n : ℕ) → flat_map pick (map f (numbers_from 0 (n + 1))) ≡ flat_map pick (map f (numbers_from 0 n)) ++ pick (f n)
+pub flat_map-more : {A : Type 0} (pick : A → List ℕ) (f : ℕ → A) (n : ℕ)
+    → flat_map pick (map f (numbers_from 0 (n + 1))) ≡ flat_map pick (map f (numbers_from 0 n)) ++ pick (f n)
 flat_map-more pick f n =
     ap (flat_map pick) (map-numbers_more f n) ∙ flat_map-append pick (map f (numbers_from 0 n)) (f n ∷ [])
     ∙ ap (λ ys. flat_map pick (map f (numbers_from 0 n)) ++ ys) (append-nil (pick (f n)))
 
-pub fold-more : {A : Type 0} (step : ℕ → A → ℕ) (f : ℕ → A) (n : ℕ) → fold step 0 (map f (numbers_from 0 (n + 1))) ≡ step (fold step 0 (map f (numbers_from 0 n))) (f n)
+pub fold-more : {A : Type 0} (step : ℕ → A → ℕ) (f : ℕ → A) (n : ℕ)
+    → fold step 0 (map f (numbers_from 0 (n + 1))) ≡ step (fold step 0 (map f (numbers_from 0 n))) (f n)
 fold-more step f n = ap (fold step 0) (map-numbers_more f n) ∙ fold_push step 0 (map f (numbers_from 0 n)) (f n)

@@ -26,7 +26,8 @@ pub received_word-bits : (t : ℕ) (body stored : List ℕ) → AreBits (receive
 received_word-bits t body stored =
     AreBits-append _ _ (AreBits-bits_of body) (AreBits-take (13 * t) _ (AreBits-bits_of (masked (code_512 t) stored)))
 
-pub received_word-long : (t : ℕ) (body stored : List ℕ) → length body ≡ 512 → length stored ≡ parity_len (code_512 t) → length (received_word (code_512 t) body stored) ≡ 4096 + 13 * t
+pub received_word-long : (t : ℕ) (body stored : List ℕ) → length body ≡ 512 → length stored ≡ parity_len (code_512 t)
+    → length (received_word (code_512 t) body stored) ≡ 4096 + 13 * t
 received_word-long t body stored lb ls =
     let m = masked (code_512 t) stored in
     let lm : length (bits_of m) ≡ 8 * parity_len (code_512 t) = length-bits_of m ∙ ap (λ n. 8 * n) (length-masked t stored ls) in
@@ -47,7 +48,8 @@ rest_of bytes k h =
     sym (take_all (8 * length bytes - k) (drop k (bits_of bytes)) len) ∙ sym (bits_from-part bytes (8 * length bytes - k) k (omega arith))
 
 -- the padding that is kept
-pub same_padding : (xs ys : List ℕ) (k : ℕ) → length xs ≡ length ys → k ≤ 8 * length xs → ((i : ℕ) → k ≤ i → bit_of xs i ≡ bit_of ys i) → drop k (bits_of xs) ≡ drop k (bits_of ys)
+pub same_padding : (xs ys : List ℕ) (k : ℕ) → length xs ≡ length ys → k ≤ 8 * length xs → ((i : ℕ) → k ≤ i → bit_of xs i ≡ bit_of ys i)
+    → drop k (bits_of xs) ≡ drop k (bits_of ys)
 same_padding xs ys k e h same =
     rest_of xs k h ∙ bits_from-same xs ys k (8 * length xs - k) same ∙ ap (λ n. bits_from ys k (8 * n - k)) e ∙ sym (rest_of ys k (omega arith))
 

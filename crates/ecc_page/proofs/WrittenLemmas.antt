@@ -66,7 +66,8 @@ flat_map-steps xs (suc n) =
     ∙ sym (ap (λ m. take m xs) e ∙ take-add (512 * n) 512 xs)
 
 -- functions that agree on the numbers fold them to the same
-fold-numbers : (f h : ℕ → ℕ → ℕ) (a first n : ℕ) → ((m s : ℕ) → s < first + n → f m s ≡ h m s) → fold f a (numbers_from first n) ≡ fold h a (numbers_from first n)
+fold-numbers : (f h : ℕ → ℕ → ℕ) (a first n : ℕ) → ((m s : ℕ) → s < first + n → f m s ≡ h m s)
+    → fold f a (numbers_from first n) ≡ fold h a (numbers_from first n)
 fold-numbers f h a first zero same = refl
 fold-numbers f h a first (suc n) same =
     ap (λ b. fold f b (numbers_from (first + 1) n)) (same a first (omega arith))
@@ -76,7 +77,8 @@ fold-nothing : (a first n : ℕ) → fold (λ (m s : ℕ). m) a (numbers_from fi
 fold-nothing a first zero = refl
 fold-nothing a first (suc n) = fold-nothing a (first + 1) n
 
-flat_map-numbers : (f h : ℕ → List ℕ) (first n : ℕ) → ((s : ℕ) → s < first + n → f s ≡ h s) → flat_map f (numbers_from first n) ≡ flat_map h (numbers_from first n)
+flat_map-numbers : (f h : ℕ → List ℕ) (first n : ℕ) → ((s : ℕ) → s < first + n → f s ≡ h s)
+    → flat_map f (numbers_from first n) ≡ flat_map h (numbers_from first n)
 flat_map-numbers f h first zero same = refl
 flat_map-numbers f h first (suc n) same =
     ap₂ (λ xs ys. xs ++ ys) (same first (omega arith)) (flat_map-numbers f h (first + 1) n (λ s below. same s (omega arith)))
@@ -147,7 +149,8 @@ module _ (g : Geometry) (body free cells : List ℕ) (lb : length body ≡ g.pag
 
   image-body : take g.page image ≡ body
   image-body =
-      ap (take g.page) (append_assoc (body ++ marks) free all_stored ∙ append_assoc body marks (free ++ all_stored)) ∙ take_at body (marks ++ (free ++ all_stored)) g.page lb
+      ap (take g.page) (append_assoc (body ++ marks) free all_stored ∙ append_assoc body marks (free ++ all_stored))
+      ∙ take_at body (marks ++ (free ++ all_stored)) g.page lb
 
   image-parity : (s : ℕ) → s < step_count g → stored_parity g image s ≡ stored_at s
   image-parity s below = parity-end g front stored_at s front-long (λ k h. stored-long k) below

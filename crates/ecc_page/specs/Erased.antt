@@ -3,6 +3,7 @@ use Rattle.std.specs.Prelude.{◌≡◌, ℕ, ◌*◌, Bool, nat_eq, List, ◌++
 use Rattle.code_model.specs.Bits.{bits_of}
 use Rattle.nand_model.specs.Page.{StepRead}
 
+-- a bit that is 0
 abbrev pub is_zero : ℕ → Bool
 is_zero bit = nat_eq bit 0
 

@@ -36,7 +36,7 @@ fn complement(bytes: &mut [u8])
     }
 }
 
-/// Puts the mask on parity bytes, or takes it off them.
+// Puts the mask on parity bytes, or takes it off them.
 pub(crate) fn put_mask(parity: &mut [u8], mask: &[u8])
     requires { length mask.now ≡ length parity.old }
     ensures { parity.new ≡ xor_bytes parity.old mask.now }

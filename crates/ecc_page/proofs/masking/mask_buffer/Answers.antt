@@ -11,4 +11,6 @@ mask-requires-clause-room c =
     length-take-le {A = ℕ} ((13 * c.args.t + 7) / 8) _ few
 
 pub returns-clause-mask : goal.returns-clause-mask
-returns-clause-mask c = take_at {A = ℕ} c.mask.new.out _ ((13 * c.args.t + 7) / 8) (ap length c.mask.ensures ∙ length-mask_of (code_512 c.args.t)) ∙ c.mask.ensures
+returns-clause-mask c =
+    take_at {A = ℕ} c.mask.new.out _ ((13 * c.args.t + 7) / 8) (ap length c.mask.ensures ∙ length-mask_of (code_512 c.args.t))
+    ∙ c.mask.ensures

@@ -64,7 +64,8 @@ loop-s-preserved c =
     let high' : 512 * (s + 1) ≤ length body = (let whole = page-steps g in let l = c.loop-s.auto.body in let r = c.requires.body in omega arith) in
     let low' : 512 * s ≤ 512 * (s + 1) = omega arith in
     let lstored : length stored ≡ (s + 1) * e - s * e =
-    c.decode_step-corrected.auto.stored ∙ ap (λ n. length (slice_range parities (s * n) ((s + 1) * n))) le ∙ length-between parities (s * e) ((s + 1) * e) high in
+    c.decode_step-corrected.auto.stored ∙ ap (λ n. length (slice_range parities (s * n) ((s + 1) * n))) le
+    ∙ length-between parities (s * e) ((s + 1) * e) high in
     let lstep : length step ≡ 512 * (s + 1) - 512 * s = c.decode_step-corrected.auto.step ∙ length-between body (512 * s) (512 * (s + 1)) high' in
     let estep : step ≡ (f s).body = c.decode_step-corrected.ensures.body ∙ ap (λ (r : StepRead). r.body) (read c) in
     let estored : stored ≡ (f s).parity = c.decode_step-corrected.ensures.parity ∙ ap (λ (r : StepRead). r.parity) (read c) in

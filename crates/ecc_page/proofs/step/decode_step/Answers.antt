@@ -11,7 +11,9 @@ pub put_mask-requires : goal.put_mask-requires
 put_mask-requires c = ap length c.requires.mask ∙ length-mask_of (code_512 c.args.t) ∙ sym c.requires.room
 
 pub put_mask-requires-2 : goal.put_mask-requires-2
-put_mask-requires-2 c = ap length c.requires.mask ∙ length-mask_of (code_512 c.args.t) ∙ sym (c.decode-decoded.auto.parity ∙ c.put_mask.auto.parity ∙ c.requires.room)
+put_mask-requires-2 c =
+    ap length c.requires.mask ∙ length-mask_of (code_512 c.args.t)
+    ∙ sym (c.decode-decoded.auto.parity ∙ c.put_mask.auto.parity ∙ c.requires.room)
 
 -- the same words, copied
 nearest_as : (t : ℕ) (x x' p p' s s' q : List ℕ) (n : ℕ) → x ≡ x' → p ≡ p' → s ≡ s'
@@ -69,7 +71,8 @@ pub returns-in-Failed-clause-parity : goal.returns-in-Failed-clause-parity
 returns-in-Failed-clause-parity c =
     let t = c.args.t in
     masked_by t c.decode-decoded.new.parity c.args.mask.now c.put_mask-2.new.parity c.put_mask-2.ensures c.requires.mask
-    ∙ ap (masked (code_512 t)) ((c.decode-decoded.ensures.unchanged c.in-Failed.is).1 ∙ masked_by t c.args.stored.now c.args.mask.now c.put_mask.new.parity c.put_mask.ensures c.requires.mask)
+    ∙ ap (masked (code_512 t)) ((c.decode-decoded.ensures.unchanged c.in-Failed.is).1
+    ∙ masked_by t c.args.stored.now c.args.mask.now c.put_mask.new.parity c.put_mask.ensures c.requires.mask)
     ∙ masked-masked (code_512 t) c.args.stored.now c.requires.room
     ∙ sym (ap (λ (r : StepRead). r.parity) (failed c))
 
