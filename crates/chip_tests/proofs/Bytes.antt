@@ -3,7 +3,7 @@ use Rattle.std.proofs.Common.{◌≡◌, ℕ, zero, suc, ◌+◌, ◌<◌, List,
 use Rattle.std.specs.Prelude.{◌==◌, ◌/◌, ◌%◌, ◌^◌, bit_and, bit_or, slice_index}
 use Rattle.std.proofs.Math.Nat.{mod-eq_of_lt}
 use Rattle.std.proofs.lemmas.Nat.{and_le_l, and_mask, and_mod, and_or_self}
-use Rattle.nand_model.specs.Chip.{ChipState, PageState, SimFaults, map_from, programmed, with_block, with_page, blank_page, good_program}
+use Rattle.nand_model.specs.Chip.{ChipState, PageState, SimFaults, map_from, with_block, with_page, blank_page, good_program}
 use Rattle.nand_model.specs.Sizes.{raw_len}
 use Rattle.nand_model.specs.declared.geometry.Geometry.{Geometry}
 use Rattle.chip_tests.specs.Failure.{HasBytes}

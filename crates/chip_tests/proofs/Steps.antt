@@ -1,8 +1,8 @@
 -- What each call makes of a chip of which one program fails.
-use Rattle.std.proofs.Common.{◌≡◌, ℕ, zero, suc, ◌-◌, List, [], refl, ap, sym, ◌∙◌, arith, inl, inr, Bool, true, false, if◌then◌else◌}
+use Rattle.std.proofs.Common.{◌≡◌, ℕ, zero, suc, ◌-◌, List, [], refl, sym, ◌∙◌, arith, inl, inr, Bool, true, false, if◌then◌else◌}
 use Rattle.std.specs.Prelude.{◌==◌, ◌/◌}
 use Rattle.std.proofs.lemmas.Bool.Decides.{eqb_tells, nat_tests}
-use Rattle.nand_model.specs.Chip.{PageState, Complete, ProgramEvent, EraseEvent, blank_page, good_program, happens, sim_faults, torn_program, with_block, with_page}
+use Rattle.nand_model.specs.Chip.{PageState, Complete, ProgramEvent, EraseEvent, blank_page, good_program, happens, sim_faults, torn_program, with_page}
 use Rattle.nand_model.specs.declared.geometry.Geometry.{Geometry}
 use Rattle.chip_sim.specs.State.{sim_state}
 use Rattle.chip_sim.specs.declared.chip.SimChip.{SimChip}

@@ -1,5 +1,5 @@
 -- A chip of which one program fails with no bit done, and no other call.
-use Rattle.std.specs.Prelude.{ℕ, zero, suc, ◌-◌, ◌/◌, ◌<◌, ◌==◌, Bool, true, false, if◌then◌else◌, slice_index, Option, Some, None}
+use Rattle.std.specs.Prelude.{ℕ, zero, suc, ◌-◌, ◌/◌, ◌<◌, ◌==◌, Bool, false, if◌then◌else◌, slice_index, Option, Some, None}
 use Rattle.nand_model.specs.Chip.{Call, ProgramCall, EraseCall, ChipState, DoneBits, FaultModel}
 use Rattle.chip_tests.specs.declared.failing_flash.Failure.{Failure}
 use Rattle.chip_tests.specs.declared.failing_flash.Failure.TheVariants.{Ahead, Torn, Past}

@@ -1,4 +1,4 @@
-use Rattle.std.proofs.Common.{◌≡◌, ◌∙◌, ℕ, ap, arith, inl, inr}
+use Rattle.std.proofs.Common.{◌≡◌, ◌∙◌, ap, arith, inl, inr}
 use Rattle.nand_model.specs.Chip.{Complete, EraseEvent, happens, sim_faults}
 use Rattle.nand_model.proofs.Bounds.{bounds}
 use Rattle.chip_sim.specs.State.{sim_state}
