@@ -1,17 +1,16 @@
-// A chip over a flash of which the second program fails.
+// Chips over a flash of which one program fails.
 use crate::FailingFlash;
-use crate::asking::Ask::{IsBad, Read, Write};
-use crate::asking::{first_byte, named, reply_to};
-use chip_core::{Parts, attach};
+use crate::asking::Ask::{Erase, IsBad, Read, Write};
+use crate::asking::{first_byte, named, one_device, reply_to, told_of};
+use chip_core::{Fairness, Parts, attach};
 use nand_model::{Geometry, Part};
+use std::alloc::Global;
 use std::test::Fail;
 
 #[test]
 fn answers_failures(rt: HostRuntime) -> Result<(), Fail> {
     let alloc = rt.alloc();
-    let mut parts = Parts::new(alloc, 0);
-    let (chip, start, count) = (0, 4, 2);
-    parts.add(Part { chip, start, count }, 8)?;
+    let parts = one_device(alloc)?;
     let g = Geometry::new(2048, 64, 64, 8, 1, 0, 0)?;
     let mut chip = attach(alloc, FailingFlash::new(alloc, g, 1)?)?;
     let rows = [
@@ -23,6 +22,8 @@ fn answers_failures(rt: HostRuntime) -> Result<(), Fail> {
         (Read(0, 2), "page", Some(0x3c)),
         (Write(0, 1, 0xf0, 0xff), "done", None),
         (Read(0, 1), "page", Some(0xf0)),
+        (Erase(0, 0), "done", None),
+        (Read(0, 1), "page", Some(0xff)),
     ];
     for (ask, want, byte) in rows {
         let reply = reply_to(&mut chip, alloc, &parts, ask)?;
@@ -30,5 +31,20 @@ fn answers_failures(rt: HostRuntime) -> Result<(), Fail> {
         assert_eq!(rt; first_byte(&reply), byte);
     }
     assert_eq!(rt; chip.stop().faults(), 1);
+    Ok(())
+}
+
+#[test]
+fn tells_failures(rt: HostRuntime) -> Result<(), Fail> {
+    let alloc = rt.alloc();
+    let parts = one_device(alloc)?;
+    let rows = [(0, Some(Fairness::Plain), 1), (1, None, 0)];
+    for (good, want, faults) in rows {
+        let g = Geometry::new(2048, 64, 64, 8, 1, 0, 0)?;
+        let mut chip = attach(alloc, FailingFlash::new(alloc, g, good)?)?;
+        let told = told_of(&mut chip, alloc, &parts, Write(0, 0, 0x3c, 0xff))?;
+        assert_eq!(rt; told, want);
+        assert_eq!(rt; chip.stop().faults(), faults);
+    }
     Ok(())
 }
