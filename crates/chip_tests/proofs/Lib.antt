@@ -1,1 +1,2 @@
-mod Unchanged
+mod Bytes
+mod Steps

@@ -1,1 +1,2 @@
-pub mod Worn
+pub mod Failure
+pub mod Failing

@@ -1,13 +1,21 @@
-// Operations for tests: each is tested for what a chip needs of it, and its reply is named.
-ghost use Rattle.std.specs.Prelude.{◌≡◌, true, IsTrue};
+// A device and operations for tests: each operation is tested for what a chip needs of it, and its reply is named.
+ghost use Rattle.std.specs.Prelude.{◌≡◌, true, IfOk, IsTrue};
 ghost use Rattle.chip_model.specs.Stage.{is_resting};
 ghost use Rattle.chip_core.specs.Begin.{CanBegin, HasDevice};
 ghost use Rattle.chip_core.specs.Chip.{chip_stage};
 
-use chip_core::{Chip, Flash, Op, Parts, Reply, perform};
-use nand_model::{Bytes, Geometry};
+use chip_core::{Chip, Fairness, Flash, Op, Parts, Reply, perform};
+use nand_model::{Bytes, Geometry, Part};
 use std::alloc::{AllocError, Global};
 use std::test::Fail;
+
+/// One device, of the blocks 4 and 5 of a chip of eight.
+pub fn one_device(alloc: Global) -> Result<Parts, Fail> {
+    let mut parts = Parts::new(alloc, 0);
+    let (chip, start, count) = (0, 4, 2);
+    parts.add(Part { chip, start, count }, 8)?;
+    Ok(parts)
+}
 
 /// An operation on a page or a block of a device.
 #[derive(Clone, Copy)]
@@ -58,6 +66,17 @@ fn can_begin(g: &Geometry, parts: &Parts, op: &Op) -> bool
     }
 }
 
+// The operation that is asked for, which a chip of these sizes takes.
+fn op_for(alloc: Global, g: &Geometry, parts: &Parts, ask: Ask) -> Result<Op, Fail>
+    ensures { IfOk result (λ op. CanBegin g.now parts.now op) }
+{
+    let op = op_of(alloc, ask)?;
+    if !can_begin(g, parts, &op) {
+        return Err("the chip does not take the operation".into());
+    }
+    Ok(op)
+}
+
 /// Performs an operation, and gives its reply.
 pub fn reply_to<F: Flash>(
     chip: &mut Chip<F>,
@@ -68,11 +87,25 @@ pub fn reply_to<F: Flash>(
     requires { is_resting (chip_stage chip.old) ≡ true }
     ensures { chip_stage chip.new ≡ chip_stage chip.old }
 {
-    let op = op_of(alloc, ask)?;
-    if !can_begin(&chip.geometry(), parts, &op) {
-        return Err("the chip does not take the operation".into());
-    }
+    let op = op_for(alloc, &chip.geometry(), parts, ask)?;
     Ok(perform(chip, parts, &op)?)
+}
+
+/// Does the first event of an operation, and gives what is told of its failure.
+pub fn told_of<F: Flash>(
+    chip: &mut Chip<F>,
+    alloc: Global,
+    parts: &Parts,
+    ask: Ask,
+) -> Result<Option<Fairness>, Fail>
+    requires { is_resting (chip_stage chip.old) ≡ true }
+{
+    let op = op_for(alloc, &chip.geometry(), parts, ask)?;
+    chip.begin(parts, &op)?;
+    if chip.next_event().is_none() {
+        return Err("the operation has no event".into());
+    }
+    Ok(chip.advance())
 }
 
 /// The name of a reply.

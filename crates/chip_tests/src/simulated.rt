@@ -6,7 +6,7 @@ ghost use Rattle.chip_core.specs.Calm.{HasNoFlips};
 ghost use Rattle.chip_core.specs.Chip.{chip_stage, chip_state};
 
 use crate::asking::Ask::{Erase, IsBad, Read, Write};
-use crate::asking::{first_byte, named, reply_to};
+use crate::asking::{first_byte, named, one_device, reply_to};
 use chip_core::{Chip, Event, Flash, Note, Parts, attach};
 use chip_sim::SimChip;
 use nand_model::{BlockList, Geometry, Part};
@@ -22,14 +22,6 @@ fn small_chip(alloc: Global) -> Result<SimChip, Fail>
     let mut bad = BlockList::new(alloc);
     bad.push(5)?;
     Ok(SimChip::new(alloc, g, &bad)?)
-}
-
-// One device, of the blocks 4 and 5.
-fn one_device(alloc: Global) -> Result<Parts, Fail> {
-    let mut parts = Parts::new(alloc, 0);
-    let (chip, start, count) = (0, 4, 2);
-    parts.add(Part { chip, start, count }, 8)?;
-    Ok(parts)
 }
 
 #[test]

@@ -1,0 +1,143 @@
+-- What each call makes of a chip of which one program fails.
+use Rattle.std.proofs.Common.{◌≡◌, ℕ, zero, suc, ◌-◌, List, [], refl, sym, ◌∙◌, arith, inl, inr, Bool, true, false, if◌then◌else◌}
+use Rattle.std.specs.Prelude.{◌==◌, ◌/◌}
+use Rattle.std.proofs.lemmas.Bool.Decides.{eqb_tells, nat_tests}
+use Rattle.nand_model.specs.Chip.{PageState, Complete, ProgramEvent, EraseEvent, blank_page, good_program, happens, sim_faults, torn_program, with_page}
+use Rattle.nand_model.specs.declared.geometry.Geometry.{Geometry}
+use Rattle.chip_sim.specs.State.{sim_state}
+use Rattle.chip_sim.specs.declared.chip.SimChip.{SimChip}
+use Rattle.chip_tests.specs.Failure.{HasBytes, after_erase, after_program, count, is_torn, left, one_failure}
+use Rattle.chip_tests.specs.Failing.{with_failure}
+use Rattle.chip_tests.specs.declared.failing_flash.Failure.{Failure}
+use Rattle.chip_tests.specs.declared.failing_flash.Failure.TheVariants.{Ahead, Torn, Past}
+use Rattle.chip_tests.proofs.Bytes.{PageBytes, kept}
+
+-- a page that is torn or not
+abbrev torn_page : PageState → Bool → PageState
+torn_page page torn = record { cells = page.cells; flips = []; torn = torn; flipped_since = false }
+
+-- the torn page is mended or not
+past_if-torn : (b : Bool) (torn p : ℕ) → is_torn (if b then Past else Torn torn) p ≡ (if b then false else (p == torn))
+past_if-torn true torn p = refl
+past_if-torn false torn p = refl
+
+past_if-left : (b : Bool) (torn : ℕ) → left (if b then Past else Torn torn) ≡ 0
+past_if-left true torn = refl
+past_if-left false torn = refl
+
+past_if-count : (b : Bool) (torn : ℕ) → count (if b then Past else Torn torn) ≡ 1
+past_if-count true torn = refl
+past_if-count false torn = refl
+
+if_false : (b : Bool) → false ≡ (if b then false else false)
+if_false true = refl
+if_false false = refl
+
+-- a good program mends its page, and no other
+program-torn : (failure : Failure) (at p : ℕ) → (left failure == 1) ≡ false → is_torn (after_program failure at) p ≡ (if p == at then false else is_torn failure p)
+program-torn (Ahead zero) at p good = grind arith
+program-torn (Ahead (suc n)) at p good = if_false (p == at)
+program-torn (Torn torn) at p good = past_if-torn (torn == at) torn p ∙ grind (arith, nat_tests)
+program-torn Past at p good = if_false (p == at)
+
+program-left : (failure : Failure) (at : ℕ) → left (after_program failure at) ≡ left failure - 1
+program-left (Ahead zero) at = refl
+program-left (Ahead (suc n)) at = omega arith
+program-left (Torn torn) at = past_if-left (torn == at) torn
+program-left Past at = refl
+
+program-count : (failure : Failure) (at : ℕ) → (left failure == 1) ≡ false → count (after_program failure at) ≡ count failure
+program-count (Ahead zero) at good = grind arith
+program-count (Ahead (suc n)) at good = refl
+program-count (Torn torn) at good = past_if-count (torn == at) torn
+program-count Past at good = refl
+
+program_if : (b torn first before : Bool) (at here : PageState) (image : List ℕ) → torn ≡ (if b then false else before)
+    → torn_page (if b then good_program at image else here) torn ≡ (if b then good_program (torn_page at first) image else torn_page here before)
+program_if true torn first before at here image e = rw e refl
+program_if false torn first before at here image e = rw e refl
+
+-- a good program
+pub program-good : (chip : SimChip) (failure : Failure) (page : ℕ) (image : List ℕ) → (left failure == 1) ≡ false
+    → with_failure (happens sim_faults (sim_state chip) (Complete (ProgramEvent page image))) (after_program failure page)
+    ≡ happens one_failure (with_failure (sim_state chip) failure) (Complete (ProgramEvent page image))
+program-good chip failure page image good =
+    let pages : ℕ → PageState = (sim_state chip).pages in
+    rw good
+    (λ i. record {
+      geometry = chip.geometry;
+      pages = λ p. program_if (p == page) (is_torn (after_program failure page) p) (is_torn failure page) (is_torn failure p) (pages page) (pages p) image (program-torn failure page p good) i;
+      fault_state = program-left failure page i;
+      faults = program-count failure page good i;
+    })
+
+-- the program that fails
+fails_page : (page : PageState) (image : List ℕ) → PageBytes page → torn_page page true ≡ torn_program (torn_page page false) image (λ q i. 0)
+fails_page page image fits i = record { cells = sym (kept page.cells image 0 fits) i; flips = []; torn = true; flipped_since = false }
+
+fails_if : (pages : ℕ → PageState) (at p : ℕ) (image : List ℕ) → PageBytes (pages at)
+    → torn_page (pages p) (p == at) ≡ with_page (λ p. torn_page (pages p) false) at (torn_program (torn_page (pages at) false) image (λ q i. 0)) p
+fails_if pages at p image fits =
+    elim (eqb_tells p at) [
+      | inl same ↦ rw (same.0, same.1) (fails_page (pages at) image fits)
+      | inr other ↦ rw other.0 refl
+    ]
+
+next-is : (failure : Failure) → (left failure == 1) ≡ true → failure ≡ Ahead 0
+next-is (Ahead zero) next = refl
+next-is (Ahead (suc n)) next = grind arith
+next-is (Torn torn) next = grind arith
+next-is Past next = grind arith
+
+first-fails : (chip : SimChip) (page : ℕ) (image : List ℕ) → HasBytes (sim_state chip)
+    → with_failure (sim_state chip) (Torn page) ≡ happens one_failure (with_failure (sim_state chip) (Ahead 0)) (Complete (ProgramEvent page image))
+first-fails chip page image fits i = record {
+  geometry = chip.geometry;
+  pages = λ p. fails_if (sim_state chip).pages page p image (fits page) i;
+  fault_state = 0;
+  faults = 1;
+}
+
+pub program-fails : (chip : SimChip) (failure : Failure) (page : ℕ) (image : List ℕ) → (left failure == 1) ≡ true → HasBytes (sim_state chip)
+    → with_failure (sim_state chip) (after_program failure page)
+    ≡ happens one_failure (with_failure (sim_state chip) failure) (Complete (ProgramEvent page image))
+program-fails chip failure page image next fits = rw (next-is failure next) (first-fails chip page image fits)
+
+-- an erase mends the torn page of its block
+erase-torn : (n : ℕ) (failure : Failure) (block p : ℕ) → is_torn (after_erase n failure block) p ≡ (if p / n == block then false else is_torn failure p)
+erase-torn n (Ahead good) block p = if_false (p / n == block)
+erase-torn n (Torn torn) block p =
+    past_if-torn (torn / n == block) torn p
+    ∙ elim (eqb_tells p torn) [
+      | inl same ↦ rw (same.0, same.1) refl
+      | inr other ↦ rw other.0 (sym (if_false (torn / n == block)) ∙ if_false (p / n == block))
+    ]
+erase-torn n Past block p = if_false (p / n == block)
+
+erase-left : (n : ℕ) (failure : Failure) (block : ℕ) → left (after_erase n failure block) ≡ left failure
+erase-left n (Ahead good) block = refl
+erase-left n (Torn torn) block = past_if-left (torn / n == block) torn
+erase-left n Past block = refl
+
+erase-count : (n : ℕ) (failure : Failure) (block : ℕ) → count (after_erase n failure block) ≡ count failure
+erase-count n (Ahead good) block = refl
+erase-count n (Torn torn) block = past_if-count (torn / n == block) torn
+erase-count n Past block = refl
+
+erase_if : (g : Geometry) (b torn before : Bool) (here : PageState) → torn ≡ (if b then false else before)
+    → torn_page (if b then blank_page g else here) torn ≡ (if b then blank_page g else torn_page here before)
+erase_if g true torn before here e = rw e refl
+erase_if g false torn before here e = rw e refl
+
+-- an erase
+pub erase-good : (chip : SimChip) (failure : Failure) (block : ℕ)
+    → with_failure (happens sim_faults (sim_state chip) (Complete (EraseEvent block))) (after_erase chip.geometry.pages_per_block failure block)
+    ≡ happens one_failure (with_failure (sim_state chip) failure) (Complete (EraseEvent block))
+erase-good chip failure block i =
+    let n : ℕ = chip.geometry.pages_per_block in
+    record {
+      geometry = chip.geometry;
+      pages = λ p. erase_if chip.geometry (p / n == block) (is_torn (after_erase n failure block) p) (is_torn failure p) ((sim_state chip).pages p) (erase-torn n failure block p) i;
+      fault_state = erase-left n failure block i;
+      faults = erase-count n failure block i;
+    }
