@@ -26,6 +26,6 @@ module _ {W : Type 0} (model : FaultModel W) (boot : Boot) (starts : List (ChipS
       let law = all_sessions course holds number in
       let follow = law.follow commands once has in
       let made : session_after (sizes_of boot starts) (session_at_start boot starts number commands) (exchanges_of number course.notes) ≡ follow.run
-          = ap (session_after (sizes_of boot starts) (session_at_start boot starts number commands)) law.are
-          ∙ follow.after (asked law.open_op) ∙ after_asked follow.run law.open_op in
+      = ap (session_after (sizes_of boot starts) (session_at_start boot starts number commands)) law.are
+      ∙ follow.after (asked law.open_op) ∙ after_asked follow.run law.open_op in
       follow.found ∙ ap Some (sym made)

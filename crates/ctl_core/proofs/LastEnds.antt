@@ -33,7 +33,7 @@ module _ {F : Type 0} {flash : Ghosts F} (past : Past F) (bench : Bench F flash)
           let s = item_at bench.sessions.items i (omega (arith, within, on.stands.mirrors.many)) in
           let number = (on.stands.mirrors.each i own s.0 run begun s.1 at).0 in
           let here : session_run (course_of flash.fault_model flash.state past) own.0 ≡ Some run =
-              ap (session_run (course_of flash.fault_model flash.state past)) (sym number)
-              ∙ found (sizes_in flash.state past) past.boot.sessions bench.notes.notes bench.sessions.items (course_of flash.fault_model flash.state past).sessions on.stands.mirrors on.conditions.ascending i s.0 run s.1 at in
+          ap (session_run (course_of flash.fault_model flash.state past)) (sym number)
+          ∙ found (sizes_in flash.state past) past.boot.sessions bench.notes.notes bench.sessions.items (course_of flash.fault_model flash.state past).sessions on.stands.mirrors on.conditions.ascending i s.0 run s.1 at in
           ap end_of_run (same_Some _ _ (sym here ∙ session_is flash.fault_model past.boot (starts_of flash.state past) (one_number_each past.boot.sessions on.conditions.ascending)
-              (course_of flash.fault_model flash.state past) (holds past bench on) own.0 own.1 (contains_at past.boot.sessions i own begun)))
+          (course_of flash.fault_model flash.state past) (holds past bench on) own.0 own.1 (contains_at past.boot.sessions i own begun)))
