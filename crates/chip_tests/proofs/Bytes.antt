@@ -28,7 +28,8 @@ bytes-blank zero i = omega arith
 bytes-blank (suc n) zero = omega arith
 bytes-blank (suc n) (suc i) = bytes-blank n i
 
-bytes-and : (at : ℕ → ℕ) (cells : List ℕ) (from i : ℕ) → ((k : ℕ) → slice_index cells k < 256) → slice_index (map_from from (λ i byte. bit_and byte (at i)) cells) i < 256
+bytes-and : (at : ℕ → ℕ) (cells : List ℕ) (from i : ℕ) → ((k : ℕ) → slice_index cells k < 256)
+    → slice_index (map_from from (λ i byte. bit_and byte (at i)) cells) i < 256
 bytes-and at [] from i fits = fits i
 bytes-and at (x ∷ xs) from zero fits = omega (arith, fits 0, and_le_l x (at from))
 bytes-and at (x ∷ xs) from (suc i) fits = bytes-and at xs (from + 1) i (λ k. fits (suc k))

@@ -34,7 +34,8 @@ if_false true = refl
 if_false false = refl
 
 -- a good program mends its page, and no other
-program-torn : (failure : Failure) (at p : ℕ) → (left failure == 1) ≡ false → is_torn (after_program failure at) p ≡ (if p == at then false else is_torn failure p)
+program-torn : (failure : Failure) (at p : ℕ) → (left failure == 1) ≡ false
+    → is_torn (after_program failure at) p ≡ (if p == at then false else is_torn failure p)
 program-torn (Ahead zero) at p good = grind arith
 program-torn (Ahead (suc n)) at p good = if_false (p == at)
 program-torn (Torn torn) at p good = past_if-torn (torn == at) torn p ∙ grind (arith, nat_tests)
@@ -66,7 +67,8 @@ program-good chip failure page image good =
     rw good
     (λ i. record {
       geometry = chip.geometry;
-      pages = λ p. program_if (p == page) (is_torn (after_program failure page) p) (is_torn failure page) (is_torn failure p) (pages page) (pages p) image (program-torn failure page p good) i;
+      pages = λ p. program_if (p == page) (is_torn (after_program failure page) p) (is_torn failure page) (is_torn failure p)
+          (pages page) (pages p) image (program-torn failure page p good) i;
       fault_state = program-left failure page i;
       faults = program-count failure page good i;
     })
@@ -137,7 +139,8 @@ erase-good chip failure block i =
     let n : ℕ = chip.geometry.pages_per_block in
     record {
       geometry = chip.geometry;
-      pages = λ p. erase_if chip.geometry (p / n == block) (is_torn (after_erase n failure block) p) (is_torn failure p) ((sim_state chip).pages p) (erase-torn n failure block p) i;
+      pages = λ p. erase_if chip.geometry (p / n == block) (is_torn (after_erase n failure block) p) (is_torn failure p)
+          ((sim_state chip).pages p) (erase-torn n failure block p) i;
       fault_state = erase-left n failure block i;
       faults = erase-count n failure block i;
     }

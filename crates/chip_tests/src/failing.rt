@@ -2,8 +2,8 @@
 use crate::FailingFlash;
 use crate::asking::Ask::{Erase, IsBad, Read, Write};
 use crate::asking::{first_byte, named, one_device, reply_to, told_of};
-use chip_core::{Fairness, Parts, attach};
-use nand_model::{Geometry, Part};
+use chip_core::{Fairness, attach};
+use nand_model::Geometry;
 use std::alloc::Global;
 use std::test::Fail;
 

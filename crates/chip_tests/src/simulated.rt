@@ -7,9 +7,9 @@ ghost use Rattle.chip_core.specs.Chip.{chip_stage, chip_state};
 
 use crate::asking::Ask::{Erase, IsBad, Read, Write};
 use crate::asking::{first_byte, named, one_device, reply_to};
-use chip_core::{Chip, Event, Flash, Note, Parts, attach};
+use chip_core::{Chip, Event, Flash, Note, attach};
 use chip_sim::SimChip;
-use nand_model::{BlockList, Geometry, Part};
+use nand_model::{BlockList, Geometry};
 use std::alloc::{AllocError, Global};
 use std::test::Fail;
 

@@ -15,7 +15,8 @@ pub invariant_of-self : goal.invariant_of-self
 invariant_of-self c =
     let old = c.args.self.now in
     record {
-      bytes = same-bytes (happens sim_faults (sim_state old.chip) (Complete (EraseEvent c.args.block))) (sim_state c.erase_block.new.self) c.erase_block.ensures.state (erase-bytes old.chip.geometry (sim_state old.chip).pages c.args.block old.bytes);
+      bytes = same-bytes (happens sim_faults (sim_state old.chip) (Complete (EraseEvent c.args.block))) (sim_state c.erase_block.new.self)
+          c.erase_block.ensures.state (erase-bytes old.chip.geometry (sim_state old.chip).pages c.args.block old.bytes);
     }
 
 pub returns-clause-state : goal.returns-clause-state

@@ -18,7 +18,8 @@ pub invariant_of-self-2 : goal.invariant_of-self-2
 invariant_of-self-2 c =
     let old = c.args.self.now in
     record {
-      bytes = same-bytes (happens sim_faults (sim_state old.chip) (Complete (ProgramEvent c.args.page c.args.image.now))) (sim_state c.program_page.new.self) c.program_page.ensures.state (program-bytes (sim_state old.chip).pages c.args.page c.args.image.now old.bytes);
+      bytes = same-bytes (happens sim_faults (sim_state old.chip) (Complete (ProgramEvent c.args.page c.args.image.now))) (sim_state c.program_page.new.self)
+          c.program_page.ensures.state (program-bytes (sim_state old.chip).pages c.args.page c.args.image.now old.bytes);
     }
 
 pub returns-clause-state : goal.returns-clause-state
