@@ -1,0 +1,32 @@
+// Turns of a controller, one after the other.
+ghost use Rattle.std.specs.Prelude.{◌≡◌, None, OnOk};
+ghost use Rattle.run_model.specs.Course.{unattached};
+ghost use Rattle.ctl_core.specs.Past.{course_of};
+
+use ctl_core::{Core, Turn};
+use nand_iface::Flash;
+use std::alloc::AllocError;
+
+/// Attaches all chips.
+pub fn attach_all<F: Flash>(core: &mut Core<F>) -> Result<(), AllocError>
+    ensures { OnOk result (unattached (course_of F.fault_model F.state core.new) ≡ None) }
+{
+    loop {
+        match core.attach_turn()? {
+            Turn::Did => {}
+            _ => return Ok(()),
+        }
+    }
+}
+
+/// A turn of a session, if it is one of this controller.
+pub fn take_turn<F: Flash>(core: &mut Core<F>, session: u32) -> Result<Turn, AllocError>
+    requires { unattached (course_of F.fault_model F.state core.old) ≡ None }
+    ensures { unattached (course_of F.fault_model F.state core.new) ≡ None }
+{
+    if core.has(session) {
+        core.turn(session)
+    } else {
+        Ok(Turn::Dark)
+    }
+}

@@ -1,0 +1,12 @@
+//! Tests of a controller over simulated flashes: every interleaving of two sessions on two chips.
+#![tactic(auto)]
+
+mod driving;
+#[cfg(test)]
+mod interleavings;
+#[cfg(test)]
+mod plain;
+mod small;
+
+pub use driving::{attach_all, take_turn};
+pub use small::small_core;

@@ -1,0 +1,122 @@
+// A controller of two small chips with one device each, and two sessions.
+ghost use Rattle.std.specs.Prelude.{◌≡◌, ◌<◌, ◌++◌, ◌∷◌, [], length, map, IfOk, OnOk};
+ghost use Rattle.chip_sim.specs.State.{sim_state};
+ghost use Rattle.tool_steps.specs.Boot.{with_command};
+ghost use Rattle.ctl_tests.specs.Small.{IsSmall, ArePairOfSmall, asking, erasing, small_boot, small_parts};
+
+use chip_sim::SimChip;
+use ctl_core::{ControllerBoot, Core, FlashList};
+use mtd_part::Parts;
+use nand_model::{BlockList, Command, Geometry, Part};
+use std::alloc::{AllocError, Global};
+use std::test::Fail;
+
+/// A controller of two chips of eight blocks, with device 0 on the first block of chip 0 and device 1 on that of chip 1.
+/// Session 0 erases device 0 and asks for the state of device 1's block; session 1 asks for that of device 0's block and erases device 1.
+pub fn small_core(alloc: Global) -> Result<Core<SimChip>, Fail> {
+    let boot = small_boot(alloc)?;
+    let flashes = small_flashes(alloc)?;
+    Ok(Core::start(alloc, boot, flashes)?)
+}
+
+// A new chip of eight blocks.
+fn small_chip(alloc: Global) -> Result<SimChip, Fail>
+    ensures { IfOk result (λ chip. IsSmall (sim_state chip)) }
+{
+    let g = Geometry::new(2048, 64, 64, 8, 1, 0, 0)?;
+    Ok(SimChip::new(alloc, g, &BlockList::new(alloc))?)
+}
+
+// Two such chips.
+fn small_flashes(alloc: Global) -> Result<FlashList<SimChip>, Fail>
+    ensures { IfOk result (λ flashes. ArePairOfSmall (map sim_state flashes)) }
+{
+    let mut flashes = FlashList::new(alloc);
+    put(&mut flashes, small_chip(alloc)?)?;
+    put(&mut flashes, small_chip(alloc)?)?;
+    Ok(flashes)
+}
+
+// Adds a chip.
+fn put(flashes: &mut FlashList<SimChip>, chip: SimChip) -> Result<(), AllocError>
+    ensures { OnOk result (flashes.new ≡ flashes.old ++ chip ∷ []) }
+{
+    match flashes.push(chip) {
+        Ok(()) => Ok(()),
+        Err((_, refused)) => Err(refused),
+    }
+}
+
+// One device of one block on each chip.
+fn small_parts(alloc: Global) -> Result<Parts, Fail>
+    ensures { IfOk result (λ parts. parts ≡ small_parts) }
+{
+    let mut parts = Parts::new(alloc, 0);
+    let (start, count) = (0, 1);
+    parts.add(
+        Part {
+            chip: 0,
+            start,
+            count,
+        },
+        8,
+    )?;
+    parts.add(
+        Part {
+            chip: 1,
+            start,
+            count,
+        },
+        8,
+    )?;
+    Ok(parts)
+}
+
+// The two sessions.
+fn small_boot(alloc: Global) -> Result<ControllerBoot, Fail>
+    ensures { IfOk result (λ boot. boot ≡ small_boot) }
+{
+    let mut boot = ControllerBoot::new(alloc, small_parts(alloc)?);
+    boot.add_session(0)?;
+    add(&mut boot, erase(0))?;
+    add(&mut boot, ask(1))?;
+    boot.add_session(1)?;
+    add(&mut boot, ask(0))?;
+    add(&mut boot, erase(1))?;
+    Ok(boot)
+}
+
+// Adds a command to the last session.
+fn add(boot: &mut ControllerBoot, command: Command) -> Result<(), AllocError>
+    requires { 0 < length boot.old.sessions }
+    ensures { OnOk result (boot.new ≡ with_command boot.old command) }
+{
+    match boot.add_command(command) {
+        Ok(()) => Ok(()),
+        Err((_, refused)) => Err(refused),
+    }
+}
+
+// Erases a device of one block.
+fn erase(dev: u32) -> Command
+    ensures { result ≡ erasing dev }
+{
+    Command::FlashErase {
+        dev,
+        blocks: 1,
+        no_scan: true,
+        start: 0,
+        count: 0,
+    }
+}
+
+// Asks for the state of the block of a device of one block.
+fn ask(dev: u32) -> Command
+    ensures { result ≡ asking dev }
+{
+    Command::IsBad {
+        dev,
+        blocks: 1,
+        block: 0,
+    }
+}
