@@ -16,7 +16,9 @@ use std::test::Fail;
 fn told(note: &Note) -> Told {
     match note {
         Note::Attached {
-            chip, quiet: true, ..
+            chip,
+            quiet: true,
+            ..
         } => Told::Attached(*chip),
         Note::Began {
             session,
