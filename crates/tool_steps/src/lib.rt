@@ -4,6 +4,7 @@
 mod boot;
 mod bound;
 mod copies;
+mod dumping;
 mod erasing;
 mod replies;
 mod step;

@@ -10,6 +10,7 @@ ghost use Rattle.tool_steps.specs.Work.{script_left, unit_bytes};
 
 use crate::Step;
 use crate::copies::padded;
+use crate::dumping::Dumping;
 use crate::erasing::Erasing;
 use crate::work::{State, Work};
 use crate::writing::Writing;
@@ -135,24 +136,42 @@ fn first_state(command: &Command, g: &Geometry) -> State
             erased: 0,
             failed: 0,
         })),
-        Command::NandWrite { dev, blocks, .. } => State::At(Work::Scanning(Writing {
+        Command::NandWrite {
+            dev,
+            blocks,
+            raw,
+            ..
+        } => State::At(Work::Scanning(Writing {
             dev: *dev,
+            raw: *raw,
             block: 0,
             rest: *blocks - 1,
             skipped: 0,
             failed: 0,
         })),
-        Command::NandDump { dev, off, .. } => {
+        Command::NandDump {
+            dev,
+            off,
+            raw,
+            bad,
+            ..
+        } => {
             let page = (*off / u64::from(g.page)) as u32;
-            State::At(Work::Dumping { dev: *dev, page })
+            let dumping = Dumping {
+                dev: *dev,
+                page,
+                raw: *raw,
+                bad: *bad,
+            };
+            State::At(dumping.first())
         }
         Command::IsBad { dev, block, .. } => State::At(Work::Asking {
             dev: *dev,
             block: *block,
         }),
+        Command::Stats { dev, .. } => State::At(Work::Counting { dev: *dev }),
         Command::NandTest { .. } => unreachable!(),
         Command::MarkBad { .. } => unreachable!(),
-        Command::Stats { .. } => unreachable!(),
     }
 }
 
