@@ -8,6 +8,8 @@ mod dumping;
 mod erasing;
 mod replies;
 mod step;
+#[cfg(test)]
+mod tests;
 mod tool;
 mod work;
 mod writing;
