@@ -2,11 +2,12 @@
 use Rattle.std.specs.Prelude.{ℕ, ◌-◌, List, [], ◌∷◌, ◌++◌, length, slice_get, Option, option_map, option_and_then, None}
 use Rattle.nand_model.specs.Operation.{Partitions}
 use Rattle.nand_model.specs.declared.words.Command.{Command}
+use Rattle.nand_model.specs.declared.words.Flip.{Flip}
 use Rattle.run_model.specs.Course.{Boot, change_at}
 
--- a boot of these partitions and sessions, without flips and cut
-abbrev pub calm_boot : Partitions → List (ℕ × List Command) → Boot
-calm_boot partitions sessions = record { partitions = partitions; sessions = sessions; flips = []; cut = None }
+-- a boot of these partitions, flips and sessions, without a cut
+abbrev pub boot_with : Partitions → List Flip → List (ℕ × List Command) → Boot
+boot_with partitions flips sessions = record { partitions = partitions; sessions = sessions; flips = flips; cut = None }
 
 -- the boot with one more session, which has no command
 abbrev pub with_session : Boot → ℕ → Boot

@@ -1,9 +1,9 @@
 // A controller's part of one boot.
-ghost use Rattle.std.specs.Prelude.{◌≡◌, ◌<◌, [], ℕ, List, length, All, OnOk, OnErr, IfErr, option_copied};
+ghost use Rattle.std.specs.Prelude.{◌≡◌, ◌<◌, [], ℕ, List, length, All, OnOk, OnErr, IfErr, option_copied, None};
 ghost use Rattle.nand_model.specs.declared.words.Command.{Command as Ordered};
-ghost use Rattle.run_model.specs.Laws.{IsCalm};
-ghost use Rattle.tool_steps.specs.Boot.{calm_boot, with_session, with_command, session_number, commands_at, command_at};
+ghost use Rattle.tool_steps.specs.Boot.{boot_with, with_session, with_command, session_number, commands_at, command_at};
 
+use fault_plan::Faults;
 use mtd_part::Parts;
 use nand_model::{Command, ItemList};
 use std::alloc::{AllocError, Global};
@@ -22,10 +22,11 @@ struct Session {
     commands: ItemList<Command>,
 }
 
-/// A controller's part of one boot: its partitions, and its sessions with their commands.
+/// A controller's part of one boot: its partitions, its faults, and its sessions with their commands.
 #[derive(Drop)]
 pub struct ControllerBoot {
     partitions: Parts,
+    faults: Faults,
     order: Vec<Session>,
 }
 
@@ -33,20 +34,21 @@ impl Model for ControllerBoot {
     ghost use Rattle.std.specs.Prelude.{map};
     ghost use Rattle.run_model.specs.Course.{Boot};
     ghost use Rattle.tool_steps.specs.declared.boot.Session.{Session};
-    ghost use Rattle.tool_steps.specs.Boot.{calm_boot};
+    ghost use Rattle.tool_steps.specs.Boot.{boot_with};
 
     ghost Value = { Boot };
 
-    ghost view = { λ b. calm_boot b.partitions (map (λ (s : Session). (s.number, s.commands)) b.order.items) };
+    ghost view = { λ b. boot_with b.partitions b.faults (map (λ (s : Session). (s.number, s.commands)) b.order.items) };
 }
 
 impl ControllerBoot {
-    /// These partitions, and no session. It takes no memory.
-    pub fn new(alloc: Global, parts: Parts) -> ControllerBoot
-        ensures { result ≡ calm_boot parts [] }
+    /// These partitions and faults, and no session. It takes no memory.
+    pub fn new(alloc: Global, parts: Parts, faults: Faults) -> ControllerBoot
+        ensures { result ≡ boot_with parts faults [] }
     {
         ControllerBoot {
             partitions: parts,
+            faults,
             order: Vec::new(alloc),
         }
     }
@@ -83,10 +85,17 @@ impl ControllerBoot {
         &self.partitions
     }
 
-    /// The number of the session at place `k`, counted from 0. None comes exactly where there is none. The boot has no flip and no cut.
+    /// Lends the faults.
+    pub fn faults(&self) -> &Faults
+        ensures { result.now ≡ self.now.flips }
+    {
+        &self.faults
+    }
+
+    /// The number of the session at place `k`, counted from 0. None comes exactly where there is none. The boot has no cut.
     pub fn session(&self, k: usize) -> Option<u32>
         ensures number { result ≡ session_number self.now k }
-        ensures calm { IsCalm self.now }
+        ensures uncut { self.now.cut ≡ None }
     {
         if k < self.order.len() {
             Some(self.order[k].number)
@@ -122,11 +131,20 @@ impl ControllerBoot {
 #[cfg(test)]
 mod tests {
     use super::*;
+    use fault_plan::Flip;
+    use nand_model::BlockList;
     use std::test::Fail;
 
     #[test]
-    fn keeps_sessions_and_commands(rt: HostRuntime) -> Result<(), Fail> {
-        let mut boot = ControllerBoot::new(rt.alloc(), Parts::new(rt.alloc(), 0));
+    fn keeps_faults_sessions_and_commands(rt: HostRuntime) -> Result<(), Fail> {
+        let mut faults = Faults::new(rt.alloc());
+        faults.push(Flip {
+            chip: 0,
+            page: 5,
+            before: 18,
+            bits: BlockList::new(rt.alloc()),
+        })?;
+        let mut boot = ControllerBoot::new(rt.alloc(), Parts::new(rt.alloc(), 0), faults);
         assert!(rt; boot.add_session(3).is_ok());
         let command = Command::IsBad {
             dev: 0,
@@ -134,6 +152,7 @@ mod tests {
             block: 5,
         };
         assert!(rt; boot.add_command(command).is_ok());
+        assert_eq!(rt; boot.faults().due(18, 0), Some(0));
         assert_eq!(rt; boot.session(0), Some(3));
         assert_eq!(rt; boot.session(1), None);
         assert_eq!(rt; boot.commands(0).len(), 1);

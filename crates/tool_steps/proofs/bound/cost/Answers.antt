@@ -40,3 +40,9 @@ returns-in-IsBad-clause-ends c = command_ends c.args.g.now c.args.command.now c.
 
 pub returns-in-IsBad-clause-ends_at_last : goal.returns-in-IsBad-clause-ends_at_last
 returns-in-IsBad-clause-ends_at_last c = at_last c.args.g.now c.args.command.now c.args.part.now.count c.requires.runs c.requires.blocks
+
+pub returns-in-IsBad-3-clause-ends : goal.returns-in-IsBad-3-clause-ends
+returns-in-IsBad-3-clause-ends c = command_ends c.args.g.now c.args.command.now c.requires.runs
+
+pub returns-in-IsBad-3-clause-ends_at_last : goal.returns-in-IsBad-3-clause-ends_at_last
+returns-in-IsBad-3-clause-ends_at_last c = at_last c.args.g.now c.args.command.now c.args.part.now.count c.requires.runs c.requires.blocks
