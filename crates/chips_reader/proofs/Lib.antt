@@ -1,6 +1,7 @@
 pub mod Lists
 pub mod Texts
 pub mod Heads
+pub mod LineKinds
 pub mod Numbers
 pub mod Printing
 pub mod Lines

@@ -6,14 +6,14 @@ use Rattle.hex.specs.Hex.{IsBytes, encode_lower, is_hex_digit}
 use Rattle.hex.proofs.HexLemmas.{decode_of-encode_lower, decode_of-ok}
 use Rattle.several_chip_plan.specs.SeveralChips.{spaced_number}
 use Rattle.several_chip_plan.specs.declared.lines.CommandLine.{CommandLine}
-use Rattle.several_chip_plan.specs.declared.lines.CommandLine.TheVariants.{NandWrite as ToWrite, NandDump as ToDump, FlashErase as ToErase, IsBad as ToAsk}
+use Rattle.several_chip_plan.specs.declared.lines.CommandLine.TheVariants.{RawWrite as ToWriteRaw, NandWrite as ToWrite, RawDump as ToDumpRaw, NandDump as ToDump, NandDumpAt as ToDumpAt, FlashErase as ToErase, IsBad as ToAsk, Stats as ToCount}
 use Rattle.several_chip_plan.specs.declared.lines.PlanLines.{PlanLines}
 use Rattle.chips_reader.specs.Draft.{new_plan, with_line}
-use Rattle.chips_reader.specs.Words.{HasNumbers, IsEmptyOrBegins, IsProper, Lacks, command_tail, head_of, head_text, line_body, line_text, tail_text}
+use Rattle.chips_reader.specs.Words.{HasNumbers, IsEmptyOrBegins, IsProper, Lacks, command_tail, flip_numbers, head_of, head_text, line_body, line_text, tail_text}
 use Rattle.chips_reader.specs.declared.head.Head.{Head}
-use Rattle.chips_reader.specs.declared.head.Head.TheVariants.{Header, Controller, Chip, Part, Data, Boot, Session, NandWrite, NandDump, FlashErase, IsBad, Schedule}
+use Rattle.chips_reader.specs.declared.head.Head.TheVariants.{Header, Controller, Chip, Part, Data, Boot, Flip, Session, RawWrite, NandWrite, RawDump, NandDump, NandDumpAt, FlashErase, IsBad, Stats, Schedule}
 use Rattle.chips_reader.specs.declared.line.Line.{Line}
-use Rattle.chips_reader.specs.declared.line.Line.TheVariants.{Header as FirstLine, Controller as OneController, Chip as OneChip, Part as OnePart, Data as TheData, Boot as TheBoot, Session as OneSession, Command, Schedule as TheSchedule}
+use Rattle.chips_reader.specs.declared.line.Line.TheVariants.{Header as FirstLine, Controller as OneController, Chip as OneChip, Part as OnePart, Data as TheData, Boot as TheBoot, Flip as OneFlip, Session as OneSession, Command, Schedule as TheSchedule}
 use Rattle.chips_reader.proofs.Texts.{cut_same, decimal_lacks, lacks_by_test}
 
 -- two texts that lack LF, one after the other
@@ -31,11 +31,16 @@ head_lacks Chip = lacks_by_test 10 (head_text Chip) refl
 head_lacks Part = lacks_by_test 10 (head_text Part) refl
 head_lacks Data = lacks_by_test 10 (head_text Data) refl
 head_lacks Boot = lacks_by_test 10 (head_text Boot) refl
+head_lacks Flip = lacks_by_test 10 (head_text Flip) refl
 head_lacks Session = lacks_by_test 10 (head_text Session) refl
+head_lacks RawWrite = lacks_by_test 10 (head_text RawWrite) refl
 head_lacks NandWrite = lacks_by_test 10 (head_text NandWrite) refl
+head_lacks RawDump = lacks_by_test 10 (head_text RawDump) refl
 head_lacks NandDump = lacks_by_test 10 (head_text NandDump) refl
+head_lacks NandDumpAt = lacks_by_test 10 (head_text NandDumpAt) refl
 head_lacks FlashErase = lacks_by_test 10 (head_text FlashErase) refl
 head_lacks IsBad = lacks_by_test 10 (head_text IsBad) refl
+head_lacks Stats = lacks_by_test 10 (head_text Stats) refl
 head_lacks Schedule = lacks_by_test 10 (head_text Schedule) refl
 
 numbers_lack : (numbers : List ℕ) → All (λ n. n < 2 ^ 32) numbers → Lacks 10 (flat_map spaced_number numbers)
@@ -51,25 +56,35 @@ digits_lack payload are_bytes =
     All-weaker (λ x. is_hex_digit x ≡ true) (λ x. x ≢ 10)
     (λ x is_digit same. let both : false ≡ true = ap is_hex_digit (sym same) ∙ is_digit in absurd (cc both)) (encode_lower payload) digits
 
+-- a number and a text behind it
+number_and : (n : ℕ) (text : List ℕ) → n < 2 ^ 32 → Lacks 10 text → Lacks 10 (decimal n ++ text)
+number_and n text fits without = lacks_both (decimal n) text (number_lacks n fits) without
+
+-- two numbers with a text between them
+number_pair : (m : ℕ) (text : List ℕ) (n : ℕ) → m < 2 ^ 32 → Lacks 10 text → n < 2 ^ 32 → Lacks 10 (decimal m ++ text ++ decimal n)
+number_pair m text n fits_m without fits_n = lacks_both (decimal m ++ text) (decimal n) (number_and m text fits_m without) (number_lacks n fits_n)
+
 command_lacks : (command : CommandLine) → HasNumbers command → Lacks 10 (command_tail command)
-command_lacks (ToWrite dev) fits = lacks_both (decimal dev) (codes " img") (number_lacks dev fits) (lacks_by_test 10 (codes " img") refl)
+command_lacks (ToWriteRaw dev) fits = number_and dev (codes " img") fits (lacks_by_test 10 (codes " img") refl)
+command_lacks (ToWrite dev) fits = number_and dev (codes " img") fits (lacks_by_test 10 (codes " img") refl)
+command_lacks (ToDumpRaw dev) fits = number_lacks dev fits
 command_lacks (ToDump dev) fits = number_lacks dev fits
-command_lacks (ToErase dev) fits = lacks_both (decimal dev) (codes " 0 0") (number_lacks dev fits) (lacks_by_test 10 (codes " 0 0") refl)
-command_lacks (ToAsk dev block) fits =
-    lacks_both (decimal dev ++ codes " ") (decimal block)
-    (lacks_both (decimal dev) (codes " ") (number_lacks dev fits.0) (lacks_by_test 10 (codes " ") refl)) (number_lacks block fits.1)
+command_lacks (ToDumpAt dev off) fits = number_pair off (codes " -l 2048 mtd") dev fits.1 (lacks_by_test 10 (codes " -l 2048 mtd") refl) fits.0
+command_lacks (ToErase dev) fits = number_and dev (codes " 0 0") fits (lacks_by_test 10 (codes " 0 0") refl)
+command_lacks (ToAsk dev block) fits = number_pair dev (codes " ") block fits.0 (lacks_by_test 10 (codes " ") refl) fits.1
+command_lacks (ToCount dev) fits = number_lacks dev fits
 
 tail_lacks : (line : Line) → IsProper line → Lacks 10 (tail_text line)
 tail_lacks FirstLine proper = All-nil (λ x. x ≢ 10)
 tail_lacks OneController proper = All-nil (λ x. x ≢ 10)
 tail_lacks (OneChip blocks t) proper =
     lacks_both (decimal blocks ++ codes " " ++ decimal t) (codes " 0")
-    (lacks_both (decimal blocks ++ codes " ") (decimal t)
-    (lacks_both (decimal blocks) (codes " ") (number_lacks blocks proper.0) (lacks_by_test 10 (codes " ") refl)) (number_lacks t proper.1))
+    (number_pair blocks (codes " ") t proper.0 (lacks_by_test 10 (codes " ") refl) proper.1)
     (lacks_by_test 10 (codes " 0") refl)
 tail_lacks (OnePart part) proper = number_lacks part proper
 tail_lacks (TheData payload) proper = digits_lack payload proper
 tail_lacks TheBoot proper = All-nil (λ x. x ≢ 10)
+tail_lacks (OneFlip flip) proper = number_and flip.chip (flat_map spaced_number (flip_numbers flip)) proper.0 (numbers_lack (flip_numbers flip) proper.1)
 tail_lacks OneSession proper = All-nil (λ x. x ≢ 10)
 tail_lacks (Command command) proper = command_lacks command proper
 tail_lacks (TheSchedule numbers) proper = numbers_lack numbers proper

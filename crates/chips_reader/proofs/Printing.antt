@@ -4,7 +4,7 @@ use Rattle.std.specs.Prelude.{OnOk, codes, decimal}
 use Rattle.hex.specs.Hex.{encode_lower}
 use Rattle.several_chip_plan.specs.SeveralChips.{chip_text, command_text, data_text}
 use Rattle.several_chip_plan.specs.declared.lines.ChipLines.{ChipLines}
-use Rattle.several_chip_plan.specs.declared.lines.CommandLine.TheVariants.{NandWrite, FlashErase}
+use Rattle.several_chip_plan.specs.declared.lines.CommandLine.TheVariants.{RawWrite, NandWrite, NandDumpAt, FlashErase, IsBad}
 
 -- a text that is appended is appended under another name
 pub put_as : {T E : Type 0} (r : Result T E) (old new text wanted : List ℕ) → text ≡ wanted → OnOk r (new ≡ old ++ text) → OnOk r (new ≡ old ++ wanted)
@@ -25,8 +25,26 @@ data_printed [] some = absurd (omega (arith, some))
 data_printed (byte ∷ bytes) some = append_assoc (codes "data img hex:") (encode_lower (byte ∷ bytes)) (codes "\n")
 
 -- the lines of commands
-pub write_printed : (dev : ℕ) → codes "nandwrite -n -p mtd" ++ (decimal dev ++ codes " img\n") ≡ command_text (NandWrite dev)
-write_printed dev = ap (λ t. codes "nandwrite -n -p mtd" ++ t) (sym (append_assoc (decimal dev) (codes " img") (codes "\n")))
+ended_line : (words : List ℕ) (n : ℕ) (rest : List ℕ) → words ++ (decimal n ++ (rest ++ codes "\n")) ≡ words ++ (decimal n ++ rest ++ codes "\n")
+ended_line words n rest = ap (λ t. words ++ t) (sym (append_assoc (decimal n) rest (codes "\n")))
+
+pub raw_write_printed : (dev : ℕ) → codes "nandwrite -n -p mtd" ++ (decimal dev ++ codes " img\n") ≡ command_text (RawWrite dev)
+raw_write_printed dev = ended_line (codes "nandwrite -n -p mtd") dev (codes " img")
+
+pub write_printed : (dev : ℕ) → codes "nandwrite -p mtd" ++ (decimal dev ++ codes " img\n") ≡ command_text (NandWrite dev)
+write_printed dev = ended_line (codes "nandwrite -p mtd") dev (codes " img")
 
 pub erase_printed : (dev : ℕ) → codes "flash_erase -N mtd" ++ (decimal dev ++ codes " 0 0\n") ≡ command_text (FlashErase dev)
-erase_printed dev = ap (λ t. codes "flash_erase -N mtd" ++ t) (sym (append_assoc (decimal dev) (codes " 0 0") (codes "\n")))
+erase_printed dev = ended_line (codes "flash_erase -N mtd") dev (codes " 0 0")
+
+dump_at_joined : (s o l m d n : List ℕ) → s ++ (o ++ (l ++ m ++ (d ++ n))) ≡ s ++ o ++ l ++ (m ++ d) ++ n
+dump_at_joined s o l m d n = simp append_assoc refl
+
+pub dump_at_printed : (dev off : ℕ) → codes "nanddump -s " ++ (decimal off ++ (codes " -l 2048 mtd" ++ (decimal dev ++ codes "\n"))) ≡ command_text (NandDumpAt dev off)
+dump_at_printed dev off = dump_at_joined (codes "nanddump -s ") (decimal off) (codes " -l 2048 ") (codes "mtd") (decimal dev) (codes "\n")
+
+ask_joined : (s d b k n : List ℕ) → s ++ (d ++ (b ++ (k ++ n))) ≡ s ++ d ++ b ++ k ++ n
+ask_joined s d b k n = simp append_assoc refl
+
+pub ask_printed : (dev block : ℕ) → codes "isbad mtd" ++ (decimal dev ++ (codes " " ++ (decimal block ++ codes "\n"))) ≡ command_text (IsBad dev block)
+ask_printed dev block = ask_joined (codes "isbad mtd") (decimal dev) (codes " ") (decimal block) (codes "\n")

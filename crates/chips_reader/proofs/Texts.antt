@@ -5,7 +5,7 @@ use Rattle.std.specs.List.{list_all}
 use Rattle.std.proofs.lemmas.Bool.{and_parts, eq-eqb}
 use Rattle.std.proofs.lemmas.Fmt.{decimal_by_steps}
 use Rattle.std.proofs.lemmas.List.Elements.{All-cons, All-head, All-nil, All-push, All-tail}
-use Rattle.chips_reader.specs.Words.{IsEmptyOrBegins, Lacks, chip_tail}
+use Rattle.chips_reader.specs.Words.{IsEmptyOrBegins, Lacks, chip_tail, offset_tail}
 
 -- the first items of equal lists are equal, and so are the rests
 heads_same : (x y : ℕ) (xs ys : List ℕ) → x ∷ xs ≡ y ∷ ys → x ≡ y
@@ -66,6 +66,13 @@ pub pair_cut : (m n : ℕ) (text front back : List ℕ) → m < 2 ^ 32 → text 
     → text ≡ front ++ back → Lacks 32 front → IsEmptyOrBegins 32 back → (front ≡ decimal m) × (back ≡ codes " " ++ decimal n)
 pair_cut m n text front back fits is_text =
     number_cut m (codes " " ++ decimal n) text front back fits (is_text ∙ append_assoc (decimal m) (codes " ") (decimal n)) (inr (decimal n, refl))
+
+-- an offset and a device with the length between them
+pub offset_cut : (off dev : ℕ) (text front back : List ℕ) → off < 2 ^ 32 → text ≡ offset_tail off dev
+    → text ≡ front ++ back → Lacks 32 front → IsEmptyOrBegins 32 back → (front ≡ decimal off) × (back ≡ codes " -l 2048 mtd" ++ decimal dev)
+offset_cut off dev text front back fits is_text =
+    number_cut off (codes " -l 2048 mtd" ++ decimal dev) text front back fits (is_text ∙ append_assoc (decimal off) (codes " -l 2048 mtd") (decimal dev))
+    (inr (codes "-l 2048 mtd" ++ decimal dev, refl))
 
 -- the numbers of a chip
 pub chip_cut : (blocks t : ℕ) (text front back : List ℕ) → blocks < 2 ^ 32 → text ≡ chip_tail blocks t

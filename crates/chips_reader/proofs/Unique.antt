@@ -1,54 +1,25 @@
 -- One text has at most one plan.
 use Rattle.std.proofs.Common.{◌≡◌, ℕ, ◌<◌, ◌^◌, inr, List, [], ◌∷◌, ◌++◌, length, refl, ap, sym, ◌∙◌, arith, lit<, append_assoc, length-append}
-use Rattle.std.specs.Prelude.{All, codes, decimal, flat_map, fold, ◌==◌, if◌then◌else◌, slice_index_or}
+use Rattle.std.specs.Prelude.{All, codes, decimal, flat_map, fold}
 use Rattle.std.proofs.lemmas.Fmt.{decimal_injective}
 use Rattle.std.proofs.lemmas.List.{append_cancel_left, append_cancel_right}
 use Rattle.std.proofs.lemmas.List.Elements.{All-head, All-tail}
 use Rattle.hex.specs.Hex.{IsBytes, decode_of, encode_lower}
 use Rattle.hex.proofs.HexLemmas.{decode_of-encode_lower, decode_of-same}
+use Rattle.nand_model.specs.declared.words.Flip.{Flip as Turned}
 use Rattle.several_chip_plan.specs.SeveralChips.{IsSeveralChipPlan, spaced_number}
 use Rattle.several_chip_plan.specs.declared.lines.CommandLine.{CommandLine}
-use Rattle.several_chip_plan.specs.declared.lines.CommandLine.TheVariants.{NandWrite as ToWrite, NandDump as ToDump, FlashErase as ToErase, IsBad as ToAsk}
+use Rattle.several_chip_plan.specs.declared.lines.CommandLine.TheVariants.{RawWrite as ToWriteRaw, NandWrite as ToWrite, RawDump as ToDumpRaw, NandDump as ToDump, NandDumpAt as ToDumpAt, FlashErase as ToErase, IsBad as ToAsk, Stats as ToCount}
 use Rattle.several_chip_plan.specs.declared.lines.PlanLines.{PlanLines}
 use Rattle.chips_reader.specs.Draft.{new_plan, with_line}
-use Rattle.chips_reader.specs.Words.{HasNumbers, IsProper, chip_tail, command_tail, head_of, head_of_command, head_text, line_body, line_text, tail_text}
-use Rattle.chips_reader.specs.declared.head.Head.{Head}
-use Rattle.chips_reader.specs.declared.head.Head.TheVariants.{Header, Controller, Chip, Part, Data, Boot, Session, NandWrite, NandDump, FlashErase, IsBad, Schedule}
+use Rattle.chips_reader.specs.Words.{HasFlipNumbers, HasNumbers, IsProper, chip_tail, command_tail, flip_numbers, flip_tail, offset_tail, head_of, head_of_command, line_body, line_text, tail_text}
 use Rattle.chips_reader.specs.declared.line.Line.{Line}
-use Rattle.chips_reader.specs.declared.line.Line.TheVariants.{Header as FirstLine, Controller as OneController, Chip as OneChip, Part as OnePart, Data as TheData, Boot as TheBoot, Session as OneSession, Command, Schedule as TheSchedule}
+use Rattle.chips_reader.specs.declared.line.Line.TheVariants.{Header as FirstLine, Controller as OneController, Chip as OneChip, Part as OnePart, Data as TheData, Boot as TheBoot, Flip as OneFlip, Session as OneSession, Command, Schedule as TheSchedule}
+use Rattle.chips_reader.proofs.LineKinds.{rank, rank_is, rank_of_head, same_kind}
 use Rattle.chips_reader.proofs.Lines.{body_lacks}
 use Rattle.chips_reader.proofs.Makes.{lines_make, lines_of, lines_of-text, lines_proper}
 use Rattle.chips_reader.proofs.Numbers.{numbers_begin}
-use Rattle.chips_reader.proofs.Texts.{chip_cut, cut_same, decimal_lacks, number_cut, pair_cut}
-
--- the kind of a line by its first and its fifth byte
-abbrev kind_by : ℕ → ℕ → Head
-kind_by first fifth =
-    if first == 110 then (if fifth == 108 then Header else (if fifth == 119 then NandWrite else NandDump))
-    else (if first == 99 then (if fifth == 114 then Controller else Chip)
-    else (if first == 112 then Part
-    else (if first == 100 then Data
-    else (if first == 98 then Boot
-    else (if first == 115 then (if fifth == 105 then Session else Schedule)
-    else (if first == 102 then FlashErase
-    else IsBad))))))
-
-abbrev kind_of : List ℕ → Head
-kind_of text = kind_by (slice_index_or text 0 0) (slice_index_or text 4 0)
-
-head_found : (head : Head) (rest : List ℕ) → kind_of (head_text head ++ rest) ≡ head
-head_found Header rest = refl
-head_found Controller rest = refl
-head_found Chip rest = refl
-head_found Part rest = refl
-head_found Data rest = refl
-head_found Boot rest = refl
-head_found Session rest = refl
-head_found NandWrite rest = refl
-head_found NandDump rest = refl
-head_found FlashErase rest = refl
-head_found IsBad rest = refl
-head_found Schedule rest = refl
+use Rattle.chips_reader.proofs.Texts.{chip_cut, cut_same, decimal_lacks, number_cut, offset_cut, pair_cut}
 
 number_same : (m n : ℕ) → m < 2 ^ 32 → n < 2 ^ 32 → decimal m ≡ decimal n → m ≡ n
 number_same m n fits_m fits_n = decimal_injective m n (omega (arith, fits_m)) (omega (arith, fits_n))
@@ -88,51 +59,44 @@ numbers_same (m ∷ ms) (n ∷ ns) all_m all_n e =
     let rest = numbers_same ms ns (All-tail (λ k. k < 2 ^ 32) m ms all_m) (All-tail (λ k. k < 2 ^ 32) n ns all_n) (sym cut.1) in
     ap (λ k. k ∷ ms) same ∙ ap (λ ks. n ∷ ks) rest
 
+-- the flip of a chip with these numbers
+abbrev flip_with : ℕ → List ℕ → Turned
+flip_with chip (page ∷ before ∷ bits) = record { chip = chip; page = page; before = before; bits = bits }
+flip_with chip _ = record { chip = chip; page = 0; before = 0; bits = [] }
+
+flip_same : (a b : Turned) → HasFlipNumbers a → HasFlipNumbers b → flip_tail a ≡ flip_tail b → a ≡ b
+flip_same a b pa pb e =
+    let more : List ℕ = flat_map spaced_number (flip_numbers b) in
+    let cut = number_cut a.chip (flat_map spaced_number (flip_numbers a)) (flip_tail a) (decimal b.chip) more pa.0 refl (numbers_begin (flip_numbers a)) e
+    (decimal_lacks 32 b.chip (lit< tt) (omega (arith, pb.0))) (numbers_begin (flip_numbers b)) in
+    let chip = number_same a.chip b.chip pa.0 pb.0 (sym cut.0) in
+    let numbers = numbers_same (flip_numbers a) (flip_numbers b) pa.1 pb.1 (sym cut.1) in
+    ap (λ k. flip_with k (flip_numbers a)) chip ∙ ap (flip_with b.chip) numbers
+
 data_same : (xs ys : List ℕ) → IsBytes xs → IsBytes ys → encode_lower xs ≡ encode_lower ys → xs ≡ ys
 data_same xs ys bytes_x bytes_y e =
     decode_of-same (encode_lower xs) xs ys (decode_of-encode_lower xs bytes_x) (ap decode_of e ∙ decode_of-encode_lower ys bytes_y)
 
--- commands of one kind with one text from the device on
+offset_same : (m n x y : ℕ) → m < 2 ^ 32 → n < 2 ^ 32 → x < 2 ^ 32 → y < 2 ^ 32 → offset_tail m n ≡ offset_tail x y → (m ≡ x) × (n ≡ y)
+offset_same m n x y fits_m fits_n fits_x fits_y e =
+    let rest : List ℕ = codes " -l 2048 mtd" ++ decimal y in
+    let cut = offset_cut m n (offset_tail m n) (decimal x) rest fits_m refl (e ∙ append_assoc (decimal x) (codes " -l 2048 mtd") (decimal y))
+    (decimal_lacks 32 x (lit< tt) (omega (arith, fits_x))) (inr (codes "-l 2048 mtd" ++ decimal y, refl)) in
+    (number_same m x fits_m fits_x (sym cut.0), number_same n y fits_n fits_y (sym (append_cancel_left (codes " -l 2048 mtd") (decimal y) (decimal n) cut.1)))
+
+-- commands of one kind with one text from their first number on
 command_same : (c d : CommandLine) → HasNumbers c → HasNumbers d → head_of_command c ≡ head_of_command d → command_tail c ≡ command_tail d → c ≡ d
+command_same (ToWriteRaw m) (ToWriteRaw n) pa pb h e = ap ToWriteRaw (ended_same m n (codes " img") pa pb e)
 command_same (ToWrite m) (ToWrite n) pa pb h e = ap ToWrite (ended_same m n (codes " img") pa pb e)
+command_same (ToDumpRaw m) (ToDumpRaw n) pa pb h e = ap ToDumpRaw (number_same m n pa pb e)
 command_same (ToDump m) (ToDump n) pa pb h e = ap ToDump (number_same m n pa pb e)
+command_same (ToDumpAt m n) (ToDumpAt x y) pa pb h e =
+    let same = offset_same n m y x pa.1 pa.0 pb.1 pb.0 e in ap (λ k. ToDumpAt k n) same.1 ∙ ap (λ k. ToDumpAt x k) same.0
 command_same (ToErase m) (ToErase n) pa pb h e = ap ToErase (ended_same m n (codes " 0 0") pa pb e)
 command_same (ToAsk m n) (ToAsk x y) pa pb h e =
     let same = pair_same m n x y pa.0 pa.1 pb.0 pb.1 e in ap (λ k. ToAsk k n) same.0 ∙ ap (λ k. ToAsk x k) same.1
+command_same (ToCount m) (ToCount n) pa pb h e = ap ToCount (number_same m n pa pb e)
 command_same c d pa pb h e = absurd (cc h)
-
--- a number for each kind of line, which all commands share
-abbrev rank_of_head : Head → ℕ
-rank_of_head Header = 0
-rank_of_head Controller = 1
-rank_of_head Chip = 2
-rank_of_head Part = 3
-rank_of_head Data = 4
-rank_of_head Boot = 5
-rank_of_head Session = 6
-rank_of_head Schedule = 7
-rank_of_head _ = 8
-
-abbrev rank : Line → ℕ
-rank (Command command) = 8
-rank l = rank_of_head (head_of l)
-
-command_rank : (command : CommandLine) → rank_of_head (head_of_command command) ≡ 8
-command_rank (ToWrite dev) = refl
-command_rank (ToDump dev) = refl
-command_rank (ToErase dev) = refl
-command_rank (ToAsk dev block) = refl
-
-rank_is : (l : Line) → rank_of_head (head_of l) ≡ rank l
-rank_is (Command command) = command_rank command
-rank_is FirstLine = refl
-rank_is OneController = refl
-rank_is (OneChip b t) = refl
-rank_is (OnePart m) = refl
-rank_is (TheData xs) = refl
-rank_is TheBoot = refl
-rank_is OneSession = refl
-rank_is (TheSchedule ms) = refl
 
 -- lines of one kind with one text behind their first words
 tail_same : (a b : Line) → IsProper a → IsProper b → rank a ≡ rank b → head_of a ≡ head_of b → tail_text a ≡ tail_text b → a ≡ b
@@ -143,6 +107,7 @@ tail_same (OneChip b t) (OneChip c u) pa pb r h e =
 tail_same (OnePart m) (OnePart n) pa pb r h e = ap OnePart (number_same m n pa pb e)
 tail_same (TheData xs) (TheData ys) pa pb r h e = ap TheData (data_same xs ys pa pb e)
 tail_same TheBoot TheBoot pa pb r h e = refl
+tail_same (OneFlip m) (OneFlip n) pa pb r h e = ap OneFlip (flip_same m n pa pb e)
 tail_same OneSession OneSession pa pb r h e = refl
 tail_same (Command c) (Command d) pa pb r h e = ap Command (command_same c d pa pb h e)
 tail_same (TheSchedule ms) (TheSchedule ns) pa pb r h e = ap TheSchedule (numbers_same ms ns pa pb e)
@@ -150,9 +115,8 @@ tail_same a b pa pb r h e = absurd (omega (arith, r))
 
 body_same : (a b : Line) → IsProper a → IsProper b → line_body a ≡ line_body b → a ≡ b
 body_same a b pa pb e =
-    let head : head_of a ≡ head_of b = sym (head_found (head_of a) (tail_text a)) ∙ ap kind_of e ∙ head_found (head_of b) (tail_text b) in
-    let tail = append_cancel_left (head_text (head_of b)) (tail_text a) (tail_text b) (ap (λ h. head_text h ++ tail_text a) (sym head) ∙ e) in
-    tail_same a b pa pb (sym (rank_is a) ∙ ap rank_of_head head ∙ rank_is b) head tail
+    let parts = same_kind a (head_of b) (tail_text b) e in
+    tail_same a b pa pb (sym (rank_is a) ∙ ap rank_of_head parts.0 ∙ rank_is b) parts.0 parts.1
 
 -- lines have some text
 no_text : (a : Line) (ls : List Line) → flat_map line_text (a ∷ ls) ≡ [] → ⊥

@@ -4,7 +4,7 @@ use Rattle.several_chip_plan.specs.declared.lines.ChipLines.{ChipLines}
 use Rattle.several_chip_plan.specs.declared.lines.CommandLine.{CommandLine}
 use Rattle.several_chip_plan.specs.declared.lines.PlanLines.{PlanLines}
 use Rattle.chips_reader.specs.declared.line.Line.{Line}
-use Rattle.chips_reader.specs.declared.line.Line.TheVariants.{Header, Controller, Chip, Part, Data, Boot, Session, Command, Schedule}
+use Rattle.chips_reader.specs.declared.line.Line.TheVariants.{Header, Controller, Chip, Part, Data, Boot, Flip, Session, Command, Schedule}
 
 -- the list with another last item, which a function gives
 abbrev pub with_last : {A : Type 0} → (A → A) → List A → List A
@@ -25,6 +25,7 @@ abbrev pub with_line : PlanLines → Line → PlanLines
 with_line plan (Chip blocks t) = record plan { chips = plan.chips ++ record { blocks = blocks; t = t; part = 0 } ∷ [] }
 with_line plan (Part part) = record plan { chips = with_part part plan.chips }
 with_line plan (Data payload) = record plan { payload = payload }
+with_line plan (Flip flip) = record plan { flips = plan.flips ++ flip ∷ [] }
 with_line plan Session = record plan { sessions = plan.sessions ++ [] ∷ [] }
 with_line plan (Command command) = record plan { sessions = with_command command plan.sessions }
 with_line plan (Schedule numbers) = record plan { schedule = numbers }
@@ -34,4 +35,4 @@ with_line plan Boot = plan
 
 -- the plan without lines
 abbrev pub new_plan : PlanLines
-new_plan = record { chips = []; payload = []; sessions = []; schedule = [] }
+new_plan = record { chips = []; payload = []; flips = []; sessions = []; schedule = [] }

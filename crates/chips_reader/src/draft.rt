@@ -47,6 +47,7 @@ pub fn take_line(alloc: Global, plan: &mut PlanLines, line: Line) -> Result<(), 
             plan.payload = payload;
             Ok(())
         }
+        Line::Flip(flip) => push(&mut plan.flips, flip),
         Line::Session => {
             let session = ItemList::new(alloc);
             push(&mut plan.sessions, session)

@@ -1,6 +1,7 @@
 //! The reader of the several-chip plan.
 #![tactic(auto)]
 
+mod command;
 mod cursor;
 mod draft;
 mod head;

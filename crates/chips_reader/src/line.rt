@@ -1,16 +1,17 @@
 // A line of a several-chip plan.
 ghost use Rattle.std.specs.Prelude.{◌≡◌, ◌++◌, ◌<◌, ◌^◌, ℕ, List, All, IfOk, codes, decimal, flat_map};
 ghost use Rattle.hex.specs.Hex.{IsBytes, encode_lower};
+ghost use Rattle.nand_model.specs.declared.words.Flip.{Flip as Turned};
 ghost use Rattle.several_chip_plan.specs.SeveralChips.{spaced_number};
-ghost use Rattle.several_chip_plan.specs.declared.lines.CommandLine.{CommandLine as Order};
-ghost use Rattle.chips_reader.specs.Words.{chip_tail, line_body, head_of_command, command_tail, HasNumbers, IsProper};
+ghost use Rattle.chips_reader.specs.Words.{chip_tail, line_body, flip_numbers, flip_tail, HasFlipNumbers, IsProper};
 ghost use Rattle.chips_reader.specs.declared.line.Line.{Line as Read};
 
+use crate::command::command_of;
 use crate::cursor::{after, before, number_of, split_before};
 use crate::head::{Head, split_head};
 use crate::push::push;
 use hex::FromHexError;
-use nand_model::{Bytes, ItemList};
+use nand_model::{Bytes, Flip, ItemList};
 use several_chip_plan::CommandLine;
 use std::alloc::{AllocError, Global};
 
@@ -29,6 +30,8 @@ pub enum Line {
     Data(Bytes),
     /// The boot.
     Boot,
+    /// Bits that turn over.
+    Flip(Flip),
     /// A session.
     Session,
     /// A command of the last session.
@@ -76,38 +79,33 @@ fn numbers_of(alloc: Global, tail: &[u8]) -> Result<Option<ItemList<u32>>, Alloc
     Ok(Some(numbers))
 }
 
-// The device and the block of an isbad.
-fn block_of(tail: &[u8]) -> Option<(u32, u32)>
-    ensures { (dev block : ℕ) → dev < 2 ^ 32 → block < 2 ^ 32 → tail.now ≡ decimal dev ++ codes " " ++ decimal block → result ≡ Some (dev, block) }
+// The flip of a chip with these numbers: its page, the event before which it comes, and its bits.
+fn flip_with(chip: u32, numbers: ItemList<u32>) -> Option<Flip>
+    ensures { (flip : Turned) → chip ≡ flip.chip → numbers ≡ flip_numbers flip → result ≡ Some flip }
 {
-    let (dev, rest) = split_before(tail, b' ');
-    let block = after(rest, b" ")?;
-    Some((number_of(dev)?, number_of(block)?))
+    let mut bits = numbers;
+    let page = bits.take_first()?;
+    let before = bits.take_first()?;
+    Some(Flip {
+        chip,
+        page,
+        before,
+        bits,
+    })
 }
 
-// The command of a line of this kind.
-fn command_of(head: Head, tail: &[u8]) -> Option<CommandLine>
-    ensures { (command : Order) → HasNumbers command → head ≡ head_of_command command → tail.now ≡ command_tail command → result ≡ Some command }
+// A flip, from the number of its chip on.
+fn flip_of(alloc: Global, tail: &[u8]) -> Result<Option<Flip>, AllocError>
+    ensures { (flip : Turned) → HasFlipNumbers flip → tail.now ≡ flip_tail flip → IfOk result (λ found. found ≡ Some flip) }
 {
-    match head {
-        Head::NandWrite => {
-            let dev = number_of(before(tail, b" img")?)?;
-            Some(CommandLine::NandWrite { dev })
-        }
-        Head::NandDump => {
-            let dev = number_of(tail)?;
-            Some(CommandLine::NandDump { dev })
-        }
-        Head::FlashErase => {
-            let dev = number_of(before(tail, b" 0 0")?)?;
-            Some(CommandLine::FlashErase { dev })
-        }
-        Head::IsBad => {
-            let (dev, block) = block_of(tail)?;
-            Some(CommandLine::IsBad { dev, block })
-        }
-        _ => None,
-    }
+    let (word, rest) = split_before(tail, b' ');
+    let Some(chip) = number_of(word) else {
+        return Ok(None);
+    };
+    let Some(numbers) = numbers_of(alloc, rest)? else {
+        return Ok(None);
+    };
+    Ok(flip_with(chip, numbers))
 }
 
 /// The line of a text without its LF.
@@ -124,6 +122,7 @@ pub fn line_of(alloc: Global, text: &[u8]) -> Result<Option<Line>, AllocError>
         Head::Part => number_of(tail).map(Line::Part),
         Head::Data => data_of(alloc, tail)?.map(Line::Data),
         Head::Boot => Some(Line::Boot),
+        Head::Flip => flip_of(alloc, tail)?.map(Line::Flip),
         Head::Session => Some(Line::Session),
         Head::Schedule => numbers_of(alloc, tail)?.map(Line::Schedule),
         _ => command_of(head, tail).map(Line::Command),

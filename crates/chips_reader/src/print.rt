@@ -1,8 +1,9 @@
 // The text of a several-chip plan.
 ghost use Rattle.std.specs.Prelude.{◌≡◌, ◌++◌, OnOk, IfOk, flat_map};
-ghost use Rattle.several_chip_plan.specs.SeveralChips.{chip_text, command_text, data_text, plan_text as text_of_plan, schedule_text, session_text, spaced_number};
+ghost use Rattle.std.specs.String.{string_bytes};
+ghost use Rattle.several_chip_plan.specs.SeveralChips.{chip_text, command_text, data_text, flip_text, plan_text as text_of_plan, schedule_text, session_text, spaced_number};
 
-use nand_model::{Bytes, ItemList};
+use nand_model::{Bytes, Flip, ItemList};
 use several_chip_plan::{ChipLines, CommandLine, PlanLines};
 use std::alloc::{AllocError, Global};
 
@@ -44,28 +45,32 @@ fn put_data(alloc: Global, out: &mut Bytes, payload: &Bytes) -> Result<(), Alloc
     put_text(out, text.as_str())
 }
 
+// The line of a command.
+fn command_line(alloc: Global, command: &CommandLine) -> Result<String, AllocError>
+    ensures { IfOk result (λ text. string_bytes text ≡ command_text command.now) }
+{
+    match command {
+        CommandLine::RawWrite { dev } => format!(in alloc; "nandwrite -n -p mtd{dev} img\n"),
+        CommandLine::NandWrite { dev } => format!(in alloc; "nandwrite -p mtd{dev} img\n"),
+        CommandLine::RawDump { dev } => {
+            format!(in alloc; "nanddump -n --bb=dumpbad -l 2048 mtd{dev}\n")
+        }
+        CommandLine::NandDump { dev } => format!(in alloc; "nanddump -l 2048 mtd{dev}\n"),
+        CommandLine::NandDumpAt { dev, off } => {
+            format!(in alloc; "nanddump -s {off} -l 2048 mtd{dev}\n")
+        }
+        CommandLine::FlashErase { dev } => format!(in alloc; "flash_erase -N mtd{dev} 0 0\n"),
+        CommandLine::IsBad { dev, block } => format!(in alloc; "isbad mtd{dev} {block}\n"),
+        CommandLine::Stats { dev } => format!(in alloc; "stats mtd{dev}\n"),
+    }
+}
+
 // Appends the line of a command.
 fn put_command(alloc: Global, out: &mut Bytes, command: &CommandLine) -> Result<(), AllocError>
     ensures { OnOk result (out.new ≡ out.old ++ command_text command.now) }
 {
-    match command {
-        CommandLine::NandWrite { dev } => {
-            let text = format!(in alloc; "nandwrite -n -p mtd{dev} img\n")?;
-            put_text(out, text.as_str())
-        }
-        CommandLine::NandDump { dev } => {
-            let text = format!(in alloc; "nanddump -n --bb=dumpbad -l 2048 mtd{dev}\n")?;
-            put_text(out, text.as_str())
-        }
-        CommandLine::FlashErase { dev } => {
-            let text = format!(in alloc; "flash_erase -N mtd{dev} 0 0\n")?;
-            put_text(out, text.as_str())
-        }
-        CommandLine::IsBad { dev, block } => {
-            let text = format!(in alloc; "isbad mtd{dev} {block}\n")?;
-            put_text(out, text.as_str())
-        }
-    }
+    let text = command_line(alloc, command)?;
+    put_text(out, text.as_str())
 }
 
 // Appends the lines of a session.
@@ -109,6 +114,32 @@ fn put_numbers(alloc: Global, out: &mut Bytes, numbers: &ItemList<u32>) -> Resul
     Ok(())
 }
 
+// Appends the line of bits that turn over.
+fn put_flip(alloc: Global, out: &mut Bytes, flip: &Flip) -> Result<(), AllocError>
+    ensures { OnOk result (out.new ≡ out.old ++ flip_text flip.now) }
+{
+    let Flip {
+        chip,
+        page,
+        before,
+        ..
+    } = *flip;
+    let text = format!(in alloc; "flip 0.{chip} {page} {before}")?;
+    put_text(out, text.as_str())?;
+    put_numbers(alloc, out, &flip.bits)?;
+    put_text(out, "\n")
+}
+
+// Appends the lines of flips.
+fn put_flips(alloc: Global, out: &mut Bytes, flips: &ItemList<Flip>) -> Result<(), AllocError>
+    ensures { OnOk result (out.new ≡ out.old ++ flat_map flip_text flips.now) }
+{
+    for n in 0..flips.len() {
+        put_flip(alloc, out, flips.get(n))?;
+    }
+    Ok(())
+}
+
 // Appends the schedule line, if there are numbers.
 fn put_schedule(alloc: Global, out: &mut Bytes, numbers: &ItemList<u32>) -> Result<(), AllocError>
     ensures { OnOk result (out.new ≡ out.old ++ schedule_text numbers.now) }
@@ -130,6 +161,7 @@ pub fn plan_text(alloc: Global, plan: &PlanLines) -> Result<Bytes, AllocError>
     put_chips(alloc, &mut out, &plan.chips)?;
     put_data(alloc, &mut out, &plan.payload)?;
     put_text(&mut out, "boot\n")?;
+    put_flips(alloc, &mut out, &plan.flips)?;
     put_sessions(alloc, &mut out, &plan.sessions)?;
     put_schedule(alloc, &mut out, &plan.schedule)?;
     Ok(out)

@@ -24,6 +24,7 @@ fn empty_plan(alloc: Global) -> Result<PlanLines, AllocError>
     Ok(PlanLines {
         chips: ItemList::new(alloc),
         payload: Bytes::filled(alloc, 0, 0)?,
+        flips: ItemList::new(alloc),
         sessions: ItemList::new(alloc),
         schedule: ItemList::new(alloc),
     })
@@ -60,7 +61,7 @@ fn has_text(alloc: Global, plan: &PlanLines, bytes: &[u8]) -> Result<bool, Alloc
 
 /// The lines of a several-chip plan; None exactly where the bytes are no such plan.
 ///
-/// It is a plan of one controller with one to eight chips, and of one to eight sessions, in at most 8,192 bytes: lines without comments, with one space between words,
+/// It is a plan of one controller with one to eight chips, of bits of these that turn over, and of one to eight sessions, in at most 8,192 bytes: lines without comments, with one space between words,
 /// numbers without leading zeros, and an LF at the end of each.
 pub fn read_several_chips(alloc: Global, bytes: &[u8]) -> Result<Option<PlanLines>, AllocError>
     ensures some { IfOk result (λ found. IfSome found (IsSeveralChipPlan bytes.now)) }

@@ -6,8 +6,8 @@ use Rattle.std.proofs.lemmas.List.Elements.{All-cons, All-nil}
 use Rattle.hex.specs.Hex.{encode_lower}
 use Rattle.nine_line_plan.specs.NineLines.{IsNineLinePlan, plan_of as plan_of_nine, plan_text as text_of_nine}
 use Rattle.nine_line_plan.proofs.Form.{length-plan_text}
-use Rattle.several_chip_plan.specs.declared.lines.CommandLine.TheVariants.{NandWrite, NandDump}
-use Rattle.several_chip_plan.specs.SeveralChips.{IsChip, IsCommand, IsPlan, IsSeveralChipPlan, chip_text, plan_of, plan_text, session_text}
+use Rattle.several_chip_plan.specs.declared.lines.CommandLine.TheVariants.{RawWrite, RawDump}
+use Rattle.several_chip_plan.specs.SeveralChips.{IsChip, IsCommand, IsFlip, IsPlan, IsSeveralChipPlan, chip_text, plan_of, plan_text, session_text}
 use Rattle.several_chip_plan.specs.NineLines.{nine_chip, nine_lines}
 
 zero_text : decimal 0 ≡ codes "0"
@@ -22,19 +22,19 @@ eight_text = decimal_digit 8 (omega arith)
 chip_lines : chip_text nine_chip ≡ codes "chip 2048 64 64 8 1 0\npart 0 1\n"
 chip_lines = rw (eight_text, one_text) refl
 
-session_lines : session_text (NandWrite 0 ∷ NandDump 0 ∷ []) ≡ codes "session 0\nnandwrite -n -p mtd0 img\nnanddump -n --bb=dumpbad -l 2048 mtd0\n"
+session_lines : session_text (RawWrite 0 ∷ RawDump 0 ∷ []) ≡ codes "session 0\nnandwrite -n -p mtd0 img\nnanddump -n --bb=dumpbad -l 2048 mtd0\n"
 session_lines = rw zero_text refl
 
 -- the parts of the text
 joined : (a chips d e n b sessions c s : List ℕ) → c ≡ chips → s ≡ sessions
-    → a ++ (c ++ []) ++ (d ++ e ++ n) ++ b ++ (s ++ []) ++ [] ≡ (a ++ chips ++ d) ++ e ++ (n ++ b ++ sessions)
+    → a ++ (c ++ []) ++ (d ++ e ++ n) ++ b ++ [] ++ (s ++ []) ++ [] ≡ (a ++ chips ++ d) ++ e ++ (n ++ b ++ sessions)
 joined a chips d e n b sessions c s same_chips same_sessions = rw (same_chips, same_sessions) (simp (append_assoc, append-nil) refl)
 
 text_same : (payload : List ℕ) → 1 ≤ length payload → plan_text (nine_lines payload) ≡ text_of_nine payload
 text_same [] some = absurd (omega (arith, some))
 text_same (byte ∷ bytes) some =
     joined (codes "nandlab 1\ncontroller\n") (codes "chip 2048 64 64 8 1 0\npart 0 1\n") (codes "data img hex:") (encode_lower (byte ∷ bytes)) (codes "\n") (codes "boot\n")
-    (codes "session 0\nnandwrite -n -p mtd0 img\nnanddump -n --bb=dumpbad -l 2048 mtd0\n") (chip_text nine_chip) (session_text (NandWrite 0 ∷ NandDump 0 ∷ []))
+    (codes "session 0\nnandwrite -n -p mtd0 img\nnanddump -n --bb=dumpbad -l 2048 mtd0\n") (chip_text nine_chip) (session_text (RawWrite 0 ∷ RawDump 0 ∷ []))
     chip_lines session_lines
 
 -- the plan is legal
@@ -46,11 +46,12 @@ legal payload h =
       chips = All-cons IsChip nine_chip [] (record { blocks = inl refl; t = inl refl; some = omega arith; within = omega arith }) (All-nil IsChip);
       payload_fits = h.fits;
       payload_bytes = h.are_bytes;
+      flips = All-nil (IsFlip (nine_chip ∷ []));
       session_count = (omega arith, omega arith);
-      commands = All-cons (All (IsCommand 1 (length payload))) (NandWrite 0 ∷ NandDump 0 ∷ []) []
-          (All-cons (IsCommand 1 (length payload)) (NandWrite 0) (NandDump 0 ∷ []) (omega arith, some)
-          (All-cons (IsCommand 1 (length payload)) (NandDump 0) [] (omega arith) (All-nil (IsCommand 1 (length payload)))))
-          (All-nil (All (IsCommand 1 (length payload))));
+      commands = All-cons (All (IsCommand (nine_chip ∷ []) payload)) (RawWrite 0 ∷ RawDump 0 ∷ []) []
+          (All-cons (IsCommand (nine_chip ∷ []) payload) (RawWrite 0) (RawDump 0 ∷ []) (omega arith, some)
+          (All-cons (IsCommand (nine_chip ∷ []) payload) (RawDump 0) [] (omega arith) (All-nil (IsCommand (nine_chip ∷ []) payload))))
+          (All-nil (All (IsCommand (nine_chip ∷ []) payload)));
       schedule = All-nil (λ session. session < 1);
     }
 

@@ -5,4 +5,4 @@ use Rattle.chips_reader.proofs.legal.are_commands.Given as goal
 
 -- those so far pass
 abbrev pub invariant-loop-n : goal.invariant-loop-n
-invariant-loop-n l = All (IsCommand l.devices l.bytes) (take l.n l.commands)
+invariant-loop-n l = All (IsCommand l.chips l.payload) (take l.n l.commands)

@@ -2,7 +2,7 @@ use Rattle.std.proofs.Common.{sym, ◌∙◌}
 use Rattle.std.proofs.lemmas.List.{append_cancel_left}
 use Rattle.std.specs.Prelude.{codes, decimal}
 use Rattle.chips_reader.proofs.Texts.{both_found, pair_cut}
-use Rattle.chips_reader.proofs.line.block_of.Goals as goal
+use Rattle.chips_reader.proofs.command.block_of.Goals as goal
 
 pub returns-in_err-number_of : goal.returns-in_err-number_of
 returns-in_err-number_of c = λ dev block small_dev small_block is_text.
