@@ -1,6 +1,6 @@
 -- Single bits of pages: those of erased bytes, of programmed ones, and of a page in which a bit was turned.
-use Rattle.std.proofs.Common.{◌≡◌, ◌≢◌, ℕ, zero, suc, ◌+◌, ◌-◌, ◌*◌, ◌/◌, ◌%◌, ◌^◌, ◌<◌, ◌≤◌, inl, inr, List, [], ◌∷◌, length, refl, ap, ap₂, sym, min, ◌∙◌, arith, get_or}
-use Rattle.std.specs.Prelude.{replicate, slice_index, slice_set, slice_range, bit_and, bit_xor}
+use Rattle.std.proofs.Common.{◌≡◌, ◌≢◌, ℕ, zero, suc, ◌+◌, ◌-◌, ◌*◌, ◌/◌, ◌%◌, ◌^◌, ◌<◌, inl, inr, List, [], ◌∷◌, length, ap, ap₂, sym, min, ◌∙◌, arith}
+use Rattle.std.specs.Prelude.{replicate, slice_index, slice_range, bit_and, bit_xor}
 use Rattle.std.proofs.lemmas.Bool.{cases_eq, cases_lt}
 use Rattle.std.proofs.lemmas.List.{get_or_past, set_past, get_or-replicate, get_or-set_same, get_or-set_other}
 use Rattle.std.proofs.lemmas.List.Edits.{get_or-between}

@@ -1,3 +1,7 @@
 pub mod Bits
 pub mod Runs
 pub mod Words
+pub mod Pasts
+pub mod Filled
+pub mod Replies
+pub mod Lives

@@ -1,9 +1,9 @@
 -- Runs of bits, and in how many places two of them differ after a flip or a program.
-use Rattle.std.proofs.Common.{◌≡◌, ◌≢◌, ℕ, zero, suc, ◌+◌, ◌-◌, ◌*◌, ◌/◌, ◌%◌, ◌^◌, ◌<◌, ◌≤◌, ◌⊎◌, inl, inr, List, [], ◌∷◌, ◌++◌, length, take, refl, ap, ap₂, sym, ◌∙◌, subst, arith, true, false, Bool, cond}
+use Rattle.std.proofs.Common.{◌≡◌, ◌≢◌, ℕ, zero, suc, ◌+◌, ◌*◌, ◌<◌, ◌≤◌, ◌⊎◌, inl, inr, List, [], ◌∷◌, length, refl, ap, ap₂, sym, ◌∙◌, arith, cond}
 use Rattle.std.specs.Prelude.{replicate, slice_range, nat_le, nat_lt, ◌&&◌}
 use Rattle.std.proofs.lemmas.Bool.{cases_eq, cases_lt}
 use Rattle.std.proofs.lemmas.Bool.Decides.{nat_tests}
-use Rattle.code_model.specs.Bits.{bit_of, bits_of, bits_from}
+use Rattle.code_model.specs.Bits.{bit_of, bits_from}
 use Rattle.code_model.specs.Word.{distance}
 use Rattle.code_model.proofs.DistanceLemmas.{distance-same, distance-cons_same, distance-cons_off, distance_triangle}
 use Rattle.read_laws.proofs.Bits.{bit_of-between}

@@ -1,5 +1,5 @@
 -- Pages and chips as they are before anything is programmed.
-use Rattle.std.specs.Prelude.{◌≡◌, ℕ, ◌<◌, List, [], length, replicate}
+use Rattle.std.specs.Prelude.{◌≡◌, ℕ, ◌<◌, [], length, replicate}
 use Rattle.code_model.specs.Code.{word_bits}
 use Rattle.nand_model.specs.Page.{step_word}
 use Rattle.nand_model.specs.Chip.{ChipState, PageState}

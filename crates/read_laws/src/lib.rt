@@ -1,6 +1,9 @@
-//! Laws of what is read back: a page that one good program filled gives back its body, its parity bits and exact counts.
+//! Laws of what is read back: a page that one good program has filled, with few flips, gives back its body, its parity bits and exact counts.
 #![tactic(auto)]
 
-mod pages;
+mod laws;
 
-pub use pages::new_chips_are_fresh;
+pub use laws::{
+    courses_read_back, filled_pages_read_back, lives_read_back, new_chips_are_fresh,
+    runs_read_back, wrong_bits_were_flipped,
+};
