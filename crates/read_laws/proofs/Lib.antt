@@ -5,3 +5,4 @@ pub mod Pasts
 pub mod Filled
 pub mod Replies
 pub mod Lives
+pub mod Writes

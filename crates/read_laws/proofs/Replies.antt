@@ -20,7 +20,7 @@ not-empty : (xs : List ChipEvent) (x : ChipEvent) (ys : List ChipEvent) → xs +
 not-empty [] x ys e = cc
 not-empty (z ∷ xs) x ys e = cc
 
-after-over : {A : Type 0} (result : A) (answers : List Answer) → after_answers answers (Over result) ≡ Over result
+pub after-over : {A : Type 0} (result : A) (answers : List Answer) → after_answers answers (Over result) ≡ Over result
 after-over result [] = refl
 after-over result (a ∷ answers) = refl
 

@@ -4,7 +4,10 @@ use Rattle.nand_model.specs.Sizes.{step_count, raw_len}
 use Rattle.nand_model.specs.Page.{page_image}
 use Rattle.nand_model.specs.Chip.{ChipState, FaultModel, ChipEvent, after_trace}
 use Rattle.nand_model.specs.Quiet.{word_flips}
-use Rattle.nand_model.specs.Operation.{Partitions}
+use Rattle.nand_model.specs.Operation.{Partitions, part_of, chip_page, Known, Performs}
+use Rattle.nand_model.specs.declared.words.Part.{Part}
+use Rattle.nand_model.specs.declared.words.Op.TheVariants.{Write}
+use Rattle.nand_model.specs.declared.words.Reply.TheVariants.{Done}
 use Rattle.run_model.specs.Course.{Boot, Course}
 use Rattle.run_model.specs.History.{ChipBoot}
 use Rattle.run_model.specs.ReadBack.{Erased, Programmed, past_of, wrong_bits, ReadsBack, HasFewFlips, FillsPage, ReadsBackAlong}
@@ -25,6 +28,13 @@ FilledPagesReadBack model s =
     past_of model s page Erased trace ≡ Programmed (page_image s.geometry body free) →
     HasFewFlips s.geometry ((after_trace model s trace).pages page).flips →
     ReadsBack s.geometry (page_image s.geometry body free) ((after_trace model s trace).pages page).cells
+
+-- A write that was answered done leaves its image in a page that was erased: the page's past is that one good program.
+abbrev pub DoneWritesFillPages : {W : Type 0} → FaultModel W → ChipState W → Type 0
+DoneWritesFillPages model s =
+    (partitions : Partitions) (known : Known) (dev page : ℕ) (body free : List ℕ) (trace : List ChipEvent) (after : Known) (part : Part) →
+    part_of partitions dev ≡ Some part → Performs model partitions s known (Write dev page body free) trace Done after →
+    past_of model s (chip_page s.geometry part page) Erased trace ≡ Programmed (page_image s.geometry body free)
 
 -- the notes of a course are a history of one thread, along which each answered read of a chip that was fresh gives back what was written
 pub record CoursesReadBack {W : Type 0} (model : FaultModel W) (boot : Boot) (starts : List (ChipState W)) (attaches : ℕ) (turns : List ℕ) : Type 0 where

@@ -9,7 +9,7 @@ ghost use Rattle.run_model.specs.History.{ChipBoot, IsChipLife, AreOneThread};
 ghost use Rattle.run_model.specs.ReadBack.{ProgrammedPagesReadBack, ReadsBackAlong};
 ghost use Rattle.run_model.specs.Run.{AreBoots};
 ghost use Rattle.read_laws.specs.Fresh.{IsFresh};
-ghost use Rattle.read_laws.specs.Laws.{WrongBitsWereFlipped, FilledPagesReadBack, CoursesReadBack, RunsReadBack};
+ghost use Rattle.read_laws.specs.Laws.{WrongBitsWereFlipped, FilledPagesReadBack, DoneWritesFillPages, CoursesReadBack, RunsReadBack};
 
 /// New chips are fresh, whichever blocks are factory bad: a marker stands in no step's word.
 pub fn new_chips_are_fresh()
@@ -27,6 +27,11 @@ pub fn wrong_bits_were_flipped<W>()
 pub fn filled_pages_read_back<W>()
     ensures any_chip { (model : FaultModel W) (chip : ChipState W) → FilledPagesReadBack model chip }
     ensures new_chip { (g : Geometry) (bad : List ℕ) (weak : List Weak) → ProgrammedPagesReadBack g bad weak }
+{}
+
+/// A write that was answered done has filled its page with one good program, where that was erased before.
+pub fn done_writes_fill_pages<W>()
+    ensures { (model : FaultModel W) (chip : ChipState W) → DoneWritesFillPages model chip }
 {}
 
 /// Each answered read in the life of a chip that was fresh gives back such a page, with exact counts and by them its kind.

@@ -4,6 +4,6 @@
 mod laws;
 
 pub use laws::{
-    courses_read_back, filled_pages_read_back, lives_read_back, new_chips_are_fresh,
-    runs_read_back, wrong_bits_were_flipped,
+    courses_read_back, done_writes_fill_pages, filled_pages_read_back, lives_read_back,
+    new_chips_are_fresh, runs_read_back, wrong_bits_were_flipped,
 };
