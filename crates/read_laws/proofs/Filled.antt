@@ -1,6 +1,6 @@
 -- Pages that one program has filled.
 use Rattle.std.proofs.Common.{◌≡◌, ◌≢◌, ℕ, zero, suc, ◌+◌, ◌*◌, ◌/◌, ◌<◌, ◌≤◌, ◌⊎◌, inl, inr, max, List, [], ◌∷◌, ◌++◌, length, take, refl, ap, ap₂, sym, ◌∙◌, subst, subst₂, arith, Bool, true, false, if◌then◌else◌}
-use Rattle.std.specs.Prelude.{◌==◌, slice_set, replicate}
+use Rattle.std.specs.Prelude.{◌==◌, slice_set}
 use Rattle.std.specs.List.{flat_map, list_any}
 use Rattle.std.proofs.lemmas.List.{length-append, length-set, length-replicate, get_or-set_other}
 use Rattle.std.proofs.lemmas.List.Sums.{sum-map}
@@ -11,7 +11,7 @@ use Rattle.nand_model.specs.Page.{decoded, step_body, page_image}
 use Rattle.nand_model.specs.Chip.{ChipState, FaultModel, ChipEvent, PageState, after_trace, blank_page, new_page}
 use Rattle.nand_model.specs.Quiet.{word_flips}
 use Rattle.nand_model.specs.declared.geometry.Geometry.{Geometry}
-use Rattle.run_model.specs.ReadBack.{Past, Erased, Programmed, past_of, wrong_bits, ReadsBack, HasFewFlips, FillsPage}
+use Rattle.run_model.specs.ReadBack.{Past, Erased, Programmed, past_of, wrong_bits, ReadsBack, FillsPage}
 use Rattle.ecc_page.specs.Steps.{parity_stored}
 use Rattle.ecc_page.specs.Written.{GivesBack, IsNearImage}
 use Rattle.ecc_page.proofs.PageLemmas.{page-steps, parities-room}
@@ -19,9 +19,10 @@ use Rattle.ecc_page.proofs.Parts.{slice-take}
 use Rattle.ecc_page.proofs.StepLemmas.{length-parity_stored}
 use Rattle.ecc_page.proofs.WrittenLemmas.{gives_back}
 use Rattle.read_laws.specs.Fresh.{IsFreshPage}
+use Rattle.read_laws.specs.Laws.{WrongBitsWereFlipped, FilledPagesReadBack}
 use Rattle.read_laws.proofs.Bits.{bit_of-byte, bit_of-erased}
 use Rattle.read_laws.proofs.Words.{word_at, erased, step_word-places, word-ones}
-use Rattle.read_laws.proofs.Pasts.{IsClose, KeepsPast, fresh_keeps, trace_keeps}
+use Rattle.read_laws.proofs.Pasts.{IsClose, KeepsPast, erased-word, fresh_keeps, trace_keeps}
 
 -- ---- new pages
 -- the byte of a marker stands in no word
@@ -30,7 +31,7 @@ marked-word g s below =
     word-ones g (slice_set (erased g) g.page 0) s below (λ k inside place.
     let apart : k / 8 ≢ g.page = elsewhere k g.page place in
     bit_of-byte (slice_set (erased g) g.page 0) (erased g) k (get_or-set_other (erased g) g.page (k / 8) 0 0 apart) ∙ bit_of-erased (raw_len g) k inside)
-    ∙ sym (word-ones g (erased g) s below (λ k inside place. bit_of-erased (raw_len g) k inside))
+    ∙ sym (erased-word g s below)
   where
     elsewhere : (k page : ℕ) → (k < 8 * page) ⊎ (8 * (page + 2) ≤ k) → k / 8 ≢ page
     elsewhere k page (inl low) e = omega arith
@@ -40,14 +41,17 @@ fresh_page : (g : Geometry) (cells : List ℕ) → length cells ≡ raw_len g �
     → IsFreshPage g (record { cells = cells; flips = []; torn = false; flipped_since = false })
 fresh_page g cells long same = record {
   whole = long;
-  ones = λ s below. step_word-places g cells s long below ∙ same s below ∙ word-ones g (erased g) s below (λ k inside place. bit_of-erased (raw_len g) k inside);
+  ones = λ s below. step_word-places g cells s long below ∙ same s below ∙ erased-word g s below;
   no_flips = refl;
 }
 
 pub new_fresh : (g : Geometry) (bad : List ℕ) (page : ℕ) → IsFreshPage g (new_page g bad page)
 new_fresh g bad page = by_marker (list_any (λ b. first_page g b == page) bad)
   where
-    by_marker : (marked : Bool) → IsFreshPage g (if marked then record { cells = slice_set (replicate (raw_len g) 0xff) g.page 0; flips = []; torn = false; flipped_since = false } else blank_page g)
+    marked_page : PageState
+    marked_page = record { cells = slice_set (erased g) g.page 0; flips = []; torn = false; flipped_since = false }
+
+    by_marker : (marked : Bool) → IsFreshPage g (if marked then marked_page else blank_page g)
     by_marker true = fresh_page g (slice_set (erased g) g.page 0) (length-set (erased g) g.page 0 ∙ length-replicate (raw_len g) 0xff) (marked-word g)
     by_marker false = fresh_page g (erased g) (length-replicate (raw_len g) 0xff) (λ s below. refl)
 
@@ -90,30 +94,30 @@ from_decoding g image cells back = record {
   failed = back.failed;
 }
 
-module _ {W : Type 0} (model : FaultModel W) (s : ChipState W) (page : ℕ) (trace : List ChipEvent) (fresh : IsFreshPage s.geometry (s.pages page)) where
-  abbrev now : PageState
-  now = (after_trace model s trace).pages page
+module _ {W : Type 0} (model : FaultModel W) (s : ChipState W) where
+  close : (trace : List ChipEvent) (page : ℕ) (image : List ℕ) → IsFreshPage s.geometry (s.pages page)
+      → past_of model s page Erased trace ≡ Programmed image → IsClose s.geometry image ((after_trace model s trace).pages page)
+  close trace page image fresh filled =
+      subst (λ (past : Past). KeepsPast s.geometry past ((after_trace model s trace).pages page)) filled
+      (trace_keeps model s page Erased trace (fresh_keeps s.geometry (s.pages page) fresh))
 
-  close : (image : List ℕ) → past_of model s page Erased trace ≡ Programmed image → IsClose s.geometry image now
-  close image filled = subst (λ (past : Past). KeepsPast s.geometry past now) filled (trace_keeps model s page Erased trace (fresh_keeps s.geometry (s.pages page) fresh))
-
-  -- no more bits of a word are wrong than were flipped
-  pub few_wrong : (image : List ℕ) → length image ≡ raw_len s.geometry → past_of model s page Erased trace ≡ Programmed image
-      → (step : ℕ) → step < step_count s.geometry → wrong_bits s.geometry image now.cells step ≤ word_flips s.geometry now.flips step
-  few_wrong image long filled step below =
-      let c = close image filled in
+  pub few_wrong : WrongBitsWereFlipped model s
+  few_wrong trace page image fresh long filled step below =
+      let now : PageState = (after_trace model s trace).pages page in
+      let c = close trace page image fresh filled in
       subst₂ (λ (xs ys : List ℕ). distance xs ys ≤ word_flips s.geometry now.flips step)
       (sym (step_word-places s.geometry now.cells step c.whole below)) (sym (step_word-places s.geometry image step long below)) (c.near step below)
 
-  pub filled_reads : (body free : List ℕ) → FillsPage s.geometry body free → past_of model s page Erased trace ≡ Programmed (page_image s.geometry body free)
-      → HasFewFlips s.geometry now.flips → ReadsBack s.geometry (page_image s.geometry body free) now.cells
-  filled_reads body free fills filled few =
+  pub filled_reads : FilledPagesReadBack model s
+  filled_reads trace page body free fresh fills filled few =
       let g = s.geometry in
       let image = page_image g body free in
+      let now : PageState = (after_trace model s trace).pages page in
       let room = (parities-room g).0 in
       let lf = fills.free_length in
       let near : IsNearImage g image now.cells = (λ step below.
-      let wrong = few_wrong image (page_image-long g body free fills) filled step below in
+      let wrong = few_wrong trace page image fresh (page_image-long g body free fills) filled step below in
       let flips = few step below in
       omega arith) in
-      from_decoding g image now.cells (gives_back g body free now.cells fills.body_length (omega arith) (close image filled).whole fills.body_bytes near)
+      from_decoding g image now.cells
+      (gives_back g body free now.cells fills.body_length (omega arith) (close trace page image fresh filled).whole fills.body_bytes near)

@@ -39,7 +39,7 @@ equal-near g xs ys n s same =
     let none : distance (word_at g xs s) (word_at g ys s) ≡ 0 = ap (λ (ws : List ℕ). distance ws (word_at g ys s)) same ∙ distance-same (word_at g ys s) in
     omega arith
 
-erased-word : (g : Geometry) (s : ℕ) → s < step_count g → word_at g (erased g) s ≡ replicate (word_bits (code_of g)) 1
+pub erased-word : (g : Geometry) (s : ℕ) → s < step_count g → word_at g (erased g) s ≡ replicate (word_bits (code_of g)) 1
 erased-word g s below = word-ones g (erased g) s below (λ k inside place. bit_of-erased (raw_len g) k inside)
 
 -- ---- pages
@@ -81,43 +81,62 @@ programmed_close g image page close = record {
 }
 
 -- a program that was good, on a page with this past
-good_keeps : (g : Geometry) (past : Past) (page : PageState) (image : List ℕ) → KeepsPast g past page → KeepsPast g (after_program past image true) (good_program page image)
+good_keeps : (g : Geometry) (past : Past) (page : PageState) (image : List ℕ)
+    → KeepsPast g past page → KeepsPast g (after_program past image true) (good_program page image)
 good_keeps g Erased page image h = programmed_close g image page h
 good_keeps g (Programmed old) page image h = length-map_from _ page.cells 0 ∙ h.whole
 good_keeps g Unknown page image h = length-map_from _ page.cells 0 ∙ h
 
--- and one that was not
-torn_keeps : (g : Geometry) (past : Past) (page : PageState) (image : List ℕ) (done : DoneBits) → KeepsPast g past page → KeepsPast g (after_program past image false) (torn_program page image done)
-torn_keeps g Erased page image done h = length-map_from _ page.cells 0 ∙ h.whole
-torn_keeps g (Programmed old) page image done h = length-map_from _ page.cells 0 ∙ h.whole
-torn_keeps g Unknown page image done h = length-map_from _ page.cells 0 ∙ h
+-- after one that was not, no past says more of a page than that it is whole
+torn_keeps : (g : Geometry) (past : Past) (page : PageState) (image : List ℕ) (done : DoneBits)
+    → KeepsPast g past page → KeepsPast g Unknown (torn_program page image done)
+torn_keeps g past page image done h = length-map_from _ page.cells 0 ∙ whole_of g past page h
+
+after_failure : (past : Past) (image : List ℕ) → after_program past image false ≡ Unknown
+after_failure Erased image = refl
+after_failure (Programmed old) image = refl
+after_failure Unknown image = refl
 
 -- ---- one page of a chip that changes
-changed_page : (g : Geometry) (pages : ℕ → PageState) (p page : ℕ) (new : PageState) (past after : Past) → KeepsPast g past (pages page) → (p ≡ page → KeepsPast g after new)
+-- the page asked for is the one that changes, or stays
+changed_if : (g : Geometry) (inside : Bool) (old new : PageState) (past after : Past) → KeepsPast g past old → KeepsPast g after new
+    → KeepsPast g (if inside then after else past) (if inside then new else old)
+changed_if g true old new past after stays changes = changes
+changed_if g false old new past after stays changes = stays
+
+changed_page : (g : Geometry) (pages : ℕ → PageState) (p page : ℕ) (new : PageState) (past after : Past)
+    → KeepsPast g past (pages page) → (KeepsPast g past (pages p) → KeepsPast g after new)
     → KeepsPast g (if p == page then after else past) (with_page pages p new page)
 changed_page g pages p page new past after stays changes = elim (cases_eq p page) [
-  | inl same ↦ subst₂ (λ (a b : Bool). KeepsPast g (if a then after else past) (if b then new else pages page)) (sym (eq-eqb p page same)) (sym (eq-eqb page p (sym same))) (changes same)
-  | inr other ↦ subst₂ (λ (a b : Bool). KeepsPast g (if a then after else past) (if b then new else pages page)) (sym (ne_eqb p page other)) (sym (ne_eqb page p (λ e. other (sym e)))) stays
+  | inl same ↦
+      (let here : KeepsPast g past (pages p) = subst (λ (q : ℕ). KeepsPast g past (pages q)) (sym same) stays in
+      subst₂ (λ (a b : Bool). KeepsPast g (if a then after else past) (if b then new else pages page))
+      (sym (eq-eqb p page same)) (sym (eq-eqb page p (sym same))) (changes here))
+  | inr other ↦
+      subst₂ (λ (a b : Bool). KeepsPast g (if a then after else past) (if b then new else pages page))
+      (sym (ne_eqb p page other)) (sym (ne_eqb page p (λ e. other (sym e)))) stays
 ]
 
 same_past : (b : Bool) (past : Past) → (if b then past else past) ≡ past
 same_past true past = refl
 same_past false past = refl
 
-changed_if : (g : Geometry) (inside : Bool) (old new : PageState) (past after : Past) → KeepsPast g past old → KeepsPast g after new
-    → KeepsPast g (if inside then after else past) (if inside then new else old)
-changed_if g true old new past after stays changes = changes
-changed_if g false old new past after stays changes = stays
-
 module _ {W : Type 0} (model : FaultModel W) where
+  -- a program that was torn
+  torn_program_keeps : (s : ChipState W) (p page : ℕ) (image : List ℕ) (past : Past) (done : DoneBits) → KeepsPast s.geometry past (s.pages page)
+      → KeepsPast s.geometry (if p == page then Unknown else past) ((program_page model s p image (Some done)).pages page)
+  torn_program_keeps s p page image past done h =
+      changed_page s.geometry s.pages p page (torn_program (s.pages p) image done) past Unknown h (torn_keeps s.geometry past (s.pages p) image done)
+
   program_keeps : (s : ChipState W) (p page : ℕ) (image : List ℕ) (past : Past) (failure : Option DoneBits) → KeepsPast s.geometry past (s.pages page)
-      → KeepsPast s.geometry (if p == page then after_program past image (is_none failure) else past) ((counted model failure (program_page model s p image failure)).pages page)
+      → KeepsPast s.geometry (if p == page then after_program past image (is_none failure) else past)
+      ((counted model failure (program_page model s p image failure)).pages page)
   program_keeps s p page image past None h =
       changed_page s.geometry s.pages p page (good_program (s.pages p) image) past (after_program past image true) h
-      (λ same. good_keeps s.geometry past (s.pages p) image (subst (λ (q : ℕ). KeepsPast s.geometry past (s.pages q)) (sym same) h))
+      (good_keeps s.geometry past (s.pages p) image)
   program_keeps s p page image past (Some done) h =
-      changed_page s.geometry s.pages p page (torn_program (s.pages p) image done) past (after_program past image false) h
-      (λ same. torn_keeps s.geometry past (s.pages p) image done (subst (λ (q : ℕ). KeepsPast s.geometry past (s.pages q)) (sym same) h))
+      subst (λ (after : Past). KeepsPast s.geometry (if p == page then after else past) ((program_page model s p image (Some done)).pages page))
+      (sym (after_failure past image)) (torn_program_keeps s p page image past done h)
 
   erase_keeps : (s : ChipState W) (block page : ℕ) (past : Past) (failure : Option DoneBits) → KeepsPast s.geometry past (s.pages page)
       → KeepsPast s.geometry (if page / s.geometry.pages_per_block == block then (if is_none failure then Erased else Unknown) else past)
@@ -125,12 +144,9 @@ module _ {W : Type 0} (model : FaultModel W) where
   erase_keeps s block page past None h =
       changed_if s.geometry (page / s.geometry.pages_per_block == block) (s.pages page) (blank_page s.geometry) past Erased h (blank_keeps s.geometry)
   erase_keeps s block page past (Some done) h =
-      changed_if s.geometry (page / s.geometry.pages_per_block == block) (s.pages page) (torn_erase done (page % s.geometry.pages_per_block) (s.pages page)) past Unknown h
+      changed_if s.geometry (page / s.geometry.pages_per_block == block) (s.pages page)
+      (torn_erase done (page % s.geometry.pages_per_block) (s.pages page)) past Unknown h
       (length-map_from _ (s.pages page).cells 0 ∙ whole_of s.geometry past (s.pages page) h)
-
-  -- a program that a power cut tore leaves less known than any past
-  torn_whole : (g : Geometry) (past : Past) (page : PageState) (image : List ℕ) (done : DoneBits) → KeepsPast g past page → KeepsPast g Unknown (torn_program page image done)
-  torn_whole g past page image done h = length-map_from _ page.cells 0 ∙ whole_of g past page h
 
   event_keeps : (s : ChipState W) (page : ℕ) (past : Past) (e : ChipEvent) → KeepsPast s.geometry past (s.pages page)
       → KeepsPast s.geometry (past_after model s page past e) ((happens model s e).pages page)
@@ -138,14 +154,11 @@ module _ {W : Type 0} (model : FaultModel W) where
   event_keeps s page past (Complete (ProgramEvent p image)) h = program_keeps s p page image past (failure_of model s (ProgramCall p)) h
   event_keeps s page past (Complete (EraseEvent block)) h = erase_keeps s block page past (failure_of model s (EraseCall block)) h
   event_keeps s page past (PowerCut (ReadEvent p) done) h = h
-  event_keeps s page past (PowerCut (ProgramEvent p image) done) h =
-      changed_page s.geometry s.pages p page (torn_program (s.pages p) image done) past Unknown h
-      (λ same. torn_whole s.geometry past (s.pages p) image done (subst (λ (q : ℕ). KeepsPast s.geometry past (s.pages q)) (sym same) h))
+  event_keeps s page past (PowerCut (ProgramEvent p image) done) h = torn_program_keeps s p page image past done h
   event_keeps s page past (PowerCut (EraseEvent block) done) h = erase_keeps s block page past (Some done) h
   event_keeps s page past (Flipped p bit) h =
       subst (λ (now : Past). KeepsPast s.geometry now ((happens model s (Flipped p bit)).pages page)) (same_past (p == page) past)
-      (changed_page s.geometry s.pages p page (flipped (s.pages p) bit) past past h
-      (λ same. flipped_keeps s.geometry past (s.pages p) bit (subst (λ (q : ℕ). KeepsPast s.geometry past (s.pages q)) (sym same) h)))
+      (changed_page s.geometry s.pages p page (flipped (s.pages p) bit) past past h (flipped_keeps s.geometry past (s.pages p) bit))
 
   pub trace_keeps : (s : ChipState W) (page : ℕ) (past : Past) (trace : List ChipEvent) → KeepsPast s.geometry past (s.pages page)
       → KeepsPast s.geometry (past_of model s page past trace) ((after_trace model s trace).pages page)

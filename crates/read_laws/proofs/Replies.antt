@@ -6,7 +6,7 @@ use Rattle.std.proofs.lemmas.Option.{none-some, same_Some}
 use Rattle.nand_model.specs.Page.{Decoding, decoded}
 use Rattle.nand_model.specs.Chip.{ChipState, FaultModel, ChipEvent, Complete, PowerCut, Flipped, PageEvent, ReadEvent, happens, after_trace}
 use Rattle.nand_model.specs.Path.{Answer, Data, cells_of, Path, Over, Then, after_answers, next_event, result_of, GoesAlong, answers_of, answer_to}
-use Rattle.nand_model.specs.Operation.{Partitions, part_of, Known, Finished, only_if, has_page, chip_page, read_reply, after_read, operation_by, operation_path, Performs}
+use Rattle.nand_model.specs.Operation.{Partitions, part_of, Known, Finished, only_if, has_page, chip_page, kind_of, read_reply, after_read, operation_by, operation_path, Performs}
 use Rattle.nand_model.specs.declared.geometry.Geometry.{Geometry}
 use Rattle.nand_model.specs.declared.words.Part.{Part}
 use Rattle.nand_model.specs.declared.words.PageKind.TheVariants.{Bitflips, Clean, Uncorrectable}
@@ -26,7 +26,8 @@ after-over result (a ∷ answers) = refl
 
 module _ {W : Type 0} (model : FaultModel W) where
   -- where nothing comes next, no event is done
-  nothing_done : (next : List Answer → Option PageEvent) (s : ChipState W) (seen : List Answer) (before : List ChipEvent) (e : PageEvent) (rest : List ChipEvent)
+  nothing_done : (next : List Answer → Option PageEvent) (s : ChipState W) (seen : List Answer)
+      (before : List ChipEvent) (e : PageEvent) (rest : List ChipEvent)
       → next seen ≡ None → GoesAlong model next s seen (before ++ Complete e ∷ rest) → ⊥
   nothing_done next s seen [] e rest none h = none-some e (sym none ∙ h.0)
   nothing_done next s seen (Complete f ∷ before) e rest none h = none-some f (sym none ∙ h.0)
@@ -34,7 +35,8 @@ module _ {W : Type 0} (model : FaultModel W) where
   nothing_done next s seen (Flipped page bit ∷ before) e rest none h = nothing_done next (happens model s (Flipped page bit)) seen before e rest none h
 
   -- where one event alone comes, a read in the trace is it: only flips came before
-  one_answer : (next : List Answer → Option PageEvent) (s : ChipState W) (before rest : List ChipEvent) (page : ℕ) → ((answer : Answer) → next (answer ∷ []) ≡ None)
+  one_answer : (next : List Answer → Option PageEvent) (s : ChipState W) (before rest : List ChipEvent) (page : ℕ)
+      → ((answer : Answer) → next (answer ∷ []) ≡ None)
       → GoesAlong model next s [] (before ++ Complete (ReadEvent page) ∷ rest)
       → (more : List Answer) × (answers_of model s (before ++ Complete (ReadEvent page) ∷ rest) ≡ Data ((after_trace model s before).pages page).cells ∷ more)
   one_answer next s [] rest page once h = (answers_of model s rest, refl)
@@ -78,7 +80,8 @@ module _ {W : Type 0} (model : FaultModel W) where
     by_operation partitions (Read dev p) read = by_part (part_of partitions dev) dev p
     by_operation partitions _ read = absurd (false≢true read)
 
-  pub read_reply_is : (partitions : Partitions) (s : ChipState W) (k : Known) (op : Op) (before rest : List ChipEvent) (page : ℕ) (reply : Reply) (after : Known) → is_read op ≡ true
+  pub read_reply_is : (partitions : Partitions) (s : ChipState W) (k : Known) (op : Op) (before rest : List ChipEvent) (page : ℕ)
+      (reply : Reply) (after : Known) → is_read op ≡ true
       → Performs model partitions s k op (before ++ Complete (ReadEvent page) ∷ rest) reply after
       → reply ≡ read_reply s.geometry (decoded s.geometry ((after_trace model s before).pages page).cells)
   read_reply_is partitions s k op before rest page reply after read performed =
@@ -88,4 +91,6 @@ module _ {W : Type 0} (model : FaultModel W) where
 pub reply_reads_back : (g : Geometry) (image cells : List ℕ) → ReadsBack g image cells → IsReadBack g image cells (Some (read_reply g (decoded g cells)))
 reply_reads_back g image cells back =
     let d : Decoding = decoded g cells in
-    (back, refl, refl, refl, back.failed, ap (λ (b : Bool). if b then (if nat_le g.threshold d.greatest then Bitflips else Clean) else Uncorrectable) (eq-eqb d.failed 0 back.failed))
+    let kind : kind_of g d ≡ (if nat_le g.threshold d.greatest then Bitflips else Clean) =
+    ap (λ (b : Bool). if b then (if nat_le g.threshold d.greatest then Bitflips else Clean) else Uncorrectable) (eq-eqb d.failed 0 back.failed) in
+    (back, refl, refl, refl, back.failed, kind)

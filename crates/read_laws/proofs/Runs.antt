@@ -44,7 +44,8 @@ turned-inside xs ys bit zero k others = let none = distance-same [] in omega ari
 turned-inside xs ys bit (suc n) k others = elim (cases_eq k bit) [
   | inl here ↦
       (let rest : bits_from ys (suc k) n ≡ bits_from xs (suc k) n = bits_from-same ys xs n (suc k) (suc k) (λ i h. others (suc k + i) (λ e. omega arith)) in
-      let none : distance (bits_from ys (suc k) n) (bits_from xs (suc k) n) ≡ 0 = ap (λ (zs : List ℕ). distance zs (bits_from xs (suc k) n)) rest ∙ distance-same (bits_from xs (suc k) n) in
+      let none : distance (bits_from ys (suc k) n) (bits_from xs (suc k) n) ≡ 0 =
+      ap (λ (zs : List ℕ). distance zs (bits_from xs (suc k) n)) rest ∙ distance-same (bits_from xs (suc k) n) in
       elim (cases_eq (bit_of ys k) (bit_of xs k)) [
         | inl same ↦ (let e = distance-cons_same (bit_of ys k) (bit_of xs k) (bits_from ys (suc k) n) (bits_from xs (suc k) n) same in omega arith)
         | inr off ↦ (let e = distance-cons_off (bit_of ys k) (bit_of xs k) (bits_from ys (suc k) n) (bits_from xs (suc k) n) off in omega arith)
@@ -56,7 +57,8 @@ turned-inside xs ys bit (suc n) k others = elim (cases_eq k bit) [
 ]
 
 -- and none where it is not in the run
-turned-outside : (xs ys : List ℕ) (bit n k : ℕ) → ((j : ℕ) → j ≢ bit → bit_of ys j ≡ bit_of xs j) → (bit < k) ⊎ (k + n ≤ bit) → bits_from ys k n ≡ bits_from xs k n
+turned-outside : (xs ys : List ℕ) (bit n k : ℕ) → ((j : ℕ) → j ≢ bit → bit_of ys j ≡ bit_of xs j) → (bit < k) ⊎ (k + n ≤ bit)
+    → bits_from ys k n ≡ bits_from xs k n
 turned-outside xs ys bit n k others (inl below) = bits_from-same ys xs n k k (λ i h. others (k + i) (λ e. omega arith))
 turned-outside xs ys bit n k others (inr above) = bits_from-same ys xs n k k (λ i h. others (k + i) (λ e. omega arith))
 
@@ -84,7 +86,8 @@ turned-distance xs ys zs bit n k to others end = elim (cases_lt bit k) [
 ]
 
 -- a program leaves as many wrong bits at most as there were zeros among the ones
-pub programmed-distance : (cells ones new image : List ℕ) (n k : ℕ) → ((j : ℕ) → k ≤ j → j < k + n → bit_of ones j ≡ 1) → ((j : ℕ) → bit_of cells j ≡ 1 → bit_of new j ≡ bit_of image j)
+pub programmed-distance : (cells ones new image : List ℕ) (n k : ℕ) → ((j : ℕ) → k ≤ j → j < k + n → bit_of ones j ≡ 1)
+    → ((j : ℕ) → bit_of cells j ≡ 1 → bit_of new j ≡ bit_of image j)
     → distance (bits_from new k n) (bits_from image k n) ≤ distance (bits_from cells k n) (bits_from ones k n)
 unfolding bits_from
 programmed-distance cells ones new image zero k erased right = omega arith
@@ -93,7 +96,8 @@ programmed-distance cells ones new image (suc n) k erased right =
     elim (cases_eq (bit_of cells k) (bit_of ones k)) [
       | inl same ↦
           (let a = distance-cons_same (bit_of cells k) (bit_of ones k) (bits_from cells (suc k) n) (bits_from ones (suc k) n) same in
-          let b = distance-cons_same (bit_of new k) (bit_of image k) (bits_from new (suc k) n) (bits_from image (suc k) n) (right k (same ∙ erased k (omega arith) (omega arith))) in
+          let written : bit_of new k ≡ bit_of image k = right k (same ∙ erased k (omega arith) (omega arith)) in
+          let b = distance-cons_same (bit_of new k) (bit_of image k) (bits_from new (suc k) n) (bits_from image (suc k) n) written in
           omega arith)
       | inr off ↦
           (let a = distance-cons_off (bit_of cells k) (bit_of ones k) (bits_from cells (suc k) n) (bits_from ones (suc k) n) off in

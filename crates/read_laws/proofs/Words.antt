@@ -57,7 +57,13 @@ word_places g s below =
     let e = parity_bytes g in
     let bits : 13 * g.t ≤ 8 * e = omega arith in
     let next : (s + 1) * e ≡ s * e + e = omega arith in
-    record { body = omega arith; parity_low = omega (arith, room.0); parity_high = omega (arith, room.1); step_high = omega arith; parity_end = omega (arith, room.1) }
+    record {
+      body = omega arith;
+      parity_low = omega (arith, room.0);
+      parity_high = omega (arith, room.1);
+      step_high = omega arith;
+      parity_end = omega (arith, room.1);
+    }
 
 whole_run : (bytes : List ℕ) (n : ℕ) → 8 * length bytes ≡ n → bits_of bytes ≡ bits_from bytes 0 n
 whole_run bytes n e =
@@ -123,8 +129,10 @@ word-programmed g cells image s below =
     let new = programmed cells image in
     let places = word_places g s below in
     let right = bit_of-programmed cells image in
-    let body = programmed-distance cells (erased g) new image (body_bits (code_of g)) (body_at g s) (λ j low high. bit_of-erased (raw_len g) j (omega (arith, places.body))) right in
-    let parity = programmed-distance cells (erased g) new image (parity_bits (code_of g)) (parity_at g s) (λ j low high. bit_of-erased (raw_len g) j (omega (arith, places.parity_high))) right in
+    let body = programmed-distance cells (erased g) new image (body_bits (code_of g)) (body_at g s)
+    (λ j low high. bit_of-erased (raw_len g) j (omega (arith, places.body))) right in
+    let parity = programmed-distance cells (erased g) new image (parity_bits (code_of g)) (parity_at g s)
+    (λ j low high. bit_of-erased (raw_len g) j (omega (arith, places.parity_high))) right in
     let a = word-distance g new image s in
     let b = word-distance g cells (erased g) s in
     omega arith
@@ -135,6 +143,8 @@ pub word-ones : (g : Geometry) (cells : List ℕ) (s : ℕ) → s < step_count g
 word-ones g cells s below ones =
     let places = word_places g s below in
     ap₂ (λ xs ys. xs ++ ys)
-    (bits_from-ones cells (body_bits (code_of g)) (body_at g s) (λ j low high. let h : j < 8 * g.page = omega (arith, places.body) in ones j (omega arith) (inl h)))
-    (bits_from-ones cells (parity_bits (code_of g)) (parity_at g s) (λ j low high. let h : 8 * (g.page + 2) ≤ j = omega (arith, places.parity_low) in ones j (omega (arith, places.parity_high)) (inr h)))
+    (bits_from-ones cells (body_bits (code_of g)) (body_at g s) (λ j low high.
+    let h : j < 8 * g.page = omega (arith, places.body) in ones j (omega arith) (inl h)))
+    (bits_from-ones cells (parity_bits (code_of g)) (parity_at g s) (λ j low high.
+    let h : 8 * (g.page + 2) ≤ j = omega (arith, places.parity_low) in ones j (omega (arith, places.parity_high)) (inr h)))
     ∙ replicate-append-replicate (body_bits (code_of g)) (parity_bits (code_of g)) 1

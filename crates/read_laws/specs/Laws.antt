@@ -14,7 +14,7 @@ use Rattle.run_model.specs.ReadBack.{Erased, Programmed, past_of, wrong_bits, Re
 use Rattle.run_model.specs.Run.{CoursesAreFaithful, RunsAreFaithful}
 use Rattle.read_laws.specs.Fresh.{IsFreshPage, IsFresh}
 
--- From a page that is fresh, after any trace: where one good program gave it an image, each step's word differs from the image in no more bits than were flipped in it.
+-- From a page that is fresh, after any trace: where one good program gave it an image, a step's word differs from it in no more bits than were flipped there.
 abbrev pub WrongBitsWereFlipped : {W : Type 0} → FaultModel W → ChipState W → Type 0
 WrongBitsWereFlipped model s =
     (trace : List ChipEvent) (page : ℕ) (image : List ℕ) → IsFreshPage s.geometry (s.pages page) → length image ≡ raw_len s.geometry →
@@ -39,9 +39,12 @@ DoneWritesFillPages model s =
 -- the notes of a course are a history of one thread, along which each answered read of a chip that was fresh gives back what was written
 pub record CoursesReadBack {W : Type 0} (model : FaultModel W) (boot : Boot) (starts : List (ChipState W)) (attaches : ℕ) (turns : List ℕ) : Type 0 where
   pub faithful : CoursesAreFaithful model boot starts attaches turns
-  pub reads_back : (k : ℕ) (s : ChipState W) (b : ChipBoot) → slice_get starts k ≡ Some s → IsFresh s → slice_get faithful.lives k ≡ Some b → ReadsBackAlong model s [] (b ∷ [])
+  pub reads_back : (k : ℕ) (s : ChipState W) (b : ChipBoot) → slice_get starts k ≡ Some s → IsFresh s → slice_get faithful.lives k ≡ Some b
+      → ReadsBackAlong model s [] (b ∷ [])
 
 -- the same over all boots of a run
-pub record RunsReadBack {W : Type 0} (model : FaultModel W) (partitions : Partitions) (starts : List (ChipState W)) (boots : List Boot) (courses : List (Course W)) : Type 0 where
+pub record RunsReadBack {W : Type 0} (model : FaultModel W) (partitions : Partitions) (starts : List (ChipState W)) (boots : List Boot)
+    (courses : List (Course W)) : Type 0 where
   pub faithful : RunsAreFaithful model partitions starts boots courses
-  pub reads_back : (k : ℕ) (s : ChipState W) (life : List ChipBoot) → slice_get starts k ≡ Some s → IsFresh s → slice_get faithful.lives k ≡ Some life → ReadsBackAlong model s [] life
+  pub reads_back : (k : ℕ) (s : ChipState W) (life : List ChipBoot) → slice_get starts k ≡ Some s → IsFresh s → slice_get faithful.lives k ≡ Some life
+      → ReadsBackAlong model s [] life

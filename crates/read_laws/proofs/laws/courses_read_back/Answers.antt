@@ -2,4 +2,4 @@ use Rattle.read_laws.proofs.Lives.{course_reads}
 use Rattle.read_laws.proofs.laws.courses_read_back.Goals as goal
 
 pub returns : goal.returns
-returns g c = λ model boot starts attaches turns. course_reads model boot starts attaches turns
+returns g c = course_reads

@@ -6,4 +6,4 @@ pub returns-clause-one_life : goal.returns-clause-one_life
 returns-clause-one_life g c = λ model partitions k chip life notes fresh lived. life_reads model partitions k chip fresh [] life notes lived
 
 pub returns-clause-one_thread : goal.returns-clause-one_thread
-returns-clause-one_thread g c = λ model partitions starts lives notes threads k chip life there fresh lived. thread_reads model partitions starts lives notes threads k chip life there fresh lived
+returns-clause-one_thread g c = thread_reads
