@@ -1,5 +1,5 @@
 -- A page whose bits are flipped one after the other, and its chip.
-use Rattle.std.proofs.Common.{◌≡◌, ℕ, ◌<◌, arith, refl, sym, ◌∙◌, inl, inr, Bool, true, List, [], ◌∷◌, ◌++◌, length, fold, slice_set, Option, Some, None, if◌then◌else◌, append_assoc, append-nil}
+use Rattle.std.proofs.Common.{◌≡◌, ℕ, ◌<◌, arith, refl, sym, ◌∙◌, inl, inr, Bool, true, List, [], ◌∷◌, ◌++◌, length, fold, slice_set, Some, if◌then◌else◌, append_assoc, append-nil}
 use Rattle.std.specs.Prelude.{◌==◌, ◌/◌}
 use Rattle.std.proofs.lemmas.Bool.Decides.{eqb_tells, nat_tests}
 use Rattle.std.proofs.lemmas.List.{length-set}
@@ -88,4 +88,3 @@ flip-pages raw flips now slots at page new bits there some is_new counted =
       | inl same ↦ rw (counted, slot_at-set slots at page new there, same.0, is_new, same.1) (slot-flipped raw (flips at) (slot_at slots at) bits some)
       | inr other ↦ rw (counted, slot_at-set slots at page new there, other.0) refl
     ]
-

@@ -10,7 +10,7 @@ use Rattle.nand_model.specs.Chip.{new_page, with_page, with_block, good_program,
 use Rattle.nand_model.specs.Sizes.{raw_len, first_page}
 use Rattle.nand_model.specs.declared.geometry.Geometry.{Geometry}
 use Rattle.chip_sim.specs.Blanks.{blank_cells}
-use Rattle.chip_sim.specs.Slots.{IsWholeSlot, cells_of, is_flipped_since, page_of, slot_at}
+use Rattle.chip_sim.specs.Slots.{IsWholeSlot, cells_of, page_of, slot_at}
 use Rattle.chip_sim.specs.declared.page.Page.{Page}
 use Rattle.nand_iface.proofs.FlashLemmas.{length-map_from}
 use Rattle.chip_sim.proofs.Erasing.{in_block}

@@ -11,7 +11,7 @@ use crate::page::Page;
 use nand_model::{BlockList, Bytes, Geometry};
 use std::alloc::{AllocError, Global};
 
-// So many slots of pages that were never programmed.
+// So many slots of erased pages.
 fn empty_slots(alloc: Global, count: usize) -> Result<Vec<Option<Page>>, AllocError>
     ensures { IfOk result (λ slots. slots.items ≡ replicate count None) }
 {

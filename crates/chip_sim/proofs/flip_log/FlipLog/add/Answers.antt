@@ -1,4 +1,4 @@
-use Rattle.std.proofs.Common.{◌≡◌, arith, rules}
+use Rattle.std.proofs.Common.{arith, rules}
 use Rattle.chip_sim.proofs.LogLemmas.{flips_of-more}
 use Rattle.chip_sim.proofs.flip_log.FlipLog.add.Goals as goal
 

@@ -1,4 +1,4 @@
-use Rattle.std.proofs.Common.{◌≡◌, ◌+◌, ◌-◌, ◌≤◌, ℕ, ◌==◌, ◌++◌, length, if◌then◌else◌, take, vec_len}
+use Rattle.std.proofs.Common.{◌≡◌, ◌+◌, ℕ, ◌==◌, ◌++◌, if◌then◌else◌, take, vec_len}
 use Rattle.std.specs.Prelude.{vec_capacity}
 use Rattle.chip_sim.specs.FlipLog.{flips_of}
 use Rattle.chip_sim.proofs.flip_log.FlipLog.add.Given as goal

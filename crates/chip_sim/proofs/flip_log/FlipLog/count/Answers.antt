@@ -1,5 +1,4 @@
 use Rattle.std.proofs.Common.{◌≡◌, ap, sym, ◌∙◌, min}
-use Rattle.std.specs.Prelude.{count_by}
 use Rattle.nand_model.specs.Flips.{flips_between}
 use Rattle.chip_sim.specs.FlipLog.{flips_of}
 use Rattle.chip_sim.proofs.LogLemmas.{flips_between-flips_of}

@@ -1,8 +1,5 @@
-use Rattle.std.proofs.Common.{◌≡◌, ap, sym, ◌∙◌, rules, arith}
-use Rattle.std.specs.List.{filter}
-use Rattle.std.proofs.lemmas.Bool.Decides.{nat_tests}
+use Rattle.std.proofs.Common.{rules}
 use Rattle.std.proofs.lemmas.Fn.{filter_same}
-use Rattle.chip_sim.specs.FlipLog.{flips_of}
 use Rattle.chip_sim.specs.declared.flip_log.FlippedBit.{FlippedBit}
 use Rattle.chip_sim.proofs.LogLemmas.{flips_of-outside, is_outside}
 use Rattle.chip_sim.proofs.flip_log.FlipLog.forget.Goals as goal
