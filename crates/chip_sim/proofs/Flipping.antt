@@ -47,7 +47,8 @@ since-true (bit ∷ bits) = refl
 
 -- a page after flips
 fold-flipped : (page : PageState) (bits : List ℕ)
-    → fold flipped page bits ≡ record { cells = fold with_bit_turned page.cells bits; flips = page.flips ++ bits; torn = page.torn; flipped_since = since page.flipped_since bits }
+    → fold flipped page bits
+    ≡ record { cells = fold with_bit_turned page.cells bits; flips = page.flips ++ bits; torn = page.torn; flipped_since = since page.flipped_since bits }
 unfolding since
 fold-flipped page [] = λ i. record page { flips = sym (append-nil page.flips) i }
 fold-flipped page (bit ∷ bits) =

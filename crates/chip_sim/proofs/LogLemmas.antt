@@ -21,7 +21,8 @@ one true flip = refl
 one false flip = refl
 
 -- one flip more
-flips_of-push : (flips : List FlippedBit) (flip : FlippedBit) (page : ℕ) → flips_of (flips ++ flip ∷ []) page ≡ flips_of flips page ++ bit_if (flip.page == page) flip.bit
+flips_of-push : (flips : List FlippedBit) (flip : FlippedBit) (page : ℕ)
+    → flips_of (flips ++ flip ∷ []) page ≡ flips_of flips page ++ bit_if (flip.page == page) flip.bit
 flips_of-push flips flip page =
     let of_page : FlippedBit → Bool = λ f. f.page == page in
     let bit : FlippedBit → ℕ = λ f. f.bit in
@@ -68,7 +69,8 @@ if_same false flips = refl
 
 -- the flips of pages that are outside
 pub flips_of-outside : (flips : List FlippedBit) (first end page : ℕ)
-    → flips_of (filter (λ (f : FlippedBit). is_outside first end f.page) flips) page ≡ (if nat_le first page && nat_lt page end then [] else flips_of flips page)
+    → flips_of (filter (λ (f : FlippedBit). is_outside first end f.page) flips) page
+    ≡ (if nat_le first page && nat_lt page end then [] else flips_of flips page)
 flips_of-outside [] first end page = sym (if_same (nat_le first page && nat_lt page end) [])
 flips_of-outside (flip ∷ flips) first end page =
     let rest = flips_of-outside flips first end page in
@@ -92,19 +94,26 @@ flips_of-outside (flip ∷ flips) first end page =
 abbrev is_between : ℕ → ℕ → ℕ → Bool
 is_between from to bit = nat_le from bit && nat_lt bit to
 
+-- whether a flip is of a page, between two bits
+abbrev is_counted : ℕ → ℕ → ℕ → FlippedBit → Bool
+is_counted page from to flip = flip.page == page && nat_le from flip.bit && nat_lt flip.bit to
+
 counted : (flips : List FlippedBit) (page from to : ℕ)
-    → length (filter (is_between from to) (flips_of flips page)) ≡ length (filter (λ (f : FlippedBit). f.page == page && nat_le from f.bit && nat_lt f.bit to) flips)
+    → length (filter (is_between from to) (flips_of flips page)) ≡ length (filter (is_counted page from to) flips)
 counted [] page from to = refl
 counted (flip ∷ flips) page from to =
     let rest = counted flips page from to in
     let of_page : List FlippedBit = filter (λ (f : FlippedBit). f.page == page) flips in
-    let all : List FlippedBit = filter (λ (f : FlippedBit). f.page == page && nat_le from f.bit && nat_lt f.bit to) flips in
+    let all : List FlippedBit = filter (is_counted page from to) flips in
     let bit : FlippedBit → ℕ = λ f. f.bit in
+    let between : List ℕ → List ℕ = filter (is_between from to) in
     let low : Bool = nat_le from flip.bit in
     let high : Bool = nat_lt flip.bit to in
-    elim (flip.page == page) as (λ b. length (filter (is_between from to) (map bit (if b then flip ∷ of_page else of_page))) ≡ length (if b && low && high then flip ∷ all else all)) [
-      | true ↦ elim (low && high) as (λ b. length (if b then flip.bit ∷ filter (is_between from to) (map bit of_page) else filter (is_between from to) (map bit of_page))
-          ≡ length (if b then flip ∷ all else all)) [ true ↦ ap suc rest | false ↦ rest ]
+    elim (flip.page == page) as
+    (λ b. length (between (map bit (if b then flip ∷ of_page else of_page))) ≡ length (if b && low && high then flip ∷ all else all)) [
+      | true ↦ elim (low && high) as
+          (λ b. length (if b then flip.bit ∷ between (map bit of_page) else between (map bit of_page)) ≡ length (if b then flip ∷ all else all))
+          [ true ↦ ap suc rest | false ↦ rest ]
       | false ↦ rest
     ]
 
@@ -112,5 +121,4 @@ counted (flip ∷ flips) page from to =
 pub flips_between-flips_of : (flips : List FlippedBit) (page from to : ℕ)
     → flips_between (flips_of flips page) from to ≡ count_by (λ (f : FlippedBit). f.page == page && nat_le from f.bit && nat_lt f.bit to) flips
 flips_between-flips_of flips page from to =
-    sym (length-filter (is_between from to) (flips_of flips page)) ∙ counted flips page from to
-    ∙ length-filter (λ (f : FlippedBit). f.page == page && nat_le from f.bit && nat_lt f.bit to) flips
+    sym (length-filter (is_between from to) (flips_of flips page)) ∙ counted flips page from to ∙ length-filter (is_counted page from to) flips

@@ -1,5 +1,5 @@
 -- Slots after one of them, or those of a block, are changed.
-use Rattle.std.proofs.Common.{◌≡◌, ℕ, ◌+◌, ◌*◌, ◌/◌, ◌<◌, arith, refl, ap, ◌∙◌, subst, inl, inr, Bool, true, false, List, [], length, take, slice_set, slice_get, slice_index_or, All, Option, Some, None, if◌then◌else◌}
+use Rattle.std.proofs.Common.{◌≡◌, ℕ, ◌+◌, ◌/◌, ◌<◌, arith, refl, ap, ◌∙◌, subst, inl, inr, Bool, true, false, List, [], length, take, slice_set, slice_get, slice_index_or, All, Option, Some, None, if◌then◌else◌}
 use Rattle.std.specs.Prelude.{◌==◌, ◌&&◌, ◌||◌, nat_le, nat_lt}
 use Rattle.std.specs.List.{list_any}
 use Rattle.std.proofs.lemmas.Bool.Decides.{eqb_tells, nat_tests}
@@ -27,13 +27,14 @@ slot_at-set slots at page new there =
       | inr other ↦ rw other.0 (get_or-set_other slots at page new None other.1)
     ]
 
--- a slot that was read is the slot at that place
-pub slot_at-read : (slots : List Slot) (at : ℕ) (slot : Slot) → at < length slots → slot ≡ slice_index_or slots at slot → slot ≡ slot_at slots at
-slot_at-read slots at slot there read = read ∙ get_or_default slots at slot None there
-
 -- a page after a good program
 abbrev pub programmed_page : ℕ → Slot → List ℕ → Page
 programmed_page raw slot image = record { cells = programmed (cells_of raw slot) image; flipped_since = false }
+
+-- a slot that was read and changed is the changed slot at that place
+pub slot_at-changed : (slots : List Slot) (at : ℕ) (read new : Slot) (change : Slot → Slot) → at < length slots → read ≡ slice_index_or slots at read
+    → new ≡ change read → new ≡ change (slot_at slots at)
+slot_at-changed slots at read new change there is_read changed = changed ∙ ap change (is_read ∙ get_or_default slots at read None there)
 
 -- a programmed slot has as many bytes
 pub programmed-whole : (raw : ℕ) (slot : Slot) (image : List ℕ) → IsWholeSlot raw slot → IsWholeSlot raw (Some (programmed_page raw slot image))
@@ -73,8 +74,9 @@ page_if g flips false slot = refl
 
 -- after a good erase each page is as it should be
 pub erase-pages : (g : Geometry) (old new : List Slot) (flips kept : ℕ → List ℕ) (block page : ℕ) → 0 < g.pages_per_block
-    → slot_at new page ≡ (if nat_le (block * g.pages_per_block) page && nat_lt page (block * g.pages_per_block + g.pages_per_block) then None else slot_at old page)
-    → kept page ≡ (if nat_le (block * g.pages_per_block) page && nat_lt page (block * g.pages_per_block + g.pages_per_block) then [] else flips page)
+    → slot_at new page
+    ≡ (if nat_le (first_page g block) page && nat_lt page (first_page g block + g.pages_per_block) then None else slot_at old page)
+    → kept page ≡ (if nat_le (first_page g block) page && nat_lt page (first_page g block + g.pages_per_block) then [] else flips page)
     → page_of (raw_len g) (kept page) (slot_at new page)
     ≡ with_block g (λ p. page_of (raw_len g) (flips p) (slot_at old p)) block (λ q before. blank_page g) page
 erase-pages g old new flips kept block page some cleared forgotten =
@@ -93,7 +95,8 @@ or_false true = refl
 or_false false = refl
 
 -- one more factory-bad block
-pub new_page-more : (g : Geometry) (slots : List Slot) (bad : List ℕ) (n block : ℕ) → n < length bad → slice_get bad n ≡ Some block → first_page g block < length slots
+pub new_page-more : (g : Geometry) (slots : List Slot) (bad : List ℕ) (n block : ℕ)
+    → n < length bad → slice_get bad n ≡ Some block → first_page g block < length slots
     → ((page : ℕ) → page_of (raw_len g) [] (slot_at slots page) ≡ new_page g (take n bad) page)
     → (page : ℕ) → page_of (raw_len g) [] (slot_at (slice_set slots (first_page g block) (Some (factory_bad g))) page) ≡ new_page g (take (n + 1) bad) page
 new_page-more g slots bad n block more is_block there so_far page =

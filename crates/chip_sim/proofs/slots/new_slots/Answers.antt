@@ -22,6 +22,7 @@ loop-n-preserved c =
     rw (c.in_ok-factory_bad_page.ensures)
     (record {
       count = length-set items (first_page c.args.g block) (Some (factory_bad c.args.g)) ∙ c.loop-n.invariant.count;
-      whole = All-set (IsWholeSlot (raw_len c.args.g)) items (first_page c.args.g block) (Some (factory_bad c.args.g)) (factory_bad-whole c.args.g) c.loop-n.invariant.whole;
+      whole = All-set (IsWholeSlot (raw_len c.args.g)) items (first_page c.args.g block) (Some (factory_bad c.args.g)) (factory_bad-whole c.args.g)
+          c.loop-n.invariant.whole;
       pages = new_page-more c.args.g items c.args.bad.now c.loop-n.n block (omega arith) c.get.ensures there c.loop-n.invariant.pages;
     })

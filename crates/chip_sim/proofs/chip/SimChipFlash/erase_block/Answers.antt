@@ -22,9 +22,11 @@ invariant_of-self c =
     let first : ℕ = c.args.block * s.geometry.pages_per_block in
     let same = with_items_is s.slots new (c.clear_slots.auto.slots ∙ c.deref_mut.ensures.len) in
     let count : length c.clear_slots.new.slots ≡ length c.args.self.now.slots.items = c.clear_slots.auto.slots ∙ ap length c.deref_mut.ensures.value in
+    let whole = cleared-whole (raw_len s.geometry) first (first + pages) s.slots.items new count
+    (λ page. rw (← c.deref_mut.ensures.value) (c.clear_slots.ensures page)) s.whole in
     record {
       all_there = ap length same ∙ count ∙ s.all_there;
-      whole = subst (All (IsWholeSlot (raw_len s.geometry))) (sym same) (cleared-whole (raw_len s.geometry) first (first + pages) s.slots.items new count (λ page. rw (← c.deref_mut.ensures.value) (c.clear_slots.ensures page)) s.whole);
+      whole = subst (All (IsWholeSlot (raw_len s.geometry))) (sym same) whole;
       blanks_fit = s.blanks_fit;
     }
 
@@ -35,7 +37,8 @@ returns-clause-state c =
     let same = with_items_is s.slots new (c.clear_slots.auto.slots ∙ c.deref_mut.ensures.len) in
     λ i. record {
       geometry = s.geometry;
-      pages = λ page. erase-pages s.geometry s.slots.items (with_items s.slots new).items (flips_of s.log.flips) (flips_of c.forget.new.self.flips) c.args.block page (pages_per_block-some s.geometry)
+      pages = λ page. erase-pages s.geometry s.slots.items (with_items s.slots new).items (flips_of s.log.flips) (flips_of c.forget.new.self.flips)
+          c.args.block page (pages_per_block-some s.geometry)
           (rw (same, ← c.deref_mut.ensures.value) (c.clear_slots.ensures page)) (c.forget.ensures.flips page) i;
       fault_state = record { raw = raw_len s.geometry; weak = [] };
       faults = 0;
