@@ -1,8 +1,10 @@
 mod RowSteps
 mod Joined
 mod Entries
-mod FirstPage
-mod PlanNotes
-mod PlanReport
-mod Reading
 mod Holding
+mod EndedTexts
+mod Dumps
+mod BootText
+mod NoReads
+mod PlanTurns
+mod PlanRuns

@@ -1,7 +1,13 @@
 -- What a call writes, by its words and the bytes that it reads.
 use Rattle.std.specs.Prelude.{◌≡◌, ℕ, ◌<◌, ◌≤◌, ◌++◌, Bool, true, false, List, [], ◌∷◌, length, take, codes, bytes_eq}
+use Rattle.nand_model.specs.Chip.{SimFaults, sim_faults}
+use Rattle.run_model.specs.Course.{Course, course_after, is_over}
+use Rattle.run_model.specs.Run.{CoursesAreFaithful}
+use Rattle.report_model.specs.Headline.{replay_turns}
 use Rattle.report_model.specs.Report.{line, report_text}
-use Rattle.nine_line_plan.specs.NineLines.{plan_of, course_of, IsNineLinePlan, IsOfTheForm}
+use Rattle.several_chip_plan.specs.SeveralChips.{boot_of, plan_of, IsSeveralChipPlan, IsOfTheForm}
+use Rattle.several_chip_plan.specs.declared.lines.PlanLines.{PlanLines}
+use Rattle.chips_boot.specs.Ready.{the_boot, the_chips}
 use Rattle.nandlab.specs.declared.status.Status.{Status}
 use Rattle.nandlab.specs.declared.status.Status.TheVariants.{Fine, Usage, PlanRefused, ReadFault, WriteFault, Memory}
 
@@ -23,17 +29,28 @@ not_built_line = line (codes "line 0: NotBuilt")
 abbrev pub most_bytes : ℕ
 most_bytes = 16777216
 
--- the text is the report of the notes of the one course of the plan with this data
-abbrev pub IsReportOfData : List ℕ → List ℕ → Type 0
-IsReportOfData payload text = text ≡ report_text (plan_of payload) (((course_of payload).notes ∷ []) ∷ [])
+-- so many attach steps, the turns of the plan's schedule and so many rounds of its sessions give this course, which is over; its notes are a history of one thread, and each session's operations stand in it once and in order
+pub record IsRunOf (plan : PlanLines) (course : Course SimFaults) : Type 0 where
+  pub attaches : ℕ
+  pub rounds : ℕ
+  pub steps : course ≡ course_after sim_faults (the_boot plan) (the_chips plan) attaches (replay_turns (boot_of plan) rounds 0)
+  pub over : is_over course ≡ true
+  pub faithful : CoursesAreFaithful sim_faults (the_boot plan) (the_chips plan) attaches (replay_turns (boot_of plan) rounds 0)
 
--- the text is the report of the nine-line plan that these bytes are
+-- the text is the report of the notes of the plan's run, and any run of the plan has these notes
+pub record IsReportOfPlan (plan : PlanLines) (text : List ℕ) : Type 0 where
+  pub course : Course SimFaults
+  pub run : IsRunOf plan course
+  pub only : (other : Course SimFaults) → IsRunOf plan other → other ≡ course
+  pub printed : text ≡ report_text (plan_of plan) ((course.notes ∷ []) ∷ [])
+
+-- the text is the report of the several-chip plan that these bytes are
 pub record IsReportOfBytes (bytes text : List ℕ) : Type 0 where
-  pub payload : List ℕ
-  pub plan : IsNineLinePlan bytes payload
-  pub report : IsReportOfData payload text
+  pub plan : PlanLines
+  pub form : IsSeveralChipPlan bytes plan
+  pub report : IsReportOfPlan plan text
 
--- the text says why the bytes are refused: they are too long, or no nine-line plan
+-- the text says why the bytes are refused: they are too long, or no several-chip plan
 pub data IsRefusalOf (bytes text : List ℕ) : Type 0 where
   TooLong : most_bytes < length bytes → text ≡ too_long_line → IsRefusalOf bytes text
   NotBuilt : length bytes ≤ most_bytes → (IsOfTheForm bytes → ⊥) → text ≡ not_built_line → IsRefusalOf bytes text

@@ -2,6 +2,8 @@
 use Rattle.std.specs.Prelude.{ℕ, Bool, true, false, ◌||◌, ◌==◌, if◌then◌else◌, List, [], ◌∷◌, ◌++◌, ⊤, codes, decimal}
 use Rattle.nand_model.specs.declared.words.Reply.{Reply}
 use Rattle.nand_model.specs.declared.words.Reply.TheVariants.{Page}
+use Rattle.nand_model.specs.declared.words.Outcome.{Outcome}
+use Rattle.nand_model.specs.declared.words.Outcome.TheVariants.{NandDump}
 use Rattle.nand_model.specs.declared.words.Note.{Note}
 use Rattle.nand_model.specs.declared.words.Note.TheVariants.{Answered}
 
@@ -14,6 +16,11 @@ ForPage P _ = ⊤
 abbrev pub ForAnswer : (Reply → Type 0) → Note → Type 0
 ForAnswer P (Answered session reply) = P reply
 ForAnswer P _ = ⊤
+
+-- a fact about the dump of a nanddump
+abbrev pub ForDump : (List ℕ → Type 0) → Outcome → Type 0
+ForDump P (NandDump pages bad corrected failed dump) = P dump
+ForDump P _ = ⊤
 
 -- a comma after an earlier block
 abbrev pub comma : Bool → List ℕ

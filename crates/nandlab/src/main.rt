@@ -2,7 +2,8 @@
 #![tactic(auto)]
 
 mod answer;
-mod nine_lines;
+mod boot_report;
+mod outcomes;
 mod print;
 mod report;
 mod run;

@@ -191,8 +191,8 @@ fn put_counts(
     put_text(out, text.as_str())
 }
 
-// Appends an answer, without the rows of a page.
-fn put_reply(alloc: Global, out: &mut Bytes, reply: &Reply) -> Result<(), AllocError>
+/// Appends an answer, without the rows of a page.
+pub fn put_reply(alloc: Global, out: &mut Bytes, reply: &Reply) -> Result<(), AllocError>
     ensures { OnOk result (out.new ≡ out.old ++ reply_text reply.now) }
 {
     match reply {

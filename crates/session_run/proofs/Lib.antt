@@ -1,6 +1,6 @@
-mod Rounds
-mod Progress
-mod Once
-mod Pasts
-mod Starts
-mod Replays
+pub mod Rounds
+pub mod Progress
+pub mod Once
+pub mod Pasts
+pub mod Starts
+pub mod Replays

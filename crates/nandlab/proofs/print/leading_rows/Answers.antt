@@ -1,4 +1,4 @@
-use Rattle.std.proofs.Common.{◌≡◌, ◌≢◌, ◌∙◌, ◌*◌, ◌-◌, ◌+◌, ◌<◌, ap, sym, suc, refl, arith, length, ℕ}
+use Rattle.std.proofs.Common.{◌≡◌, ◌≢◌, ◌∙◌, ◌-◌, ◌+◌, ◌<◌, ap, sym, suc, arith, length}
 use Rattle.std.proofs.lemmas.List.{length-drop}
 use Rattle.report_model.specs.Report.{rows_in}
 use Rattle.report_model.proofs.RowLemmas.{leading}

@@ -1,4 +1,4 @@
-use Rattle.std.proofs.Common.{◌≡◌, ◌∙◌, ◌*◌, ◌-◌, ◌+◌, ◌<◌, ap, sym, arith, length, ℕ}
+use Rattle.std.proofs.Common.{◌≡◌, ◌∙◌, ◌*◌, ◌-◌, ◌<◌, ap, arith, length}
 use Rattle.std.proofs.lemmas.List.{length-drop}
 use Rattle.nandlab.proofs.RowSteps.{runs_printed, some_from}
 use Rattle.nandlab.proofs.print.put_rows.Goals as goal
