@@ -25,7 +25,6 @@ use Rattle.chips_boot.specs.Ready.{the_boot, the_chips}
 use Rattle.chips_boot.proofs.Devices.{length-parts_by}
 use Rattle.chips_boot.proofs.Starts.{can_run}
 use Rattle.nandlab.specs.Ends.{cut_text, device_text, end_by, ended_text, ended_texts, ends_by, stats_by}
-use Rattle.nandlab.proofs.Dumps.{IsShort, end_short}
 
 -- the lines of one more session
 ended_texts-snoc : (k : ℕ) (sessions : List SessionPlan) (ends : List EndOfSession) (s : SessionPlan) (e : EndOfSession) → length sessions ≡ length ends
@@ -95,41 +94,6 @@ zero_text = decimal_digit 0 (omega arith)
 -- the parts of a report of one boot and one controller
 parts_same : (b c n s d e : List ℕ) → b ++ (c ++ n ++ []) ++ s ++ (d ++ []) ++ e ++ [] ≡ b ++ c ++ n ++ s ++ d ++ e
 parts_same b c n s d e = simp (append_assoc, append-nil) refl
-
--- the sizes of a plan's chips
-geometries_same : (chips : List ChipLines)
-    → map (λ (chip : ChipPlan). chip.geometry) (map chip_of chips) ≡ map (λ (s : ChipState SimFaults). s.geometry) (new_chips (map chip_of chips))
-geometries_same [] = refl
-geometries_same (chip ∷ chips) = ap (λ gs. (chip_of chip).geometry ∷ gs) (geometries_same chips)
-
-sizes_same : (plan : PlanLines) → sizes_of (the_boot plan) (the_chips plan) ≡ geometry_in (plan_of plan) 0
-sizes_same plan = ap (geometry_for (the_boot plan).partitions) (sym (geometries_same plan.chips))
-
--- commands of sessions with their numbers are those of the sessions
-plain_sessions : (P : Command → Type 0) (chips : List ChipLines) (payload : List ℕ) (k : ℕ) (sessions : List (List CommandLine))
-    → All (λ (s : ℕ × List Command). All P s.1) (sessions_from 0 k (map (session_of chips payload) sessions)) → All (λ (s : SessionPlan). All P s.commands) (map (session_of chips payload) sessions)
-plain_sessions P chips payload k [] h = All-nil (λ (s : SessionPlan). All P s.commands)
-plain_sessions P chips payload k (lines ∷ sessions) h =
-    let more : List (ℕ × List Command) = sessions_from 0 (k + 1) (map (session_of chips payload) sessions) in
-    All-cons (λ (s : SessionPlan). All P s.commands) (session_of chips payload lines) (map (session_of chips payload) sessions)
-    (All-head (λ (s : ℕ × List Command). All P s.1) (k, map (command_of chips payload) lines) more h)
-    (plain_sessions P chips payload (k + 1) sessions (All-tail (λ (s : ℕ × List Command). All P s.1) (k, map (command_of chips payload) lines) more h))
-
-ends_short : (sizes : Command → Geometry) (n : ℕ) (sessions : List SessionPlan) (notes : List Note) → All (λ (s : SessionPlan). All (λ c. CanRun (sizes c) c) s.commands) sessions
-    → All (λ (e : EndOfSession). All IsShort e.outcomes) (ends_by sizes n sessions notes)
-ends_short sizes n [] notes runs = All-nil (λ (e : EndOfSession). All IsShort e.outcomes)
-ends_short sizes n (s ∷ sessions) notes runs =
-    All-cons (λ (e : EndOfSession). All IsShort e.outcomes) (end_by sizes n s.commands notes) (ends_by sizes (n + 1) sessions notes)
-    (end_short sizes n s.commands (exchanges_of n notes) (All-head (λ (s : SessionPlan). All (λ c. CanRun (sizes c) c) s.commands) s sessions runs))
-    (ends_short sizes (n + 1) sessions notes (All-tail (λ (s : SessionPlan). All (λ c. CanRun (sizes c) c) s.commands) s sessions runs))
-
--- the dumps of a plan's finished commands are short
-pub plan_short : (plan : PlanLines) (notes : List Note) → IsPlan plan
-    → All (λ (e : EndOfSession). All IsShort e.outcomes) (ends_by (geometry_in (plan_of plan) 0) 0 (boot_of plan).sessions notes)
-plan_short plan notes legal =
-    let runs = plain_sessions (λ c. CanRun (sizes_of (the_boot plan) (the_chips plan) c) c) plan.chips plan.payload 0 plan.sessions (can_run plan legal) in
-    ends_short (geometry_in (plan_of plan) 0) 0 (boot_of plan).sessions notes
-    (subst (λ (sizes : Command → Geometry). All (λ (s : SessionPlan). All (λ c. CanRun (sizes c) c) s.commands) (boot_of plan).sessions) (sizes_same plan) runs)
 
 abbrev heads_text : List ℕ
 heads_text = codes "boot 0\ncontroller 0\n"

@@ -3,8 +3,9 @@ mod Joined
 mod Entries
 mod Holding
 mod EndedTexts
-mod Dumps
 mod BootText
-mod NoReads
+mod ReadSums
+mod OpReads
+mod CourseReads
 mod PlanTurns
 mod PlanRuns

@@ -48,7 +48,7 @@ module _ (plan : PlanLines) where
           → is_own (boot_of plan) 0 s ≡ true
       by_place (inl c) =
           let at : slice_get (map (session_of plan.chips plan.payload) plan.sessions) s ≡ Some (session_of plan.chips plan.payload c.0)
-              = slice_get-map (session_of plan.chips plan.payload) plan.sessions s ∙ ap (option_map (session_of plan.chips plan.payload)) c.2 in
+          = slice_get-map (session_of plan.chips plan.payload) plan.sessions s ∙ ap (option_map (session_of plan.chips plan.payload)) c.2 in
           rw at refl
       by_place (inr c) = absurd (omega (arith, there))
 
@@ -62,7 +62,7 @@ module _ (plan : PlanLines) where
       ap (λ n. filter (is_own (boot_of plan) 0) (plan.schedule ++ concat (replicate rounds (numbers_from 0 n)))) (length-map plan.sessions (session_of plan.chips plan.payload))
       ∙ filter-append (is_own (boot_of plan) 0) plan.schedule (concat (replicate rounds (numbers_from 0 (length plan.sessions))))
       ∙ ap (λ first. first ++ filter (is_own (boot_of plan) 0) (concat (replicate rounds (numbers_from 0 (length plan.sessions)))))
-        (kept (is_own (boot_of plan) 0) plan.schedule (λ k s lt. owned (get_or plan.schedule k s) (there k s lt)))
+      (kept (is_own (boot_of plan) 0) plan.schedule (λ k s lt. owned (get_or plan.schedule k s) (there k s lt)))
       ∙ ap (λ rest. plan.schedule ++ rest) (kept_rounds (is_own (boot_of plan) 0) (numbers_from 0 (length plan.sessions)) rounds
-        (kept_numbers (is_own (boot_of plan) 0) 0 (length plan.sessions) (λ s low high. owned s (omega arith))))
+      (kept_numbers (is_own (boot_of plan) 0) 0 (length plan.sessions) (λ s low high. owned s (omega arith))))
       ∙ ap (λ numbers. plan.schedule ++ concat (replicate rounds numbers)) (sym numbered)

@@ -1,8 +1,10 @@
 -- What a call writes, by its words and the bytes that it reads.
-use Rattle.std.specs.Prelude.{◌≡◌, ℕ, ◌<◌, ◌≤◌, ◌++◌, Bool, true, false, List, [], ◌∷◌, length, take, codes, bytes_eq}
+use Rattle.std.specs.Prelude.{◌≡◌, ℕ, ◌<◌, ◌≤◌, ◌++◌, Bool, true, false, List, [], ◌∷◌, length, map, take, codes, bytes_eq}
 use Rattle.nand_model.specs.Chip.{SimFaults, sim_faults}
-use Rattle.run_model.specs.Course.{Course, course_after, is_over}
-use Rattle.run_model.specs.Run.{CoursesAreFaithful}
+use Rattle.run_model.specs.Course.{Course, IsWholeCourse, end_states}
+use Rattle.run_model.specs.History.{AreOneThread, ChipBoot}
+use Rattle.run_model.specs.Log.{AreOfLog, Log}
+use Rattle.run_model.specs.Run.{AreComplete, AreInOrder}
 use Rattle.report_model.specs.Headline.{replay_turns}
 use Rattle.report_model.specs.Report.{line, report_text}
 use Rattle.several_chip_plan.specs.SeveralChips.{boot_of, plan_of, IsSeveralChipPlan, IsOfTheForm}
@@ -29,19 +31,27 @@ not_built_line = line (codes "line 0: NotBuilt")
 abbrev pub most_bytes : ℕ
 most_bytes = 16777216
 
--- so many attach steps, the turns of the plan's schedule and so many rounds of its sessions give this course, which is over; its notes are a history of one thread, and each session's operations stand in it once and in order
-pub record IsRunOf (plan : PlanLines) (course : Course SimFaults) : Type 0 where
-  pub attaches : ℕ
+-- the course is that of a replay of the plan: some attach steps, the turns of its schedule and so many rounds of its sessions, until all is over
+pub record IsReplay (plan : PlanLines) (course : Course SimFaults) : Type 0 where
   pub rounds : ℕ
-  pub steps : course ≡ course_after sim_faults (the_boot plan) (the_chips plan) attaches (replay_turns (boot_of plan) rounds 0)
-  pub over : is_over course ≡ true
-  pub faithful : CoursesAreFaithful sim_faults (the_boot plan) (the_chips plan) attaches (replay_turns (boot_of plan) rounds 0)
+  pub whole : IsWholeCourse sim_faults (the_boot plan) (the_chips plan) (replay_turns (boot_of plan) rounds 0) course
 
--- the text is the report of the notes of the plan's run, and any run of the plan has these notes
+-- the notes of a course of the plan are a history of one thread, by what befell its chips, and each session's operations stand in it once and in order, to the last one
+pub record IsHistory (plan : PlanLines) (course : Course SimFaults) : Type 0 where
+  pub lives : List ChipBoot
+  pub log : Log
+  pub counted : course.events ≡ length log
+  pub of_log : AreOfLog sim_faults (the_boot plan) (the_chips plan) lives (end_states course) log
+  pub one_thread : AreOneThread sim_faults (the_boot plan).partitions (the_chips plan) (map (λ (b : ChipBoot). b ∷ []) lives) (course.notes ∷ [])
+  pub in_order : AreInOrder (the_boot plan) (the_chips plan) course.notes
+  pub complete : AreComplete (the_boot plan) (the_chips plan) course.notes
+
+-- the text is the report of the notes of the plan's replay, which are such a history; the plan has no other replay
 pub record IsReportOfPlan (plan : PlanLines) (text : List ℕ) : Type 0 where
   pub course : Course SimFaults
-  pub run : IsRunOf plan course
-  pub only : (other : Course SimFaults) → IsRunOf plan other → other ≡ course
+  pub replay : IsReplay plan course
+  pub only : (other : Course SimFaults) → IsReplay plan other → other ≡ course
+  pub history : IsHistory plan course
   pub printed : text ≡ report_text (plan_of plan) ((course.notes ∷ []) ∷ [])
 
 -- the text is the report of the several-chip plan that these bytes are

@@ -50,7 +50,3 @@ stats_of reads = record { corrected = sum_by corrected_of reads; failed = sum_by
 -- what each of these devices counted, over so many sessions
 abbrev pub stats_by : (first devices sessions : ℕ) → List Note → List (ℕ × Stats)
 stats_by first devices sessions notes = map (λ dev. (dev, stats_of (reads_of dev (numbers_from 0 sessions) notes))) (numbers_from first devices)
-
--- a device of which no read was answered
-abbrev pub uncounted : ℕ → ℕ × Stats
-uncounted dev = (dev, record { corrected = 0; failed = 0 })

@@ -2,7 +2,6 @@
 #![tactic(auto)]
 
 mod answer;
-mod boot_report;
 mod outcomes;
 mod print;
 mod report;

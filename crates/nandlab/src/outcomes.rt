@@ -3,7 +3,6 @@ ghost use Rattle.std.specs.Prelude.{◌≡◌, ◌≤◌, ◌∷◌, ◌++◌, �
 ghost use Rattle.report_model.specs.Report.{block_text, device_name, ending_text, line, outcome_lines, outcome_text, reply_text};
 ghost use Rattle.run_model.specs.Command.{command_device};
 ghost use Rattle.several_chip_plan.specs.SeveralChips.{IsCommand, command_of};
-ghost use Rattle.nandlab.specs.Printing.{ForDump};
 ghost use Rattle.nandlab.specs.Ends.{ended_text, device_text};
 
 use crate::print::{put_reply, put_rows, put_text};
@@ -187,7 +186,6 @@ pub fn put_outcome(
     command: &Command,
     outcome: &Outcome,
 ) -> Result<(), AllocError>
-    requires { ForDump (λ dump. length dump ≤ 2 ^ 32) outcome.now }
     ensures { OnOk result (out.new ≡ out.old ++ outcome_text command.now outcome.now) }
 {
     let dev = device_of(command);
@@ -244,8 +242,7 @@ fn put_outcomes(
     lines: &ItemList<CommandLine>,
     ended: &SessionEnd,
 ) -> Result<(), AllocError>
-    requires commands { All (IsCommand (length chips.now) (length payload.now)) lines.now }
-    requires dumps { All (ForDump (λ dump. length dump ≤ 2 ^ 32)) ended.now.outcomes }
+    requires { All (IsCommand (length chips.now) (length payload.now)) lines.now }
     ensures { OnOk result (out.new ≡ out.old ++ outcome_lines (map (command_of chips.now payload.now) lines.now) ended.now.outcomes) }
 {
     for n in 0..lines.len().min(ended.len()) {
@@ -265,8 +262,7 @@ pub fn put_session(
     lines: &ItemList<CommandLine>,
     ended: &SessionEnd,
 ) -> Result<(), AllocError>
-    requires commands { All (IsCommand (length chips.now) (length payload.now)) lines.now }
-    requires dumps { All (ForDump (λ dump. length dump ≤ 2 ^ 32)) ended.now.outcomes }
+    requires { All (IsCommand (length chips.now) (length payload.now)) lines.now }
     ensures { OnOk result (out.new ≡ out.old ++ ended_text number (map (command_of chips.now payload.now) lines.now) ended.now) }
 {
     let text = format!(in alloc; "session {number}\n")?;

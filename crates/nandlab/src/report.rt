@@ -1,69 +1,59 @@
 // The report of a several-chip plan's run.
-ghost use Rattle.std.specs.Prelude.{◌≡◌, ◌≤◌, ◌^◌, length, map, All, IfOk, OnOk, IsTrue, ◌++◌, ◌∷◌, []};
-ghost use Rattle.nand_model.specs.Sizes.{numbers_from};
-ghost use Rattle.nand_model.specs.declared.words.Note.{Note as Noted};
-ghost use Rattle.several_chip_plan.specs.SeveralChips.{IsPlan};
+ghost use Rattle.std.specs.Prelude.{◌≡◌, ◌∷◌, ◌++◌, [], length, OnOk, IfOk};
+ghost use Rattle.report_model.specs.Report.{geometry_in, report_text};
+ghost use Rattle.several_chip_plan.specs.SeveralChips.{IsPlan, boot_of, plan_of};
 ghost use Rattle.chips_boot.specs.Ready.{IsReady};
 ghost use Rattle.nandlab.specs.Answer.{IsReportOfPlan};
-ghost use Rattle.nandlab.specs.Ends.{uncounted};
-ghost use Rattle.nandlab.specs.Printing.{ForAnswer, ForPage};
+ghost use Rattle.nandlab.specs.Ends.{ended_texts, ends_by, stats_by};
 
-use crate::boot_report::boot_report;
+use crate::outcomes::{put_devices, put_session};
+use crate::print::{put_notes, put_text};
 use crate::run::run_plan;
-use nand_iface::{History, Note, Reply, Stats};
+use nand_iface::History;
 use nand_model::Bytes;
-use session_steps::StatsList;
+use session_steps::{OutcomeList, StatsList};
 use several_chip_plan::PlanLines;
 use std::alloc::{AllocError, Global};
 
-/// The greatest number of bytes that are printed as rows, whose offsets have eight hexadecimal digits.
-const MOST_PRINTED: usize = 4_294_967_296;
-
-// Whether the page of an answer can be printed as rows.
-fn is_printable(note: &Note) -> bool
-    ensures { IsTrue result → ForAnswer (ForPage (λ image. length image ≤ 2 ^ 32)) note.now }
+// Appends the lines of the sessions, which ended so.
+fn put_sessions(
+    alloc: Global,
+    out: &mut Bytes,
+    plan: &PlanLines,
+    ends: &OutcomeList,
+) -> Result<(), AllocError>
+    requires legal { IsPlan plan.now }
+    requires many { length ends.now ≡ length plan.now.sessions }
+    ensures { OnOk result (out.new ≡ out.old ++ ended_texts 0 (boot_of plan.now).sessions ends.now) }
 {
-    match note {
-        Note::Answered { reply, .. } => match reply {
-            Reply::Page { image, .. } => image.as_slice().len() <= MOST_PRINTED,
-            _ => true,
-        },
-        _ => true,
+    let payload = plan.payload.as_slice();
+    for n in 0..plan.sessions.len() {
+        let lines = plan.sessions.get(n);
+        put_session(alloc, out, n, &plan.chips, payload, lines, ends.get(n))?;
     }
+    Ok(())
 }
 
-// Whether the pages of all answers can be printed as rows.
-fn are_printable(notes: &History) -> bool
-    ensures { IsTrue result → All (ForAnswer (ForPage (λ image. length image ≤ 2 ^ 32))) notes.now.notes }
+// The text of the report of a plan, from the notes of its controller, how its sessions ended, and what its devices counted.
+fn boot_report(
+    alloc: Global,
+    plan: &PlanLines,
+    notes: &History,
+    ends: &OutcomeList,
+    stats: &StatsList,
+) -> Result<Bytes, AllocError>
+    requires legal { IsPlan plan.now }
+    requires ends { ends.now ≡ ends_by (geometry_in (plan_of plan.now) 0) 0 (boot_of plan.now).sessions notes.now.notes }
+    requires stats { stats.now ≡ stats_by 0 (length plan.now.chips) (length plan.now.sessions) notes.now.notes }
+    ensures { IfOk result (λ text. text ≡ report_text (plan_of plan.now) ((notes.now.notes ∷ []) ∷ [])) }
 {
-    for n in 0..notes.len() {
-        if !is_printable(notes.get(n)) {
-            return false;
-        }
-    }
-    true
-}
-
-// Adds a device of which no read was answered.
-fn add_uncounted(stats: &mut StatsList, dev: u32) -> Result<(), AllocError>
-    ensures { OnOk result (stats.new ≡ stats.old ++ uncounted dev ∷ []) }
-{
-    let none = Stats {
-        corrected: 0,
-        failed: 0,
-    };
-    stats.push((dev, none)).map_err(|refused| refused.1)
-}
-
-// So many devices of which no read was answered.
-fn uncounted_devices(alloc: Global, devices: u32) -> Result<StatsList, AllocError>
-    ensures { IfOk result (λ stats. stats ≡ map uncounted (numbers_from 0 devices)) }
-{
-    let mut stats = StatsList::new(alloc);
-    for dev in 0..devices {
-        add_uncounted(&mut stats, dev)?;
-    }
-    Ok(stats)
+    let mut out = Bytes::filled(alloc, 0, 0)?;
+    put_text(&mut out, "boot 0\ncontroller 0\n")?;
+    put_notes(alloc, &mut out, 0, notes)?;
+    put_sessions(alloc, &mut out, plan, ends)?;
+    put_devices(alloc, &mut out, stats)?;
+    put_text(&mut out, "end boot 0\n")?;
+    Ok(out)
 }
 
 /// Runs a plan, and gives the text of its report.
@@ -73,9 +63,5 @@ pub fn report(alloc: Global, plan: &PlanLines) -> Result<Bytes, AllocError>
     ensures { IfOk result (IsReportOfPlan plan.now) }
 {
     let ended = run_plan(alloc, plan)?;
-    if !are_printable(&ended.notes) {
-        return Err(AllocError);
-    }
-    let stats = uncounted_devices(alloc, plan.chips.len() as u32)?;
-    boot_report(alloc, plan, &ended.notes, &ended.outcomes, &stats)
+    boot_report(alloc, plan, &ended.notes, &ended.outcomes, &ended.stats)
 }

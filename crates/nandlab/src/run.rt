@@ -23,10 +23,7 @@ fn add_flash(flashes: &mut FlashList<SimChip>, chip: SimChip) -> Result<(), Allo
 }
 
 // The new chips of these lines.
-fn new_flashes(
-    alloc: Global,
-    chips: &ItemList<ChipLines>,
-) -> Result<FlashList<SimChip>, AllocError>
+fn new_flashes(alloc: Global, chips: &ItemList<ChipLines>) -> Result<FlashList<SimChip>, AllocError>
     ensures { IfOk result (λ flashes. map sim_state flashes ≡ new_chips (map chip_of chips.now)) }
 {
     let none_bad = BlockList::new(alloc);
@@ -42,7 +39,7 @@ fn new_flashes(
 pub fn run_plan(alloc: Global, plan: &PlanLines) -> Result<Ended<SimChip>, AllocError>
     requires legal { IsPlan plan.now }
     requires ready { IsReady plan.now }
-    ensures { IfOk result (λ ended. EndsRun plan.now ended.notes.notes ended.outcomes) }
+    ensures { IfOk result (λ ended. EndsRun plan.now ended.notes.notes ended.outcomes ended.stats) }
 {
     let flashes = new_flashes(alloc, &plan.chips)?;
     let boot = boot_of_plan(alloc, plan)?;

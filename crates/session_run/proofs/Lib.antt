@@ -1,6 +1,6 @@
-pub mod Rounds
-pub mod Progress
+mod Rounds
+mod Progress
 pub mod Once
-pub mod Pasts
-pub mod Starts
-pub mod Replays
+mod Pasts
+mod Starts
+mod Replays

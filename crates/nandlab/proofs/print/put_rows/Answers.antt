@@ -3,36 +3,6 @@ use Rattle.std.proofs.lemmas.List.{length-drop}
 use Rattle.nandlab.proofs.RowSteps.{runs_printed, some_from}
 use Rattle.nandlab.proofs.print.put_rows.Goals as goal
 
-pub overflow_cast-at : goal.overflow_cast-at
-overflow_cast-at c =
-    let few = c.leading_rows-more.ensures.few in
-    let later : length c.split_row.result.1.now ≡ length c.loop-rest.rest.now - 32 = ap length c.split_row.ensures.later ∙ length-drop 32 c.loop-rest.rest.now in
-    let inv = c.loop-rest.invariant in
-    let some = some_from c.is_empty.result (length c.loop-rest.rest.now) c.is_empty.ensures c.loop-rest-test.true in
-    let exact = inv.1 some in
-    let all = c.requires in
-    omega (arith, few, later, exact, all)
-
-pub overflow_add-at : goal.overflow_add-at
-overflow_add-at c =
-    let few = c.leading_rows-more.ensures.few in
-    let later : length c.split_row.result.1.now ≡ length c.loop-rest.rest.now - 32 = ap length c.split_row.ensures.later ∙ length-drop 32 c.loop-rest.rest.now in
-    let inv = c.loop-rest.invariant in
-    let some = some_from c.is_empty.result (length c.loop-rest.rest.now) c.is_empty.ensures c.loop-rest-test.true in
-    let exact = inv.1 some in
-    let all = c.requires in
-    omega (arith, few, later, exact, all)
-
-pub overflow_add-at-in-loop-rest : goal.overflow_add-at-in-loop-rest
-overflow_add-at-in-loop-rest c =
-    let few = c.leading_rows-more.ensures.few in
-    let later : length c.split_row.result.1.now ≡ length c.loop-rest.rest.now - 32 = ap length c.split_row.ensures.later ∙ length-drop 32 c.loop-rest.rest.now in
-    let inv = c.loop-rest.invariant in
-    let some = some_from c.is_empty.result (length c.loop-rest.rest.now) c.is_empty.ensures c.loop-rest-test.true in
-    let exact = inv.1 some in
-    let all = c.requires in
-    omega (arith, few, later, exact, all)
-
 pub loop-rest-smaller : goal.loop-rest-smaller
 loop-rest-smaller c =
     let later : length c.split_row.result.1.now ≡ length c.loop-rest.rest.now - 32 = ap length c.split_row.ensures.later ∙ length-drop 32 c.loop-rest.rest.now in

@@ -1,7 +1,7 @@
 use Rattle.std.proofs.Common.{◌≡◌, ◌++◌, take}
 use Rattle.several_chip_plan.specs.SeveralChips.{boot_of}
 use Rattle.nandlab.specs.Ends.{ended_texts}
-use Rattle.nandlab.proofs.boot_report.put_sessions.Given as goal
+use Rattle.nandlab.proofs.report.put_sessions.Given as goal
 
 -- the lines of the sessions so far stand at the end
 abbrev pub invariant-loop-n : goal.invariant-loop-n

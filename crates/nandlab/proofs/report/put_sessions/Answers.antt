@@ -6,7 +6,7 @@ use Rattle.report_model.specs.Plan.{SessionPlan}
 use Rattle.several_chip_plan.specs.SeveralChips.{boot_of, command_of, session_of}
 use Rattle.nandlab.specs.Ends.{ended_text, ended_texts}
 use Rattle.nandlab.proofs.BootText.{one_session_more}
-use Rattle.nandlab.proofs.boot_report.put_sessions.Goals as goal
+use Rattle.nandlab.proofs.report.put_sessions.Goals as goal
 
 pub loop-n-preserved : goal.loop-n-preserved
 loop-n-preserved c =

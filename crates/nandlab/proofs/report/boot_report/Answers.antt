@@ -4,18 +4,13 @@ use Rattle.std.proofs.lemmas.List.{length-map}
 use Rattle.report_model.specs.Report.{geometry_in}
 use Rattle.session_steps.specs.Ended.{EndOfSession}
 use Rattle.several_chip_plan.specs.SeveralChips.{boot_of, plan_of, session_of}
-use Rattle.nandlab.proofs.BootText.{length-ends, plan_short, report_made}
-use Rattle.nandlab.proofs.Dumps.{IsShort}
-use Rattle.nandlab.proofs.boot_report.boot_report.Goals as goal
+use Rattle.nandlab.proofs.BootText.{length-ends, report_made}
+use Rattle.nandlab.proofs.report.boot_report.Goals as goal
 
 pub put_sessions-requires-clause-many : goal.put_sessions-requires-clause-many
 put_sessions-requires-clause-many c =
     ap length c.requires.ends ∙ length-ends (geometry_in (plan_of c.args.plan.now) 0) 0 (boot_of c.args.plan.now).sessions c.args.notes.now.notes
     ∙ length-map c.args.plan.now.sessions (session_of c.args.plan.now.chips c.args.plan.now.payload)
-
-pub put_sessions-requires-clause-dumps : goal.put_sessions-requires-clause-dumps
-put_sessions-requires-clause-dumps c =
-    subst (All (λ (e : EndOfSession). All IsShort e.outcomes)) (sym c.requires.ends) (plan_short c.args.plan.now c.args.notes.now.notes c.requires.legal)
 
 pub returns : goal.returns
 returns c =
