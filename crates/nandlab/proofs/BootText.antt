@@ -54,7 +54,8 @@ cut_same run [] = refl
 cut_same run (command ∷ commands) = refl
 
 -- the lines of a session are those of its end by the notes
-session_same : (sizes : Command → Geometry) (n : ℕ) (commands : List Command) (notes : List Note) → ended_text n commands (end_by sizes n commands notes) ≡ session_text sizes n commands notes
+session_same : (sizes : Command → Geometry) (n : ℕ) (commands : List Command) (notes : List Note)
+    → ended_text n commands (end_by sizes n commands notes) ≡ session_text sizes n commands notes
 session_same sizes n commands notes =
     let run : SessionRun = session_after sizes (without_finished sizes n commands [] []) (exchanges_of n notes) in
     ap (λ t. line (codes "session " ++ decimal n) ++ outcome_lines commands run.outcomes ++ t) (cut_same run run.commands)
@@ -69,21 +70,26 @@ sessions_same plan n [] notes own = refl
 sessions_same plan n (s ∷ sessions) notes own =
     let first : s.controller ≡ 0 = All-head (λ (s : SessionPlan). s.controller ≡ 0) s sessions own in
     ap (λ t. t ++ ended_texts (n + 1) sessions (ends_by (geometry_in plan 0) (n + 1) sessions notes)) (session_same (geometry_in plan 0) n s.commands notes)
-    ∙ ap (λ t. session_text (geometry_in plan 0) n s.commands notes ++ t) (sessions_same plan (n + 1) sessions notes (All-tail (λ (s : SessionPlan). s.controller ≡ 0) s sessions own))
-    ∙ ap (λ c. session_text (geometry_in plan c) n s.commands (slice_index_or (notes ∷ []) c []) ++ session_lines plan (n + 1) sessions (notes ∷ [])) (sym first)
+    ∙ ap (λ t. session_text (geometry_in plan 0) n s.commands notes ++ t)
+    (sessions_same plan (n + 1) sessions notes (All-tail (λ (s : SessionPlan). s.controller ≡ 0) s sessions own))
+    ∙ ap (λ c. session_text (geometry_in plan c) n s.commands (slice_index_or (notes ∷ []) c []) ++ session_lines plan (n + 1) sessions (notes ∷ []))
+    (sym first)
 
 own_sessions : (chips : List ChipLines) (payload : List ℕ) (sessions : List (List CommandLine)) → AreOwn (map (session_of chips payload) sessions)
 own_sessions chips payload [] = All-nil (λ (s : SessionPlan). s.controller ≡ 0)
 own_sessions chips payload (lines ∷ sessions) =
-    All-cons (λ (s : SessionPlan). s.controller ≡ 0) (session_of chips payload lines) (map (session_of chips payload) sessions) refl (own_sessions chips payload sessions)
+    All-cons (λ (s : SessionPlan). s.controller ≡ 0) (session_of chips payload lines) (map (session_of chips payload) sessions) refl
+    (own_sessions chips payload sessions)
 
-pub length-ends : (sizes : Command → Geometry) (n : ℕ) (sessions : List SessionPlan) (notes : List Note) → length (ends_by sizes n sessions notes) ≡ length sessions
+pub length-ends : (sizes : Command → Geometry) (n : ℕ) (sessions : List SessionPlan) (notes : List Note)
+    → length (ends_by sizes n sessions notes) ≡ length sessions
 length-ends sizes n [] notes = refl
 length-ends sizes n (s ∷ sessions) notes = ap suc (length-ends sizes (n + 1) sessions notes)
 
 -- the lines of the devices
 devices_same : (first devices sessions : ℕ) (notes : List Note)
-    → flat_map device_text (stats_by first devices sessions notes) ≡ flat_map (λ dev. device_line dev (reads_of dev (numbers_from 0 sessions) notes)) (numbers_from first devices)
+    → flat_map device_text (stats_by first devices sessions notes)
+    ≡ flat_map (λ dev. device_line dev (reads_of dev (numbers_from 0 sessions) notes)) (numbers_from first devices)
 devices_same first zero sessions notes = refl
 devices_same first (suc devices) sessions notes =
     ap (λ t. device_line first (reads_of first (numbers_from 0 sessions) notes) ++ t) (devices_same (first + 1) devices sessions notes)
@@ -117,18 +123,22 @@ end_line = rw zero_text refl
 -- the parts make the report
 pub report_made : (plan : PlanLines) (notes : List Note) (ends : List EndOfSession) (stats : List (ℕ × Stats)) (o0 o1 o2 o3 o4 o5 : List ℕ)
     → ends ≡ ends_by (geometry_in (plan_of plan) 0) 0 (boot_of plan).sessions notes → stats ≡ stats_by 0 (length plan.chips) (length plan.sessions) notes
-    → o0 ≡ [] → o1 ≡ o0 ++ heads_text → o2 ≡ o1 ++ flat_map (note_text 0) notes → o3 ≡ o2 ++ ended_texts 0 (boot_of plan).sessions ends → o4 ≡ o3 ++ flat_map device_text stats
+    → o0 ≡ [] → o1 ≡ o0 ++ heads_text → o2 ≡ o1 ++ flat_map (note_text 0) notes → o3 ≡ o2 ++ ended_texts 0 (boot_of plan).sessions ends
+    → o4 ≡ o3 ++ flat_map device_text stats
     → o5 ≡ o4 ++ end_text → o5 ≡ report_text (plan_of plan) ((notes ∷ []) ∷ [])
 report_made plan notes ends stats o0 o1 o2 o3 o4 o5 ended counted e0 e1 e2 e3 e4 e5 =
     let n : List ℕ = flat_map (note_text 0) notes in
     let s : List ℕ = session_lines (plan_of plan) 0 (boot_of plan).sessions (notes ∷ []) in
     let d : List ℕ = device_lines (plan_of plan) 0 (boot_of plan) notes in
     let sessions_are : ended_texts 0 (boot_of plan).sessions ends ≡ s =
-    ap (ended_texts 0 (boot_of plan).sessions) ended ∙ sessions_same (plan_of plan) 0 (boot_of plan).sessions notes (own_sessions plan.chips plan.payload plan.sessions) in
+    ap (ended_texts 0 (boot_of plan).sessions) ended ∙ sessions_same (plan_of plan) 0 (boot_of plan).sessions notes
+    (own_sessions plan.chips plan.payload plan.sessions) in
     let devices_are : flat_map device_text stats ≡ d =
     ap (flat_map device_text) counted ∙ devices_same 0 (length plan.chips) (length plan.sessions) notes
-    ∙ ap (λ m. flat_map (λ dev. device_line dev (reads_of dev (numbers_from 0 m) notes)) (numbers_from 0 (length plan.chips))) (sym (length-map plan.sessions (session_of plan.chips plan.payload)))
-    ∙ ap (λ m. flat_map (λ dev. device_line dev (reads_of dev (numbers_from 0 (length (boot_of plan).sessions)) notes)) (numbers_from 0 m)) (sym (length-parts_by 0 plan.chips)) in
+    ∙ ap (λ m. flat_map (λ dev. device_line dev (reads_of dev (numbers_from 0 m) notes)) (numbers_from 0 (length plan.chips)))
+    (sym (length-map plan.sessions (session_of plan.chips plan.payload)))
+    ∙ ap (λ m. flat_map (λ dev. device_line dev (reads_of dev (numbers_from 0 (length (boot_of plan).sessions)) notes)) (numbers_from 0 m))
+    (sym (length-parts_by 0 plan.chips)) in
     appended o0 o1 o2 o3 o4 o5 heads_text n (ended_texts 0 (boot_of plan).sessions ends) (flat_map device_text stats) end_text e0 e1 e2 e3 e4 e5
     ∙ ap (λ t. heads_text ++ n ++ t ++ flat_map device_text stats ++ end_text) sessions_are
     ∙ ap (λ t. heads_text ++ n ++ s ++ t ++ end_text) devices_are

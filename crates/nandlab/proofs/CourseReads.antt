@@ -30,7 +30,8 @@ use Rattle.nandlab.specs.Ends.{stats_of}
 use Rattle.nandlab.proofs.OpReads.{counted_once, nothing_more}
 use Rattle.nandlab.proofs.ReadSums.{answered_reads, begun_reads, none_in, nothing_read, reads_in, same_reads, with_reads}
 
-no_read_elsewhere : (partitions : Partitions) (dev k : ℕ) (op : Op) → chip_of partitions (device_of op) ≡ Some k → (chip_of partitions dev ≡ Some k → ⊥) → is_read_of dev op ≡ false
+no_read_elsewhere : (partitions : Partitions) (dev k : ℕ) (op : Op) → chip_of partitions (device_of op) ≡ Some k → (chip_of partitions dev ≡ Some k → ⊥)
+    → is_read_of dev op ≡ false
 no_read_elsewhere partitions dev k (Read d page) at other = ne_eqb d dev (λ e. other (ap (chip_of partitions) (sym e) ∙ at))
 no_read_elsewhere partitions dev k (Write d page body free) at other = refl
 no_read_elsewhere partitions dev k (RawRead d page) at other = refl
@@ -52,7 +53,8 @@ by_rest (Some c) dev = refl
 -- a chip at which an event came
 known_stays : {W : Type 0} (c : ChipRun W) (after : ChipState W) (answer : Answer) (known : Option Known) → c.known ≡ known → (dev : ℕ)
     → statistics_known (answered_by c after answer known).known dev ≡ statistics_known c.known dev
-known_stays c after answer None e dev = once (after_answers (c.attach_answers ++ answer ∷ []) (attach_path c.chip.geometry)) ∙ ap (λ k. statistics_known k dev) (sym e)
+known_stays c after answer None e dev = once (after_answers (c.attach_answers ++ answer ∷ []) (attach_path c.chip.geometry))
+    ∙ ap (λ k. statistics_known k dev) (sym e)
   where
     once : (path : Path Attaching) → statistics_known (known_once_over path) dev ≡ no_statistics
     once (Over attaching) = refl
@@ -113,11 +115,13 @@ module _ {W : Type 0} (model : FaultModel W) (boot : Boot) (starts : List (ChipS
       idle (Some s) = refl
 
   -- a course in which statistics and pending operations stay, and to whose notes such were added that are of no session
-  module _ (old new : Course W) (more : List Note) (counts : IsCounted old) (notes : new.notes ≡ old.notes ++ more) (quiet : (n : ℕ) → exchanges_of n more ≡ []) where
+  module _ (old new : Course W) (more : List Note) (counts : IsCounted old) (notes : new.notes ≡ old.notes ++ more)
+      (quiet : (n : ℕ) → exchanges_of n more ≡ []) where
     stays_counted : ((k dev : ℕ) → statistics_on (slice_get new.chips k) dev ≡ statistics_on (slice_get old.chips k) dev)
         → ((k : ℕ) (x : ℕ × Op) → asked_at new.chips k ≡ Some x → asked_at old.chips k ≡ Some x) → IsCounted new
     stays_counted same asks = record {
-      sums = λ dev. by_chip dev (chip_of boot.partitions dev) ∙ counts.sums dev ∙ ap stats_of (sym (same_reads dev numbers old.notes more quiet)) ∙ ap (counted dev) (sym notes);
+      sums = λ dev. by_chip dev (chip_of boot.partitions dev) ∙ counts.sums dev ∙ ap stats_of (sym (same_reads dev numbers old.notes more quiet))
+          ∙ ap (counted dev) (sym notes);
       own = λ k x h. counts.own k x (asks k x h);
     }
       where
@@ -127,13 +131,15 @@ module _ {W : Type 0} (model : FaultModel W) (boot : Boot) (starts : List (ChipS
 
   -- an event on chip k, which makes this of it
   module _ (course : Course W) (k : ℕ) (c now : ChipRun W) (at : slice_get (with_flips_before model boot (course.events + 1) course.chips) k ≡ Some c)
-      (same_statistics : (dev : ℕ) → statistics_known now.known dev ≡ statistics_known c.known dev) (same_pending : (x : ℕ × Op) → asked_by now.pending ≡ Some x → asked_by c.pending ≡ Some x) where
+      (same_statistics : (dev : ℕ) → statistics_known now.known dev ≡ statistics_known c.known dev)
+      (same_pending : (x : ℕ × Op) → asked_by now.pending ≡ Some x → asked_by c.pending ≡ Some x) where
     abbrev due : List (ChipRun W)
     due = with_flips_before model boot (course.events + 1) course.chips
 
     due_statistics : (j dev : ℕ) → statistics_on (slice_get due j) dev ≡ statistics_on (slice_get course.chips j) dev
     due_statistics j dev =
-        by_rest (slice_get due j) dev ∙ ap (λ r. statistics_by r dev) (due_rest model boot starts course.chips (course.events + 1) j) ∙ sym (by_rest (slice_get course.chips j) dev)
+        by_rest (slice_get due j) dev ∙ ap (λ r. statistics_by r dev) (due_rest model boot starts course.chips (course.events + 1) j)
+        ∙ sym (by_rest (slice_get course.chips j) dev)
 
     event_statistics : (j dev : ℕ) → statistics_on (slice_get (change_at due k (λ old. now)) j) dev ≡ statistics_on (slice_get course.chips j) dev
     event_statistics j dev = by_case (cases_eq k j)
@@ -152,10 +158,12 @@ module _ {W : Type 0} (model : FaultModel W) (boot : Boot) (starts : List (ChipS
         by_case : (k ≡ j) ⊎ (k ≡ j → ⊥) → asked_at due j ≡ Some x
         by_case (inl e) =
             ap (asked_at due) (sym e) ∙ ap asked_on at
-            ∙ same_pending x (sym (ap asked_on (change_here due k (λ old. now) ∙ ap (option_map (λ old. now)) at)) ∙ ap (asked_at (change_at due k (λ old. now))) e ∙ h)
+            ∙ same_pending x (sym (ap asked_on (change_here due k (λ old. now) ∙ ap (option_map (λ old. now)) at))
+            ∙ ap (asked_at (change_at due k (λ old. now))) e ∙ h)
         by_case (inr d) = sym (ap asked_on (change_elsewhere due k j (λ old. now) d)) ∙ h
 
-  event_counted : (course : Course W) (k : ℕ) (e : PageEvent) → IsCounted course → (o : Option (ChipRun W)) → slice_get (with_flips_before model boot (course.events + 1) course.chips) k ≡ o
+  event_counted : (course : Course W) (k : ℕ) (e : PageEvent) → IsCounted course → (o : Option (ChipRun W))
+      → slice_get (with_flips_before model boot (course.events + 1) course.chips) k ≡ o
       → IsCounted (event_on model boot course (with_flips_before model boot (course.events + 1) course.chips) k o e)
   event_counted course k e counts None at = counts
   event_counted course k e counts (Some c) at = by_tear (tear_at boot.cut (course.events + 1))
@@ -174,7 +182,8 @@ module _ {W : Type 0} (model : FaultModel W) (boot : Boot) (starts : List (ChipS
           let told : List Note = notes_of_advance model k n c e in
           let attached : List Note = attach_notes_by k now c.known in
           stays_counted course (event_done model boot course due_chips k n c e None) (told ++ attached) counts (append_assoc course.notes told attached)
-          (λ session. exchanges-append session told attached ∙ ap (λ xs. xs ++ exchanges_of session attached) (torn_exchanges session (is_failure answer) k n false c.chip e after)
+          (λ session. exchanges-append session told attached
+          ∙ ap (λ xs. xs ++ exchanges_of session attached) (torn_exchanges session (is_failure answer) k n false c.chip e after)
           ∙ attach_exchanges session k now c.known)
           (event_statistics course k c now at (known_stays c after answer c.known refl) (pending_stays c after answer c.known))
           (event_asked course k c now at (known_stays c after answer c.known refl) (pending_stays c after answer c.known))
@@ -184,14 +193,18 @@ module _ {W : Type 0} (model : FaultModel W) (boot : Boot) (starts : List (ChipS
           let after : ChipState W = happens model c.chip (PowerCut e done) in
           stays_counted course (event_done model boot course due_chips k n c e (Some tear)) (notes_of_cut model k n c e done) counts refl
           (λ session. torn_exchanges session true k n true c.chip e after)
-          (event_statistics course k c now at (λ dev. ap (λ o. statistics_known o dev) (torn_known c after c.known)) (λ x h. ap asked_by (sym (torn_pending c after c.known)) ∙ h))
-          (event_asked course k c now at (λ dev. ap (λ o. statistics_known o dev) (torn_known c after c.known)) (λ x h. ap asked_by (sym (torn_pending c after c.known)) ∙ h))
+          (event_statistics course k c now at (λ dev. ap (λ o. statistics_known o dev) (torn_known c after c.known))
+          (λ x h. ap asked_by (sym (torn_pending c after c.known)) ∙ h))
+          (event_asked course k c now at (λ dev. ap (λ o. statistics_known o dev) (torn_known c after c.known))
+          (λ x h. ap asked_by (sym (torn_pending c after c.known)) ∙ h))
 
   -- the numbers name each session of the boot once
   module _ (once : (session : ℕ) (commands : List Command) → Contains boot.sessions (session, commands) → count_by (λ n. n == session) numbers ≡ 1) where
     -- the operation pending on chip k is answered
-    module _ (course : Course W) (k : ℕ) (c : ChipRun W) (known : Known) (pending : Pending) (finished : Finished) (counts : IsCounted course) (live : IsLive model boot starts course)
-        (at : slice_get course.chips k ≡ Some c) (knows : c.known ≡ Some known) (asks : c.pending ≡ Some pending) (over : finished_by boot.partitions c known pending ≡ Some finished) where
+    module _ (course : Course W) (k : ℕ) (c : ChipRun W) (known : Known) (pending : Pending) (finished : Finished) (counts : IsCounted course)
+        (live : IsLive model boot starts course)
+        (at : slice_get course.chips k ≡ Some c) (knows : c.known ≡ Some known) (asks : c.pending ≡ Some pending)
+        (over : finished_by boot.partitions c known pending ≡ Some finished) where
       abbrev next : Course W
       next = finish (sizes_of boot starts) course k c pending.session (Some finished)
 
@@ -204,25 +217,31 @@ module _ {W : Type 0} (model : FaultModel W) (boot : Boot) (starts : List (ChipS
           let is_open : law.open_op ≡ Some pending.op = (law.from k pending.op is_asked).1 in
           let asker = law.asker pending.op is_open in
           let own = law.is_own asker.0 asker.1 in
-          answered_reads dev numbers course.notes pending.session pending.op finished.reply law.past (law.are ∙ ap (λ o. law.past ++ asked o) is_open) (once pending.session own.0 own.1)
+          answered_reads dev numbers course.notes pending.session pending.op finished.reply law.past (law.are ∙ ap (λ o. law.past ++ asked o) is_open)
+          (once pending.session own.0 own.1)
 
       unread : (dev : ℕ) → (chip_of boot.partitions dev ≡ Some k → ⊥) → counted dev course.notes ≡ counted dev next.notes
       unread dev other =
           nothing_more (counted dev course.notes)
-          ∙ ap (with_reads (counted dev course.notes)) (sym (none_in dev pending.op finished.reply (no_read_elsewhere boot.partitions dev k pending.op (counts.own k (pending.session, pending.op) is_asked) other)))
+          ∙ ap (with_reads (counted dev course.notes)) (sym
+          (none_in dev pending.op finished.reply (no_read_elsewhere boot.partitions dev k pending.op (counts.own k (pending.session, pending.op) is_asked)
+          other)))
           ∙ sym (grown dev)
 
-      answer_sums : (dev : ℕ) (o : Option ℕ) → chip_of boot.partitions dev ≡ o → statistics_at course o dev ≡ counted dev course.notes → statistics_at next o dev ≡ counted dev next.notes
+      answer_sums : (dev : ℕ) (o : Option ℕ) → chip_of boot.partitions dev ≡ o → statistics_at course o dev ≡ counted dev course.notes
+          → statistics_at next o dev ≡ counted dev next.notes
       answer_sums dev None of_chip sum = sum ∙ unread dev (λ e. none-some k (sym of_chip ∙ e))
       answer_sums dev (Some j) of_chip sum = by_case (cases_eq k j)
         where
           by_case : (k ≡ j) ⊎ (k ≡ j → ⊥) → statistics_on (slice_get next.chips j) dev ≡ counted dev next.notes
           by_case (inl e) =
               ap (λ i. statistics_on (slice_get next.chips i) dev) (sym e)
-              ∙ ap (λ o. statistics_on o dev) (change_here course.chips k (λ old. with_finished c finished) ∙ ap (option_map (λ old. with_finished c finished)) at)
+              ∙ ap (λ o. statistics_on o dev) (change_here course.chips k (λ old. with_finished c finished)
+              ∙ ap (option_map (λ old. with_finished c finished)) at)
               ∙ counted_once c.chip.geometry known boot.partitions dev pending.op pending.answers finished over
               ∙ ap (λ s. with_reads s (reads_in dev pending.op finished.reply))
-              (ap (λ o. statistics_known o dev) (sym knows) ∙ ap (λ o. statistics_on o dev) (sym at) ∙ ap (λ i. statistics_on (slice_get course.chips i) dev) e ∙ sum)
+              (ap (λ o. statistics_known o dev) (sym knows) ∙ ap (λ o. statistics_on o dev) (sym at)
+              ∙ ap (λ i. statistics_on (slice_get course.chips i) dev) e ∙ sum)
               ∙ sym (grown dev)
           by_case (inr d) =
               ap (λ o. statistics_on o dev) (change_elsewhere course.chips k j (λ old. with_finished c finished) d)
@@ -233,20 +252,25 @@ module _ {W : Type 0} (model : FaultModel W) (boot : Boot) (starts : List (ChipS
         where
           by_case : (k ≡ j) ⊎ (k ≡ j → ⊥) → chip_of boot.partitions (device_of x.1) ≡ Some j
           by_case (inl e) =
-              absurd (none-some x (sym (ap asked_on (change_here course.chips k (λ old. with_finished c finished) ∙ ap (option_map (λ old. with_finished c finished)) at)) ∙ ap (asked_at next.chips) e ∙ h))
+              absurd (none-some x (sym
+              (ap asked_on (change_here course.chips k (λ old. with_finished c finished) ∙ ap (option_map (λ old. with_finished c finished)) at))
+              ∙ ap (asked_at next.chips) e ∙ h))
           by_case (inr d) = counts.own j x (sym (ap asked_on (change_elsewhere course.chips k j (λ old. with_finished c finished) d)) ∙ h)
 
       answer_counted : IsCounted next
       answer_counted = record { sums = λ dev. answer_sums dev (chip_of boot.partitions dev) refl (counts.sums dev); own = answer_own }
 
     finish_counted : (course : Course W) (k : ℕ) (c : ChipRun W) → IsCounted course → IsLive model boot starts course → slice_get course.chips k ≡ Some c
-        → (known : Known) (pending : Pending) → c.known ≡ Some known → c.pending ≡ Some pending → (o : Option Finished) → finished_by boot.partitions c known pending ≡ o
+        → (known : Known) (pending : Pending) → c.known ≡ Some known → c.pending ≡ Some pending → (o : Option Finished)
+        → finished_by boot.partitions c known pending ≡ o
         → IsCounted (finish (sizes_of boot starts) course k c pending.session o)
     finish_counted course k c counts live at known pending knows asks None over = counts
-    finish_counted course k c counts live at known pending knows asks (Some finished) over = answer_counted course k c known pending finished counts live at knows asks over
+    finish_counted course k c counts live at known pending knows asks (Some finished) over =
+        answer_counted course k c known pending finished counts live at knows asks over
 
     reply_counted : (course : Course W) (k : ℕ) (c : ChipRun W) → IsCounted course → IsLive model boot starts course → slice_get course.chips k ≡ Some c
-        → (known : Option Known) (pending : Option Pending) → c.known ≡ known → c.pending ≡ pending → IsCounted (with_answer boot.partitions (sizes_of boot starts) course k c known pending)
+        → (known : Option Known) (pending : Option Pending) → c.known ≡ known → c.pending ≡ pending
+        → IsCounted (with_answer boot.partitions (sizes_of boot starts) course k c known pending)
     reply_counted course k c counts live at None pending knows asks = counts
     reply_counted course k c counts live at (Some known) None knows asks = counts
     reply_counted course k c counts live at (Some known) (Some pending) knows asks =
@@ -261,12 +285,14 @@ module _ {W : Type 0} (model : FaultModel W) (boot : Boot) (starts : List (ChipS
         by_event None = reply_counted course k c counts live at c.known c.pending refl refl
         by_event (Some e) = event_counted course k e counts (slice_get (with_flips_before model boot (course.events + 1) course.chips) k) refl
 
-    first_counted : (course : Course W) → IsCounted course → IsLive model boot starts course → (o : Option ℕ) → IsCounted (attach_first model boot (sizes_of boot starts) course o)
+    first_counted : (course : Course W) → IsCounted course → IsLive model boot starts course → (o : Option ℕ)
+        → IsCounted (attach_first model boot (sizes_of boot starts) course o)
     first_counted course counts live None = counts
     first_counted course counts live (Some k) = chip_counted course k counts live (slice_get course.chips k) refl
 
     -- an operation begins
-    began_counted : (course : Course W) (session k : ℕ) (op : Op) → IsCounted course → chip_of boot.partitions (device_of op) ≡ Some k → IsCounted (began course session k op)
+    began_counted : (course : Course W) (session k : ℕ) (op : Op) → IsCounted course → chip_of boot.partitions (device_of op) ≡ Some k
+        → IsCounted (began course session k op)
     began_counted course session k op counts of_chip = record {
       sums = λ dev. by_chip dev (chip_of boot.partitions dev) ∙ counts.sums dev ∙ ap stats_of (sym (begun_reads dev numbers course.notes session op));
       own = λ j x h. by_place j x h (cases_eq k j);
@@ -289,14 +315,17 @@ module _ {W : Type 0} (model : FaultModel W) (boot : Boot) (starts : List (ChipS
           where
             by_case : (k ≡ j) ⊎ (k ≡ j → ⊥) → statistics_on (slice_get (change_at course.chips k begin) j) dev ≡ statistics_on (slice_get course.chips j) dev
             by_case (inl e) =
-                ap (λ i. statistics_on (slice_get (change_at course.chips k begin) i) dev) (sym e) ∙ ap (λ o. statistics_on o dev) (change_here course.chips k begin)
+                ap (λ i. statistics_on (slice_get (change_at course.chips k begin) i) dev) (sym e)
+                ∙ ap (λ o. statistics_on o dev) (change_here course.chips k begin)
                 ∙ begun_statistics (slice_get course.chips k) dev ∙ ap (λ i. statistics_on (slice_get course.chips i) dev) e
             by_case (inr d) = ap (λ o. statistics_on o dev) (change_elsewhere course.chips k j begin d)
 
-        by_place : (j : ℕ) (x : ℕ × Op) → asked_at (change_at course.chips k begin) j ≡ Some x → (k ≡ j) ⊎ (k ≡ j → ⊥) → chip_of boot.partitions (device_of x.1) ≡ Some j
+        by_place : (j : ℕ) (x : ℕ × Op) → asked_at (change_at course.chips k begin) j ≡ Some x → (k ≡ j) ⊎ (k ≡ j → ⊥)
+            → chip_of boot.partitions (device_of x.1) ≡ Some j
         by_place j x h (inl e) =
             ap (λ (y : ℕ × Op). chip_of boot.partitions (device_of y.1))
-            (sym (begun_asked (slice_get course.chips k) x (sym (ap asked_on (change_here course.chips k begin)) ∙ ap (asked_at (change_at course.chips k begin)) e ∙ h)))
+            (sym (begun_asked (slice_get course.chips k) x
+            (sym (ap asked_on (change_here course.chips k begin)) ∙ ap (asked_at (change_at course.chips k begin)) e ∙ h)))
             ∙ of_chip ∙ ap Some e
         by_place j x h (inr d) = counts.own j x (sym (ap asked_on (change_elsewhere course.chips k j begin d)) ∙ h)
 
@@ -316,18 +345,22 @@ module _ {W : Type 0} (model : FaultModel W) (boot : Boot) (starts : List (ChipS
         by_chip None of_chip = counts
         by_chip (Some k) of_chip = by_run k of_chip (slice_get course.chips k)
 
-    session_counted : (course : Course W) (session : ℕ) → IsCounted course → IsLive model boot starts course → (o : Option ℕ) → IsCounted (session_step model boot (sizes_of boot starts) course session o)
+    session_counted : (course : Course W) (session : ℕ) → IsCounted course → IsLive model boot starts course → (o : Option ℕ)
+        → IsCounted (session_step model boot (sizes_of boot starts) course session o)
     session_counted course session counts live (Some k) = chip_counted course k counts live (slice_get course.chips k) refl
     session_counted course session counts live None = begin_counted course session counts (next_op (sizes_of boot starts) (session_run course session))
 
     -- a step of the course
-    attach_counted : (course : Course W) → Holds model boot starts course → IsCounted course → IsCounted (attach_step model boot (sizes_of boot starts) course)
+    attach_counted : (course : Course W) → Holds model boot starts course → IsCounted course
+        → IsCounted (attach_step model boot (sizes_of boot starts) course)
     attach_counted course (inl live) counts =
-        subst (λ b. IsCounted (if b then course else attach_first model boot (sizes_of boot starts) course (unattached course))) (sym live.lit) (first_counted course counts live (unattached course))
+        subst (λ b. IsCounted (if b then course else attach_first model boot (sizes_of boot starts) course (unattached course))) (sym live.lit)
+        (first_counted course counts live (unattached course))
     attach_counted course (inr cut) counts =
         subst (λ b. IsCounted (if b then course else attach_first model boot (sizes_of boot starts) course (unattached course))) (sym cut.dark) counts
 
-    turn_counted : (course : Course W) (session : ℕ) → Holds model boot starts course → IsCounted course → IsCounted (turn_step model boot (sizes_of boot starts) course session)
+    turn_counted : (course : Course W) (session : ℕ) → Holds model boot starts course → IsCounted course
+        → IsCounted (turn_step model boot (sizes_of boot starts) course session)
     turn_counted course session holds counts = by_idle (is_idle boot.partitions (sizes_of boot starts) course session) refl holds
       where
         by_idle : (idle : Bool) → is_idle boot.partitions (sizes_of boot starts) course session ≡ idle → Holds model boot starts course
@@ -340,16 +373,20 @@ module _ {W : Type 0} (model : FaultModel W) (boot : Boot) (starts : List (ChipS
         → Holds model boot starts (attach_steps model boot starts n course) × IsCounted (attach_steps model boot starts n course)
     attaches_counted zero course holds counts = (holds, counts)
     attaches_counted (suc n) course holds counts =
-        attaches_counted n (attach_step model boot (sizes_of boot starts) course) (attach_step_holds model boot starts course holds) (attach_counted course holds counts)
+        attaches_counted n (attach_step model boot (sizes_of boot starts) course) (attach_step_holds model boot starts course holds)
+        (attach_counted course holds counts)
 
-    turns_counted : (turns : List ℕ) (course : Course W) → Holds model boot starts course → IsCounted course → IsCounted (turns_taken model boot starts turns course)
+    turns_counted : (turns : List ℕ) (course : Course W) → Holds model boot starts course → IsCounted course
+        → IsCounted (turns_taken model boot starts turns course)
     turns_counted [] course holds counts = counts
     turns_counted (session ∷ turns) course holds counts =
-        turns_counted turns (turn_step model boot (sizes_of boot starts) course session) (turn_step_holds model boot starts course session holds) (turn_counted course session holds counts)
+        turns_counted turns (turn_step model boot (sizes_of boot starts) course session) (turn_step_holds model boot starts course session holds)
+        (turn_counted course session holds counts)
 
     -- the statistics of a device in a course are what its answered reads add up to
     pub statistics_are_reads : (attaches : ℕ) (turns : List ℕ) (dev : ℕ)
-        → statistics_at (course_after model boot starts attaches turns) (chip_of boot.partitions dev) dev ≡ stats_of (reads_of dev numbers (course_after model boot starts attaches turns).notes)
+        → statistics_at (course_after model boot starts attaches turns) (chip_of boot.partitions dev) dev
+        ≡ stats_of (reads_of dev numbers (course_after model boot starts attaches turns).notes)
     statistics_are_reads attaches turns =
         let attached = attaches_counted attaches (start_of_boot boot starts) (inl (start_holds model boot starts)) start_counted in
         (turns_counted turns (attach_steps model boot starts attaches (start_of_boot boot starts)) attached.0 attached.1).sums

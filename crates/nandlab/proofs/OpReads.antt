@@ -29,7 +29,8 @@ abbrev Ends : {A : Type 0} → (A → Type 0) → Path A → Type 0
 Ends P (Over result) = P result
 Ends P (Then event rest) = (a : Answer) → Ends P (rest a)
 
-ended : {A : Type 0} (P : A → Type 0) (path : Path A) → Ends P path → (answers : List Answer) (result : A) → result_of (after_answers answers path) ≡ Some result → P result
+ended : {A : Type 0} (P : A → Type 0) (path : Path A) → Ends P path → (answers : List Answer) (result : A)
+    → result_of (after_answers answers path) ≡ Some result → P result
 ended P (Over r) h [] result e = subst P (same_Some r result e) h
 ended P (Over r) h (a ∷ answers) result e = subst P (same_Some r result e) h
 ended P (Then event rest) h [] result e = absurd (none-some result e)
@@ -43,7 +44,8 @@ either_ends : {A : Type 0} (P : A → Type 0) (b : Bool) (one other : Unit {0} �
 either_ends P true one other h k = h
 either_ends P false one other h k = k
 
-copy_ends : {A : Type 0} (P : A → Type 0) (g : Geometry) (block : ℕ) (image : Unit {0} → List ℕ) (rest : Bool → Path A) → ((b : Bool) → Ends P (rest b)) → Ends P (write_copy g block image rest)
+copy_ends : {A : Type 0} (P : A → Type 0) (g : Geometry) (block : ℕ) (image : Unit {0} → List ℕ) (rest : Bool → Path A) → ((b : Bool) → Ends P (rest b))
+    → Ends P (write_copy g block image rest)
 copy_ends {A} P g block image rest h = λ erased.
     let programs : Unit {0} → Path A = λ u. Then (ProgramEvent (first_page g block) (image tt)) (λ programmed. rest (is_good programmed)) in
     either_ends P (is_good erased) programs (λ u. rest false) (λ programmed. h (is_good programmed)) (h false)
@@ -96,7 +98,8 @@ module _ (g : Geometry) (k : Known) (part : Part) where
 
   still : (dev : ℕ) (op : Op) → is_read_of dev op ≡ false → (path : Path Finished) → Ends Stays path → Ends (Counts dev op) path
   still dev op no_read path h = weaker Stays (Counts dev op) (λ finished same.
-      ap (λ (f : ℕ → Statistics). f dev) same ∙ nothing_more (k.statistics dev) ∙ ap (with_reads (k.statistics dev)) (sym (none_in dev op finished.reply no_read))) path h
+      ap (λ (f : ℕ → Statistics). f dev) same ∙ nothing_more (k.statistics dev)
+      ∙ ap (with_reads (k.statistics dev)) (sym (none_in dev op finished.reply no_read))) path h
 
   decoded_counts : (dev d page : ℕ) (seen : Decoding) → Counts dev (Read d page) (after_read g k d seen)
   decoded_counts dev d page seen = by_case (cases_eq dev d)
@@ -132,12 +135,14 @@ module _ (g : Geometry) (k : Known) (part : Part) where
       let reads : Unit {0} → Path Finished = λ u. Then (ReadEvent (chip_page g part page)) (λ seen. answer k (raw_reply (cells_of seen))) in
       still dev (RawRead d page) refl (operation_in g k part (RawRead d page)) (unless (has_page g part page) OutOfRange reads (λ seen. refl))
   operation_counts dev (Write d page body free) =
-      let programs : Unit {0} → Path Finished = λ u. Then (ProgramEvent (chip_page g part page) (page_image g body free)) (λ outcome. answer k (done_or ProgramFailed outcome)) in
+      let programs : Unit {0} → Path Finished = λ u. Then (ProgramEvent (chip_page g part page) (page_image g body free))
+      (λ outcome. answer k (done_or ProgramFailed outcome)) in
       let good : Bool = is_good_block k (chip_block part (page / g.pages_per_block)) in
       still dev (Write d page body free) refl (operation_in g k part (Write d page body free))
       (unless (has_page g part page) OutOfRange (λ u. only_if good k BadBlock programs) (unless good BadBlock programs (λ outcome. refl)))
   operation_counts dev (RawWrite d page image) =
-      let programs : Unit {0} → Path Finished = λ u. Then (ProgramEvent (chip_page g part page) image) (λ outcome. answer k (done_or ProgramFailed outcome)) in
+      let programs : Unit {0} → Path Finished = λ u. Then (ProgramEvent (chip_page g part page) image)
+      (λ outcome. answer k (done_or ProgramFailed outcome)) in
       let good : Bool = is_good_block k (chip_block part (page / g.pages_per_block)) in
       let marked : Unit {0} → Path Finished = λ u. only_if (slice_index image g.page == 0xff) k MarkerByte programs in
       still dev (RawWrite d page image) refl (operation_in g k part (RawWrite d page image))
@@ -157,7 +162,8 @@ module _ (g : Geometry) (k : Known) (part : Part) where
   operation_counts dev (Stats d) = still dev (Stats d) refl (operation_in g k part (Stats d)) refl
 
 module _ (g : Geometry) (k : Known) where
-  by_part : (part : Option Part) (dev : ℕ) (op : Op) → Ends (λ (f : Finished). f.known.statistics dev ≡ with_reads (k.statistics dev) (reads_in dev op f.reply)) (operation_by g k part op)
+  by_part : (part : Option Part) (dev : ℕ) (op : Op) → Ends
+      (λ (f : Finished). f.known.statistics dev ≡ with_reads (k.statistics dev) (reads_in dev op f.reply)) (operation_by g k part op)
   by_part None dev op = nothing_more (k.statistics dev)
   by_part (Some part) dev op = operation_counts g k part dev op
 

@@ -52,7 +52,8 @@ plain_new chip = record { without_tables = sizes_plain (chip.blocks == 16) (chip
 
 plain_all : (chips : List ChipLines) → All (IsPlain {W = SimFaults}) (new_chips (map chip_of chips))
 plain_all [] = All-nil (IsPlain {W = SimFaults})
-plain_all (chip ∷ chips) = All-cons (IsPlain {W = SimFaults}) (new_chip (geometry_of chip) [] []) (new_chips (map chip_of chips)) (plain_new chip) (plain_all chips)
+plain_all (chip ∷ chips) = All-cons (IsPlain {W = SimFaults}) (new_chip (geometry_of chip) [] []) (new_chips (map chip_of chips)) (plain_new chip)
+    (plain_all chips)
 
 -- the controller of a plan can be started
 pub can_start : (plan : PlanLines) → IsReady plan → CanStart (the_boot plan) (the_chips plan)
@@ -111,7 +112,8 @@ module _ (plan : PlanLines) (notes : List Note) (complete : AreComplete (the_boo
       after : SessionRun
       after = session_after sizes (without_finished sizes n commands [] []) (exchanges_of n notes)
 
-      first : end_by_notes (the_boot plan) (the_chips plan) notes (n, commands) ≡ record { session = n; cut = not (is_finished after.commands); outcomes = after.outcomes }
+      first : end_by_notes (the_boot plan) (the_chips plan) notes (n, commands)
+          ≡ record { session = n; cut = not (is_finished after.commands); outcomes = after.outcomes }
       first = λ i. record {
         session = (number_after sizes (without_finished sizes n commands [] []) (exchanges_of n notes) ∙ number_stays sizes n commands [] []) i;
         cut = not (sym (complete n commands (here (n, commands) (0, omega arith, refl))) i);
@@ -155,16 +157,20 @@ number_within m (suc n) zero s h = let same : m ≡ s = same_Some m s h in (omeg
 number_within m (suc n) (suc k) s h = let later = number_within (m + 1) n k s h in (omega (arith, later.0), omega (arith, later.1))
 
 -- the numbers of a plan's sessions name each of them once
-once : (plan : PlanLines) (session : ℕ) (commands : List Command) → Contains (the_boot plan).sessions (session, commands) → count_by (λ n. n == session) (numbers_from 0 (length plan.sessions)) ≡ 1
+once : (plan : PlanLines) (session : ℕ) (commands : List Command) → Contains (the_boot plan).sessions (session, commands)
+    → count_by (λ n. n == session) (numbers_from 0 (length plan.sessions)) ≡ 1
 once plan session commands has =
-    let at : slice_get (the_boot plan).sessions has.0 ≡ Some (session, commands) = slice_get-get_or (the_boot plan).sessions has.0 (session, commands) has.1 ∙ ap Some has.2 in
+    let at : slice_get (the_boot plan).sessions has.0 ≡ Some (session, commands) = slice_get-get_or (the_boot plan).sessions has.0 (session, commands) has.1
+    ∙ ap Some has.2 in
     let number : slice_get (numbers_from 0 (length plan.sessions)) has.0 ≡ Some session =
-    ap (λ numbers. slice_get numbers has.0) (sym (numbered plan)) ∙ slice_get-map (λ (s : ℕ × List Command). s.0) (the_boot plan).sessions has.0 ∙ ap (option_map (λ (s : ℕ × List Command). s.0)) at in
+    ap (λ numbers. slice_get numbers has.0) (sym (numbered plan)) ∙ slice_get-map (λ (s : ℕ × List Command). s.0) (the_boot plan).sessions has.0
+    ∙ ap (option_map (λ (s : ℕ × List Command). s.0)) at in
     let within = number_within 0 (length plan.sessions) has.0 session number in
     stands_once session 0 (length plan.sessions) within.0 within.1
 
 -- what the run of a plan leaves
-module _ (plan : PlanLines) (notes : List Note) (ends : List EndOfSession) (stats : List (ℕ × Stats)) (legal : IsPlan plan) (ready : IsReady plan) (run : EndsRun plan notes ends stats) where
+module _ (plan : PlanLines) (notes : List Note) (ends : List EndOfSession) (stats : List (ℕ × Stats)) (legal : IsPlan plan) (ready : IsReady plan)
+    (run : EndsRun plan notes ends stats) where
   one : HaveOneNumberEach (the_boot plan).sessions
   one = one_number_each (the_boot plan).sessions ready.ascending
 
@@ -174,16 +180,20 @@ module _ (plan : PlanLines) (notes : List Note) (ends : List EndOfSession) (stat
   complete_notes : AreComplete (the_boot plan) (the_chips plan) run.course.notes
   complete_notes =
       subst (λ (course : Course SimFaults). AreComplete (the_boot plan) (the_chips plan) course.notes) (sym run.replayed.steps)
-      ((faithful sim_faults (the_boot plan) (the_chips plan) run.replayed.attaches turns).complete one (ap is_over (sym run.replayed.steps) ∙ run.replayed.over)
+      ((faithful sim_faults (the_boot plan) (the_chips plan) run.replayed.attaches turns).complete one
+      (ap is_over (sym run.replayed.steps) ∙ run.replayed.over)
       (ap (λ (course : Course SimFaults). course.dark) (sym run.replayed.steps) ∙ run.lit))
 
   -- how the sessions ended
   pub run_ends : ends ≡ ends_by (geometry_in (plan_of plan) 0) 0 (boot_of plan).sessions notes
-  run_ends = run.ends_are ∙ ends_are plan run.course.notes complete_notes ∙ ap (ends_by (geometry_in (plan_of plan) 0) 0 (boot_of plan).sessions) (sym run.notes_are)
+  run_ends = run.ends_are ∙ ends_are plan run.course.notes complete_notes
+      ∙ ap (ends_by (geometry_in (plan_of plan) 0) 0 (boot_of plan).sessions) (sym run.notes_are)
 
-  sums : (dev : ℕ) → statistics_at run.course (chip_of_device (the_boot plan).partitions dev) dev ≡ stats_of (reads_of dev (numbers_from 0 (length plan.sessions)) run.course.notes)
+  sums : (dev : ℕ) → statistics_at run.course (chip_of_device (the_boot plan).partitions dev) dev
+      ≡ stats_of (reads_of dev (numbers_from 0 (length plan.sessions)) run.course.notes)
   sums dev =
-      subst (λ (course : Course SimFaults). statistics_at course (chip_of_device (the_boot plan).partitions dev) dev ≡ stats_of (reads_of dev (numbers_from 0 (length plan.sessions)) course.notes)) (sym run.replayed.steps)
+      subst (λ (course : Course SimFaults). statistics_at course (chip_of_device (the_boot plan).partitions dev) dev
+      ≡ stats_of (reads_of dev (numbers_from 0 (length plan.sessions)) course.notes)) (sym run.replayed.steps)
       (statistics_are_reads sim_faults (the_boot plan) (the_chips plan) (numbers_from 0 (length plan.sessions)) (once plan) run.replayed.attaches turns dev)
 
   -- what the devices counted
@@ -197,7 +207,8 @@ module _ (plan : PlanLines) (notes : List Note) (ends : List EndOfSession) (stat
   as_replayed course replay = record {
     attaches = replay.whole.attaches;
     rounds = replay.rounds;
-    steps = replay.whole.steps ∙ ap (course_after sim_faults (the_boot plan) (the_chips plan) replay.whole.attaches) (replay_turns-rounds plan replay.rounds legal.schedule);
+    steps = replay.whole.steps ∙ ap (course_after sim_faults (the_boot plan) (the_chips plan) replay.whole.attaches)
+        (replay_turns-rounds plan replay.rounds legal.schedule);
     over = replay.whole.over;
   }
 
@@ -206,7 +217,8 @@ module _ (plan : PlanLines) (notes : List Note) (ends : List EndOfSession) (stat
     rounds = run.replayed.rounds;
     whole = record {
       attaches = run.replayed.attaches;
-      steps = run.replayed.steps ∙ ap (course_after sim_faults (the_boot plan) (the_chips plan) run.replayed.attaches) (sym (replay_turns-rounds plan run.replayed.rounds legal.schedule));
+      steps = run.replayed.steps ∙ ap (course_after sim_faults (the_boot plan) (the_chips plan) run.replayed.attaches)
+          (sym (replay_turns-rounds plan run.replayed.rounds legal.schedule));
       over = run.replayed.over;
     };
   }
@@ -230,18 +242,21 @@ module _ (plan : PlanLines) (notes : List Note) (ends : List EndOfSession) (stat
   run_report text printed = record {
     course = run.course;
     replay = is_replay;
-    only = λ other replay. replayed_once sim_faults (the_boot plan) (the_chips plan) one plan.schedule run.course other run.replayed (as_replayed other replay);
+    only = λ other replay. replayed_once sim_faults (the_boot plan) (the_chips plan) one plan.schedule run.course other run.replayed
+        (as_replayed other replay);
     history = is_history;
     printed = printed ∙ ap (λ ns. report_text (plan_of plan) ((ns ∷ []) ∷ [])) run.notes_are;
   }
 
 -- one more new chip
-pub one_flash_more : {A : Type 0} (state : A → ChipState SimFaults) (flashes : List A) (flash : A) (chips : List ChipLines) (n : ℕ) (chip : ChipLines) → slice_get chips n ≡ Some chip
+pub one_flash_more : {A : Type 0} (state : A → ChipState SimFaults) (flashes : List A) (flash : A) (chips : List ChipLines) (n : ℕ) (chip : ChipLines)
+    → slice_get chips n ≡ Some chip
     → map state flashes ≡ new_chips (map chip_of (take n chips)) → state flash ≡ new_chip (geometry_of chip) [] []
     → map state (flashes ++ flash ∷ []) ≡ new_chips (map chip_of (take (n + 1) chips))
 one_flash_more state flashes flash chips n chip at so_far is =
     mapped_push state flashes flash ∙ ap (λ xs. xs ++ state flash ∷ []) so_far ∙ ap (λ s. new_chips (map chip_of (take n chips)) ++ s ∷ []) is
     ∙ sym (chips_push (take n chips) chip) ∙ ap (λ xs. new_chips (map chip_of xs)) (sym (take_next chips n chip at))
   where
-    chips_push : (xs : List ChipLines) (x : ChipLines) → new_chips (map chip_of (xs ++ x ∷ [])) ≡ new_chips (map chip_of xs) ++ new_chip (geometry_of x) [] [] ∷ []
+    chips_push : (xs : List ChipLines) (x : ChipLines) → new_chips (map chip_of (xs ++ x ∷ []))
+        ≡ new_chips (map chip_of xs) ++ new_chip (geometry_of x) [] [] ∷ []
     chips_push xs x = ap new_chips (mapped_push chip_of xs x) ∙ mapped_push (λ (c : ChipPlan). new_chip c.geometry c.bad c.weak) (map chip_of xs) (chip_of x)

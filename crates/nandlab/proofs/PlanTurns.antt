@@ -33,7 +33,8 @@ kept_numbers p m (suc n) h =
     ap (λ b. cond b (m ∷ filter p (numbers_from (m + 1) n)) (filter p (numbers_from (m + 1) n))) (h m (omega arith) (omega arith))
     ∙ ap (λ rest. m ∷ rest) (kept_numbers p (m + 1) n (λ s low high. h s (omega arith) (omega arith)))
 
-kept_rounds : (p : ℕ → Bool) (numbers : List ℕ) (rounds : ℕ) → filter p numbers ≡ numbers → filter p (concat (replicate rounds numbers)) ≡ concat (replicate rounds numbers)
+kept_rounds : (p : ℕ → Bool) (numbers : List ℕ) (rounds : ℕ) → filter p numbers ≡ numbers
+    → filter p (concat (replicate rounds numbers)) ≡ concat (replicate rounds numbers)
 kept_rounds p numbers zero h = refl
 kept_rounds p numbers (suc rounds) h =
     filter-append p numbers (concat (replicate rounds numbers)) ∙ ap (λ first. first ++ filter p (concat (replicate rounds numbers))) h
@@ -44,7 +45,8 @@ module _ (plan : PlanLines) where
   owned : (s : ℕ) → s < length plan.sessions → is_own (boot_of plan) 0 s ≡ true
   owned s there = by_place (slice_get_cases plan.sessions s).1
     where
-      by_place : ((x : List CommandLine) × (s < length plan.sessions) × (slice_get plan.sessions s ≡ Some x) × (get_or plan.sessions s x ≡ x)) ⊎ ((length plan.sessions ≤ s) × (slice_get plan.sessions s ≡ None))
+      by_place : ((x : List CommandLine) × (s < length plan.sessions) × (slice_get plan.sessions s ≡ Some x) × (get_or plan.sessions s x ≡ x))
+          ⊎ ((length plan.sessions ≤ s) × (slice_get plan.sessions s ≡ None))
           → is_own (boot_of plan) 0 s ≡ true
       by_place (inl c) =
           let at : slice_get (map (session_of plan.chips plan.payload) plan.sessions) s ≡ Some (session_of plan.chips plan.payload c.0)
@@ -57,9 +59,11 @@ module _ (plan : PlanLines) where
 
   -- the turns of a replay are those of the schedule and of rounds of all sessions
   pub replay_turns-rounds : (rounds : ℕ) → All (λ s. s < length plan.sessions) plan.schedule
-      → replay_turns (boot_of plan) rounds 0 ≡ rounds_after plan.schedule (map (λ (s : ℕ × List Command). s.0) (sessions_from 0 0 (boot_of plan).sessions)) rounds
+      → replay_turns (boot_of plan) rounds 0 ≡ rounds_after plan.schedule
+      (map (λ (s : ℕ × List Command). s.0) (sessions_from 0 0 (boot_of plan).sessions)) rounds
   replay_turns-rounds rounds there =
-      ap (λ n. filter (is_own (boot_of plan) 0) (plan.schedule ++ concat (replicate rounds (numbers_from 0 n)))) (length-map plan.sessions (session_of plan.chips plan.payload))
+      ap (λ n. filter (is_own (boot_of plan) 0) (plan.schedule ++ concat (replicate rounds (numbers_from 0 n))))
+      (length-map plan.sessions (session_of plan.chips plan.payload))
       ∙ filter-append (is_own (boot_of plan) 0) plan.schedule (concat (replicate rounds (numbers_from 0 (length plan.sessions))))
       ∙ ap (λ first. first ++ filter (is_own (boot_of plan) 0) (concat (replicate rounds (numbers_from 0 (length plan.sessions)))))
       (kept (is_own (boot_of plan) 0) plan.schedule (λ k s lt. owned (get_or plan.schedule k s) (there k s lt)))

@@ -36,7 +36,7 @@ pub record IsReplay (plan : PlanLines) (course : Course SimFaults) : Type 0 wher
   pub rounds : ℕ
   pub whole : IsWholeCourse sim_faults (the_boot plan) (the_chips plan) (replay_turns (boot_of plan) rounds 0) course
 
--- the notes of a course of the plan are a history of one thread, by what befell its chips, and each session's operations stand in it once and in order, to the last one
+-- the notes of a course of the plan are a history of one thread, by what befell its chips, in which all operations of each session stand once and in order
 pub record IsHistory (plan : PlanLines) (course : Course SimFaults) : Type 0 where
   pub lives : List ChipBoot
   pub log : Log

@@ -19,7 +19,8 @@ cut_text false finished = []
 
 -- the lines of a session with these commands that ended so
 abbrev pub ended_text : ℕ → List Command → EndOfSession → List ℕ
-ended_text number commands ended = line (codes "session " ++ decimal number) ++ outcome_lines commands ended.outcomes ++ cut_text ended.cut (length ended.outcomes)
+ended_text number commands ended =
+    line (codes "session " ++ decimal number) ++ outcome_lines commands ended.outcomes ++ cut_text ended.cut (length ended.outcomes)
 
 -- the lines of sessions that ended so, the first of which has number n
 abbrev pub ended_texts : ℕ → List SessionPlan → List EndOfSession → List ℕ

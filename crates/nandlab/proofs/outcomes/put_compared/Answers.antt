@@ -7,5 +7,6 @@ pub returns : goal.returns
 returns c =
     put_as c.put_text.result c.args.out.now c.put_text.new.out c.as_str.result.now _
     (c.as_str.ensures.value ∙ c.in_ok-text.ensures.ok
-    ∙ seven_joined (codes ", mismatched ") (decimal c.args.mismatched) (codes ", corrected ") (decimal c.args.corrected) (codes ", failed ") (decimal c.args.failed) (codes "\n"))
+    ∙ seven_joined (codes ", mismatched ") (decimal c.args.mismatched) (codes ", corrected ") (decimal c.args.corrected) (codes ", failed ")
+    (decimal c.args.failed) (codes "\n"))
     c.put_text.ensures

@@ -7,6 +7,7 @@ pub returns : goal.returns
 returns c =
     put_as c.put_text.result c.args.out.now c.put_text.new.out c.as_str.result.now _
     (c.as_str.ensures.value ∙ c.in_ok-text.ensures.ok
-    ∙ eleven_joined (codes "nanddump mtd") (decimal c.args.dev) (codes ": pages ") (decimal c.args.pages) (codes ", bad ") (decimal c.args.bad) (codes ", corrected ") (decimal c.args.corrected)
+    ∙ eleven_joined (codes "nanddump mtd") (decimal c.args.dev) (codes ": pages ") (decimal c.args.pages) (codes ", bad ") (decimal c.args.bad)
+    (codes ", corrected ") (decimal c.args.corrected)
     (codes ", failed ") (decimal c.args.failed) (codes "\n"))
     c.put_text.ensures

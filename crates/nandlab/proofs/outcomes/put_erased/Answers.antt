@@ -7,5 +7,6 @@ pub returns : goal.returns
 returns c =
     put_as c.put_text.result c.args.out.now c.put_text.new.out c.as_str.result.now _
     (c.as_str.ensures.value ∙ c.in_ok-text.ensures.ok
-    ∙ nine_joined (codes "flash_erase mtd") (decimal c.args.dev) (codes ": erased ") (decimal c.args.erased) (codes ", bad ") (decimal c.args.bad) (codes ", failed ") (decimal c.args.failed) (codes "\n"))
+    ∙ nine_joined (codes "flash_erase mtd") (decimal c.args.dev) (codes ": erased ") (decimal c.args.erased) (codes ", bad ") (decimal c.args.bad)
+    (codes ", failed ") (decimal c.args.failed) (codes "\n"))
     c.put_text.ensures

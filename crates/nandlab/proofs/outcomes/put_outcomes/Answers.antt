@@ -20,12 +20,14 @@ loop-n-preserved c =
     let ended = c.len-2.ensures in
     c.in_ok-put_outcome.ensures
     ∙ ap (λ o. o ++ outcome_text c.in_ok-command.command c.get-in-loop-n.result.now) c.loop-n.invariant
-    ∙ ap (λ (command : Command). c.args.out.now ++ outcome_lines (take n commands) (take n c.args.ended.now.outcomes) ++ outcome_text command c.get-in-loop-n.result.now) c.in_ok-command.ensures
+    ∙ ap (λ (command : Command). c.args.out.now ++ outcome_lines (take n commands)
+    (take n c.args.ended.now.outcomes) ++ outcome_text command c.get-in-loop-n.result.now) c.in_ok-command.ensures
     ∙ append_assoc c.args.out.now (outcome_lines (take n commands) (take n c.args.ended.now.outcomes))
     (outcome_text (command_of c.args.chips.now c.args.payload.now c.get.result.now) c.get-in-loop-n.result.now)
     ∙ ap (λ t. c.args.out.now ++ t)
     (sym (one_outcome_more commands c.args.ended.now.outcomes n (command_of c.args.chips.now c.args.payload.now c.get.result.now) c.get-in-loop-n.result.now
-    (slice_get-map (command_of c.args.chips.now c.args.payload.now) c.args.lines.now n ∙ ap (option_map (command_of c.args.chips.now c.args.payload.now)) c.get.ensures)
+    (slice_get-map (command_of c.args.chips.now c.args.payload.now) c.args.lines.now n
+    ∙ ap (option_map (command_of c.args.chips.now c.args.payload.now)) c.get.ensures)
     c.get-in-loop-n.ensures (omega (arith, many, within, least, lines, ended)) (omega (arith, within, least, lines, ended))))
 
 pub returns : goal.returns

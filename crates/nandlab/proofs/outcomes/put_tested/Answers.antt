@@ -7,6 +7,7 @@ pub returns : goal.returns
 returns c =
     put_as c.put_text.result c.args.out.now c.put_text.new.out c.as_str.result.now _
     (c.as_str.ensures.value ∙ c.in_ok-text.ensures.ok
-    ∙ ten_joined (codes "nandtest mtd") (decimal c.args.dev) (codes ": passes ") (decimal c.args.passes) (codes ", blocks ") (decimal c.args.blocks) (codes ", bad ") (decimal c.args.bad)
+    ∙ ten_joined (codes "nandtest mtd") (decimal c.args.dev) (codes ": passes ") (decimal c.args.passes) (codes ", blocks ") (decimal c.args.blocks)
+    (codes ", bad ") (decimal c.args.bad)
     (codes ", worn ") (decimal c.args.worn))
     c.put_text.ensures

@@ -14,6 +14,8 @@ put_sessions-requires-clause-many c =
 
 pub returns : goal.returns
 returns c =
-    report_made c.args.plan.now c.args.notes.now.notes c.args.ends.now c.args.stats.now c.in_ok-out.out c.put_text.new.out c.put_notes.new.out c.put_sessions.new.out c.put_devices.new.out
-    c.put_text-2.new.out c.requires.ends c.requires.stats c.in_ok-out.ensures c.in_ok-put_text.ensures c.in_ok-put_notes.ensures c.in_ok-put_sessions.ensures c.in_ok-put_devices.ensures
+    report_made c.args.plan.now c.args.notes.now.notes c.args.ends.now c.args.stats.now c.in_ok-out.out c.put_text.new.out c.put_notes.new.out
+    c.put_sessions.new.out c.put_devices.new.out
+    c.put_text-2.new.out c.requires.ends c.requires.stats c.in_ok-out.ensures c.in_ok-put_text.ensures c.in_ok-put_notes.ensures c.in_ok-put_sessions.ensures
+    c.in_ok-put_devices.ensures
     c.in_ok-put_text-2.ensures

@@ -17,7 +17,8 @@ loop-n-preserved c =
     let count = c.len-n-end.ensures in
     let ends = c.requires.many in
     c.in_ok-put_session.ensures
-    ∙ ap (λ payload. c.loop-n.out ++ ended_text n (map (command_of c.args.plan.now.chips payload) c.get-lines.result.now) c.get.result.now) c.as_slice-payload.ensures
+    ∙ ap (λ payload. c.loop-n.out ++ ended_text n (map (command_of c.args.plan.now.chips payload) c.get-lines.result.now) c.get.result.now)
+    c.as_slice-payload.ensures
     ∙ ap (λ o. o ++ ended_text n (map (command_of c.args.plan.now.chips c.args.plan.now.payload) c.get-lines.result.now) c.get.result.now) c.loop-n.invariant
     ∙ append_assoc c.args.out.now (ended_texts 0 (take n sessions) (take n c.args.ends.now))
     (ended_text n (map (command_of c.args.plan.now.chips c.args.plan.now.payload) c.get-lines.result.now) c.get.result.now)

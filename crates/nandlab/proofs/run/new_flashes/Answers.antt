@@ -10,7 +10,8 @@ use Rattle.nandlab.proofs.run.new_flashes.Goals as goal
 pub loop-n-preserved : goal.loop-n-preserved
 loop-n-preserved c =
     let is_new : sim_state c.in_ok-chip.chip ≡ new_chip (geometry_of c.get.result.now) [] [] =
-    c.in_ok-chip.ensures ∙ ap (λ g. new_chip g c.new-none_bad.result []) c.sizes_of_chip.ensures ∙ ap (λ bad. new_chip (geometry_of c.get.result.now) bad []) c.new-none_bad.ensures in
+    c.in_ok-chip.ensures ∙ ap (λ g. new_chip g c.new-none_bad.result []) c.sizes_of_chip.ensures
+    ∙ ap (λ bad. new_chip (geometry_of c.get.result.now) bad []) c.new-none_bad.ensures in
     ap (map sim_state) c.in_ok-add_flash.ensures
     ∙ one_flash_more sim_state c.loop-n.flashes c.in_ok-chip.chip c.args.chips.now c.loop-n.n c.get.result.now c.get.ensures c.loop-n.invariant is_new
 
