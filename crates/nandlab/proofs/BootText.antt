@@ -1,29 +1,25 @@
 -- The report of a several-chip plan, part after part.
-use Rattle.std.proofs.Common.{◌≡◌, ℕ, zero, suc, ◌+◌, ◌≤◌, List, [], ◌∷◌, ◌++◌, length, take, Some, refl, ap, sym, subst, ◌∙◌, arith, append_assoc, append-nil}
+use Rattle.std.proofs.Common.{◌≡◌, ℕ, zero, suc, ◌+◌, ◌≤◌, List, [], ◌∷◌, ◌++◌, length, take, Some, refl, ap, sym, ◌∙◌, arith, append_assoc, append-nil}
 use Rattle.std.specs.Prelude.{All, codes, decimal, flat_map, map, not, slice_get, slice_index_or}
 use Rattle.std.proofs.lemmas.Fmt.{decimal_digit}
 use Rattle.std.proofs.lemmas.List.{length-map, length-take-le}
 use Rattle.std.proofs.lemmas.List.Elements.{All-cons, All-head, All-nil, All-tail}
-use Rattle.nand_model.specs.Chip.{ChipState, SimFaults}
 use Rattle.nand_model.specs.Sizes.{numbers_from}
 use Rattle.nand_model.specs.declared.geometry.Geometry.{Geometry}
 use Rattle.nand_model.specs.declared.words.Command.{Command}
 use Rattle.nand_model.specs.declared.words.Note.{Note}
 use Rattle.nand_model.specs.declared.words.Stats.{Stats}
-use Rattle.run_model.specs.Course.{SessionRun, geometry_for, is_finished, sizes_of, without_finished}
+use Rattle.run_model.specs.Course.{SessionRun, is_finished, without_finished}
 use Rattle.run_model.specs.History.{exchanges_of, session_after}
-use Rattle.report_model.specs.Plan.{ChipPlan, PlanData, SessionPlan, new_chips, sessions_from}
+use Rattle.report_model.specs.Plan.{PlanData, SessionPlan}
 use Rattle.report_model.specs.Report.{cut_line, device_line, device_lines, geometry_in, line, note_text, outcome_lines, reads_of, report_text, session_lines, session_text}
 use Rattle.report_model.proofs.Printed.{take_next}
 use Rattle.session_steps.specs.Ended.{EndOfSession}
-use Rattle.several_chip_plan.specs.SeveralChips.{IsPlan, boot_of, chip_of, command_of, plan_of, session_of}
+use Rattle.several_chip_plan.specs.SeveralChips.{boot_of, plan_of, session_of}
 use Rattle.several_chip_plan.specs.declared.lines.ChipLines.{ChipLines}
 use Rattle.several_chip_plan.specs.declared.lines.CommandLine.{CommandLine}
 use Rattle.several_chip_plan.specs.declared.lines.PlanLines.{PlanLines}
-use Rattle.tool_steps.specs.Stage.{CanRun}
-use Rattle.chips_boot.specs.Ready.{the_boot, the_chips}
 use Rattle.chips_boot.proofs.Devices.{length-parts_by}
-use Rattle.chips_boot.proofs.Starts.{can_run}
 use Rattle.nandlab.specs.Ends.{cut_text, device_text, end_by, ended_text, ended_texts, ends_by, stats_by}
 
 -- the lines of one more session

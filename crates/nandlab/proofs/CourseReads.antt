@@ -1,8 +1,8 @@
 -- In every course the statistics of a device are what its answered reads add up to.
-use Rattle.std.proofs.Common.{◌≡◌, ◌⊎◌, inl, inr, ℕ, zero, suc, ◌+◌, Bool, true, false, List, [], ◌∷◌, ◌++◌, map, Option, Some, None, refl, ap, sym, ◌∙◌, subst, append_assoc}
-use Rattle.std.specs.Prelude.{◌==◌, ◌||◌, Contains, count_by, fold, if◌then◌else◌, is_none, is_some, option_map, slice_get}
+use Rattle.std.proofs.Common.{◌≡◌, ◌⊎◌, inl, inr, ℕ, zero, suc, ◌+◌, Bool, true, false, List, [], ◌∷◌, ◌++◌, Option, Some, None, refl, ap, sym, ◌∙◌, subst, append_assoc}
+use Rattle.std.specs.Prelude.{◌==◌, Contains, count_by, if◌then◌else◌, is_some, option_map, slice_get}
 use Rattle.std.proofs.lemmas.Bool.{cases_eq, false≢true, ne_eqb, or_parts}
-use Rattle.std.proofs.lemmas.Option.{none-some, same_Some, slice_get-map, some_pair_parts}
+use Rattle.std.proofs.lemmas.Option.{none-some, same_Some, slice_get-map}
 use Rattle.nand_model.specs.Attach.{Attaching, attach_path}
 use Rattle.nand_model.specs.Chip.{ChipState, Complete, DoneBits, FaultModel, PageEvent, PowerCut, done_bits, happens}
 use Rattle.nand_model.specs.ChipRun.{ChipRun, Pending, advanced, answered_by, attach_notes_by, attach_notes_of, chip_at_start, finished_by, known_once_over, next_chip_event, notes_of_advance, notes_of_cut, pending_after, torn_at, torn_by, with_finished, with_pending}
@@ -12,14 +12,13 @@ use Rattle.nand_model.specs.Sizes.{raw_len}
 use Rattle.nand_model.specs.declared.tear.Tear.{Tear}
 use Rattle.nand_model.specs.declared.words.Command.{Command}
 use Rattle.nand_model.specs.declared.words.Note.{Note}
-use Rattle.nand_model.specs.declared.words.Note.TheVariants.{Answered, Began}
 use Rattle.nand_model.specs.declared.words.Op.{Op}
 use Rattle.nand_model.specs.declared.words.Op.TheVariants.{Read, Write, RawRead, RawWrite, Erase, IsBad, Mark, Stats}
 use Rattle.nand_model.specs.declared.words.Stats.{Stats as Statistics}
 use Rattle.run_model.specs.Course.{Boot, Course, attach_first, attach_step, attach_steps, began, begin_at, begin_on, begin_step, change_at, chip_of, chip_step, course_after, event_done, event_on, event_or_answer, finish, is_idle, next_op, pending_chip, session_run, session_step, sizes_of, start_of_boot, tear_at, turn_step, turn_unless, turns_taken, unattached, with_answer, with_flips_before}
 use Rattle.run_model.specs.History.{exchanges_of}
 use Rattle.run_laws.proofs.ChipNotes.{exchanges-append, torn_exchanges}
-use Rattle.run_laws.proofs.Courses.{Holds, IsLive, Rest, SessionsHold, asked_at, asked_by, asked_on, due_asked, due_rest, rest, rest_of}
+use Rattle.run_laws.proofs.Courses.{Holds, IsLive, Rest, asked_at, asked_by, asked_on, due_asked, due_rest, rest_of}
 use Rattle.run_laws.proofs.Places.{change_elsewhere, change_here}
 use Rattle.run_laws.proofs.Sessions.{asked}
 use Rattle.run_laws.proofs.Starts.{start_holds}

@@ -1,6 +1,6 @@
 -- The run of a several-chip plan: its controller can be started, and what the controller leaves is what the report is made of.
-use Rattle.std.proofs.Common.{◌≡◌, ◌<◌, ◌≤◌, ◌+◌, ◌⊎◌, inl, inr, ℕ, zero, suc, Bool, true, false, cond, not, List, [], ◌∷◌, ◌++◌, length, map, take, Option, Some, None, refl, ap, sym, ◌∙◌, subst, arith, zero-add, get_or}
-use Rattle.std.specs.Prelude.{slice_get, option_map, flat_map, All, Contains, ◌==◌, count_by}
+use Rattle.std.proofs.Common.{◌≡◌, ◌<◌, ◌≤◌, ◌+◌, ◌⊎◌, inl, inr, ℕ, zero, suc, Bool, true, false, cond, not, List, [], ◌∷◌, ◌++◌, length, map, take, Some, refl, ap, sym, ◌∙◌, subst, arith, zero-add, get_or}
+use Rattle.std.specs.Prelude.{slice_get, option_map, All, Contains, ◌==◌, count_by}
 use Rattle.std.proofs.lemmas.Bool.{cases_eq, eq-eqb, ne_eqb}
 use Rattle.std.proofs.lemmas.List.Elements.{All-nil, All-cons}
 use Rattle.std.proofs.lemmas.List.Sums.{sum_by-cons}
@@ -10,15 +10,13 @@ use Rattle.nand_model.specs.Sizes.{numbers_from}
 use Rattle.nand_model.specs.declared.geometry.Geometry.{Geometry}
 use Rattle.nand_model.specs.declared.words.Command.{Command}
 use Rattle.nand_model.specs.declared.words.Note.{Note}
-use Rattle.nand_model.specs.declared.words.Outcome.{Outcome}
-use Rattle.nand_model.specs.declared.words.Reply.{Reply}
 use Rattle.nand_model.specs.declared.words.Stats.{Stats}
 use Rattle.run_model.specs.Course.{Course, SessionRun, chip_of as chip_of_device, course_after, geometry_for, is_finished, is_over, sizes_of, with_reply, without_finished}
 use Rattle.run_model.specs.History.{Exchange, Asked, Replied, exchanges_of, session_after}
-use Rattle.run_model.specs.Run.{AreComplete, CoursesAreFaithful, HaveOneNumberEach, session_at_start}
+use Rattle.run_model.specs.Run.{AreComplete, CoursesAreFaithful, HaveOneNumberEach}
 use Rattle.run_laws.proofs.Faithful.{faithful}
 use Rattle.run_laws.proofs.Sessions.{number_stays}
-use Rattle.report_model.specs.Plan.{ChipPlan, SessionPlan, devices_of, new_chips, sessions_from}
+use Rattle.report_model.specs.Plan.{ChipPlan, devices_of, new_chips, sessions_from}
 use Rattle.report_model.specs.Report.{geometry_in, reads_of, report_text}
 use Rattle.report_model.proofs.Printed.{take_next}
 use Rattle.several_chip_plan.specs.SeveralChips.{IsPlan, boot_of, chip_of, geometry_of, plan_of, session_of, sizes_of as sizes_by}

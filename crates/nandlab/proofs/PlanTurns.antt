@@ -1,13 +1,13 @@
 -- The turns of a several-chip plan: all its sessions are of its one controller.
-use Rattle.std.proofs.Common.{◌≡◌, ◌⊎◌, inl, inr, get_or, ◌<◌, ◌≤◌, ℕ, zero, suc, ◌+◌, Bool, true, false, cond, List, [], ◌∷◌, ◌++◌, length, map, replicate, Option, Some, None, refl, ap, sym, ◌∙◌, subst, arith}
-use Rattle.std.specs.Prelude.{if◌then◌else◌, ◌==◌, All, filter, slice_get, option_map}
+use Rattle.std.proofs.Common.{◌≡◌, ◌⊎◌, inl, inr, get_or, ◌<◌, ◌≤◌, ℕ, zero, suc, ◌+◌, Bool, true, cond, List, [], ◌∷◌, ◌++◌, length, map, replicate, Some, None, refl, ap, sym, ◌∙◌, arith}
+use Rattle.std.specs.Prelude.{All, filter, slice_get, option_map}
 use Rattle.std.proofs.lemmas.Option.{slice_get-map, slice_get_cases}
 use Rattle.std.proofs.lemmas.List.{length-map}
 use Rattle.std.proofs.lemmas.List.Elements.{filter-append}
 use Rattle.std.specs.List.{concat}
 use Rattle.nand_model.specs.Sizes.{numbers_from}
 use Rattle.nand_model.specs.declared.words.Command.{Command}
-use Rattle.report_model.specs.Plan.{SessionPlan, BootPlan, sessions_from}
+use Rattle.report_model.specs.Plan.{sessions_from}
 use Rattle.report_model.specs.Headline.{is_own, replay_turns}
 use Rattle.several_chip_plan.specs.SeveralChips.{boot_of, session_of}
 use Rattle.several_chip_plan.specs.declared.lines.PlanLines.{PlanLines}

@@ -1,8 +1,6 @@
-use Rattle.std.proofs.Common.{length, ap, sym, subst, ◌∙◌}
-use Rattle.std.specs.Prelude.{All}
+use Rattle.std.proofs.Common.{length, ap, ◌∙◌}
 use Rattle.std.proofs.lemmas.List.{length-map}
 use Rattle.report_model.specs.Report.{geometry_in}
-use Rattle.session_steps.specs.Ended.{EndOfSession}
 use Rattle.several_chip_plan.specs.SeveralChips.{boot_of, plan_of, session_of}
 use Rattle.nandlab.proofs.BootText.{length-ends, report_made}
 use Rattle.nandlab.proofs.report.boot_report.Goals as goal
