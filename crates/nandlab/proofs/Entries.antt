@@ -1,9 +1,9 @@
 -- The list of bad blocks, one block more.
-use Rattle.std.proofs.Common.{◌≡◌, ℕ, suc, ◌+◌, Bool, true, false, List, [], ◌∷◌, ◌++◌, ◌<◌, ◌≤◌, length, drop, get_or, refl, ap, sym, ◌∙◌, append_assoc, append-nil}
+use Rattle.std.proofs.Common.{◌≡◌, ℕ, ◌+◌, Bool, true, false, List, [], ◌∷◌, ◌++◌, ◌<◌, ◌≤◌, length, drop, get_or, refl, ap, sym, ◌∙◌, append_assoc, append-nil}
 use Rattle.std.proofs.lemmas.List.{drop_more}
 use Rattle.std.proofs.Math.ListN.{drop_of_length-le}
 use Rattle.std.specs.Prelude.{flat_map, codes, decimal, ◌||◌, ◌==◌, if◌then◌else◌}
-use Rattle.report_model.specs.Report.{bad_entry, bad_entries, joined_by_commas}
+use Rattle.report_model.specs.Report.{bad_entries, joined_by_commas}
 use Rattle.nandlab.specs.Printing.{comma, entry_text, any_after}
 
 -- words, each after a comma

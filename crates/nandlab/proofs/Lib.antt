@@ -1,8 +1,11 @@
 mod RowSteps
 mod Joined
 mod Entries
-mod FirstPage
-mod PlanNotes
-mod PlanReport
-mod Reading
 mod Holding
+mod EndedTexts
+mod BootText
+mod ReadSums
+mod OpReads
+mod CourseReads
+mod PlanTurns
+mod PlanRuns

@@ -1,14 +1,14 @@
 -- One row, and one run of rows, more.
-use Rattle.std.proofs.Common.{◌≡◌, ◌≢◌, ℕ, zero, suc, ◌+◌, ◌-◌, ◌*◌, ◌/◌, ◌<◌, ◌≤◌, ◌⊎◌, inl, inr, Bool, true, false, List, [], ◌∷◌, ◌++◌, length, take, drop, refl, ap, sym, ◌∙◌, arith, append_assoc, append-nil}
+use Rattle.std.proofs.Common.{◌≡◌, ◌≢◌, ℕ, suc, ◌+◌, ◌*◌, ◌/◌, ◌<◌, ◌≤◌, inl, inr, Bool, true, false, List, [], ◌++◌, length, take, drop, refl, ap, sym, ◌∙◌, arith, append_assoc, append-nil}
 use Rattle.std.specs.Prelude.{min, bytes_eq, flat_map, ◌==◌}
 use Rattle.std.proofs.lemmas.Bool.{eqb-true}
 use Rattle.std.proofs.lemmas.Bool.Decides.{leb_tells, eqb_tells}
 use Rattle.std.proofs.lemmas.Slice.Eq.{bytes_eq-Decides}
-use Rattle.std.proofs.lemmas.List.{drop-drop, length-drop, take-append-drop}
+use Rattle.std.proofs.lemmas.List.{drop-drop, take-append-drop}
 use Rattle.std.proofs.Math.Nat.{min-eq_left, min-eq_right, le_of_lt}
 use Rattle.std.proofs.Math.Seq.{take-length, drop-length}
 use Rattle.std.proofs.Math.ListN.{drop_of_length-le}
-use Rattle.report_model.specs.Report.{RowRun, rows_of, rows_in, runs_from, runs_text, row_line}
+use Rattle.report_model.specs.Report.{rows_of, rows_in, runs_text, row_line}
 use Rattle.report_model.proofs.RowLemmas.{leading, leading-equal, leading-other, runs_from-leading, rows_in-first, rows_in-drop}
 
 take_all : (n : ℕ) (xs : List ℕ) → length xs ≤ n → take n xs ≡ xs
@@ -57,7 +57,11 @@ apart e = cc
 
 -- what a test of a length for 0 says
 pub some_from : (b : Bool) (n : ℕ) → b ≡ (n == 0) → b ≡ false → 0 < n
-some_from b n test denied = elim (eqb_tells n 0) [ inl zeros ↦ absurd (apart (sym denied ∙ test ∙ zeros.0)) | inr others ↦ let e = others.1 in omega (arith, e) ]
+some_from b n test denied = elim (eqb_tells n 0) [
+  | inl zeros ↦ absurd (apart (sym denied ∙ test ∙ zeros.0))
+  | inr others ↦ let e =
+      others.1 in omega (arith, e)
+]
 
 pub none_from : (b : Bool) (n : ℕ) → b ≡ (n == 0) → b ≡ true → n ≡ 0
 none_from b n test holds = eqb-true n 0 (sym test ∙ holds)
@@ -73,7 +77,8 @@ leading-stop row rest next some is_next other =
 runs_text-first : (at : ℕ) (rest : List ℕ) → 0 < length rest
     → runs_text at (rows_in rest)
     ≡ row_line (record { at = at; count = leading (take 32 rest) (rows_in (drop 32 rest)) + 1; row = take 32 rest })
-    ++ runs_text (at + (leading (take 32 rest) (rows_in (drop 32 rest)) + 1)) (rows_in (drop (32 * leading (take 32 rest) (rows_in (drop 32 rest))) (drop 32 rest)))
+    ++ runs_text (at + (leading (take 32 rest) (rows_in (drop 32 rest)) + 1))
+    (rows_in (drop (32 * leading (take 32 rest) (rows_in (drop 32 rest))) (drop 32 rest)))
 runs_text-first at rest some =
     let n = leading (take 32 rest) (rows_in (drop 32 rest)) in
     ap (runs_text at) (rows_in-first rest some)
@@ -89,7 +94,8 @@ runs_text-named at more rest row later skipped some is_row is_later is_more is_s
     let same : more ≡ n = is_more ∙ ap (λ r. leading r (rows_in later)) is_row ∙ ap (λ l. leading (take 32 rest) (rows_in l)) is_later in
     let left : skipped ≡ drop (32 * n) (drop 32 rest) = is_skipped ∙ ap (λ m. drop (32 * m) later) same ∙ ap (drop (32 * n)) is_later in
     runs_text-first at rest some
-    ∙ ap (λ m. row_line (record { at = at; count = m + 1; row = take 32 rest }) ++ runs_text (at + (m + 1)) (rows_in (drop (32 * n) (drop 32 rest)))) (sym same)
+    ∙ ap (λ m. row_line (record { at = at; count = m + 1; row = take 32 rest }) ++ runs_text (at + (m + 1)) (rows_in (drop (32 * n) (drop 32 rest))))
+    (sym same)
     ∙ ap (λ r. row_line (record { at = at; count = more + 1; row = r }) ++ runs_text (at + (more + 1)) (rows_in (drop (32 * n) (drop 32 rest)))) (sym is_row)
     ∙ ap (λ s. row_line (record { at = at; count = more + 1; row = row }) ++ runs_text (at + (more + 1)) (rows_in s)) (sym left)
 

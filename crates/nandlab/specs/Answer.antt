@@ -1,7 +1,15 @@
 -- What a call writes, by its words and the bytes that it reads.
-use Rattle.std.specs.Prelude.{◌≡◌, ℕ, ◌<◌, ◌≤◌, ◌++◌, Bool, true, false, List, [], ◌∷◌, length, take, codes, bytes_eq}
+use Rattle.std.specs.Prelude.{◌≡◌, ℕ, ◌<◌, ◌≤◌, ◌++◌, Bool, true, false, List, [], ◌∷◌, length, map, take, codes, bytes_eq}
+use Rattle.nand_model.specs.Chip.{SimFaults, sim_faults}
+use Rattle.run_model.specs.Course.{Course, IsWholeCourse, end_states}
+use Rattle.run_model.specs.History.{AreOneThread, ChipBoot}
+use Rattle.run_model.specs.Log.{AreOfLog, Log}
+use Rattle.run_model.specs.Run.{AreComplete, AreInOrder}
+use Rattle.report_model.specs.Headline.{replay_turns}
 use Rattle.report_model.specs.Report.{line, report_text}
-use Rattle.nine_line_plan.specs.NineLines.{plan_of, course_of, IsNineLinePlan, IsOfTheForm}
+use Rattle.several_chip_plan.specs.SeveralChips.{boot_of, plan_of, IsSeveralChipPlan, IsOfTheForm}
+use Rattle.several_chip_plan.specs.declared.lines.PlanLines.{PlanLines}
+use Rattle.chips_boot.specs.Ready.{the_boot, the_chips}
 use Rattle.nandlab.specs.declared.status.Status.{Status}
 use Rattle.nandlab.specs.declared.status.Status.TheVariants.{Fine, Usage, PlanRefused, ReadFault, WriteFault, Memory}
 
@@ -23,17 +31,36 @@ not_built_line = line (codes "line 0: NotBuilt")
 abbrev pub most_bytes : ℕ
 most_bytes = 16777216
 
--- the text is the report of the notes of the one course of the plan with this data
-abbrev pub IsReportOfData : List ℕ → List ℕ → Type 0
-IsReportOfData payload text = text ≡ report_text (plan_of payload) (((course_of payload).notes ∷ []) ∷ [])
+-- the course is that of a replay of the plan: some attach steps, the turns of its schedule and so many rounds of its sessions, until all is over
+pub record IsReplay (plan : PlanLines) (course : Course SimFaults) : Type 0 where
+  pub rounds : ℕ
+  pub whole : IsWholeCourse sim_faults (the_boot plan) (the_chips plan) (replay_turns (boot_of plan) rounds 0) course
 
--- the text is the report of the nine-line plan that these bytes are
+-- the notes of a course of the plan are a history of one thread, by what befell its chips, in which all operations of each session stand once and in order
+pub record IsHistory (plan : PlanLines) (course : Course SimFaults) : Type 0 where
+  pub lives : List ChipBoot
+  pub log : Log
+  pub counted : course.events ≡ length log
+  pub of_log : AreOfLog sim_faults (the_boot plan) (the_chips plan) lives (end_states course) log
+  pub one_thread : AreOneThread sim_faults (the_boot plan).partitions (the_chips plan) (map (λ (b : ChipBoot). b ∷ []) lives) (course.notes ∷ [])
+  pub in_order : AreInOrder (the_boot plan) (the_chips plan) course.notes
+  pub complete : AreComplete (the_boot plan) (the_chips plan) course.notes
+
+-- the text is the report of the notes of the plan's replay, which are such a history; the plan has no other replay
+pub record IsReportOfPlan (plan : PlanLines) (text : List ℕ) : Type 0 where
+  pub course : Course SimFaults
+  pub replay : IsReplay plan course
+  pub only : (other : Course SimFaults) → IsReplay plan other → other ≡ course
+  pub history : IsHistory plan course
+  pub printed : text ≡ report_text (plan_of plan) ((course.notes ∷ []) ∷ [])
+
+-- the text is the report of the several-chip plan that these bytes are
 pub record IsReportOfBytes (bytes text : List ℕ) : Type 0 where
-  pub payload : List ℕ
-  pub plan : IsNineLinePlan bytes payload
-  pub report : IsReportOfData payload text
+  pub plan : PlanLines
+  pub form : IsSeveralChipPlan bytes plan
+  pub report : IsReportOfPlan plan text
 
--- the text says why the bytes are refused: they are too long, or no nine-line plan
+-- the text says why the bytes are refused: they are too long, or no several-chip plan
 pub data IsRefusalOf (bytes text : List ℕ) : Type 0 where
   TooLong : most_bytes < length bytes → text ≡ too_long_line → IsRefusalOf bytes text
   NotBuilt : length bytes ≤ most_bytes → (IsOfTheForm bytes → ⊥) → text ≡ not_built_line → IsRefusalOf bytes text

@@ -1,4 +1,5 @@
 pub mod Printing
-pub mod Reading
 pub mod Status
 pub mod Answer
+pub mod Ends
+pub mod Run

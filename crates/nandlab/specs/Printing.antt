@@ -1,19 +1,5 @@
--- What can be printed, and the pieces of the list of bad blocks.
-use Rattle.std.specs.Prelude.{ℕ, Bool, true, false, ◌||◌, ◌==◌, if◌then◌else◌, List, [], ◌∷◌, ◌++◌, ⊤, codes, decimal}
-use Rattle.nand_model.specs.declared.words.Reply.{Reply}
-use Rattle.nand_model.specs.declared.words.Reply.TheVariants.{Page}
-use Rattle.nand_model.specs.declared.words.Note.{Note}
-use Rattle.nand_model.specs.declared.words.Note.TheVariants.{Answered}
-
--- a fact about the image of an answered page
-abbrev pub ForPage : (List ℕ → Type 0) → Reply → Type 0
-ForPage P (Page kind read image) = P image
-ForPage P _ = ⊤
-
--- a fact about the reply of an answer
-abbrev pub ForAnswer : (Reply → Type 0) → Note → Type 0
-ForAnswer P (Answered session reply) = P reply
-ForAnswer P _ = ⊤
+-- The pieces of the list of bad blocks.
+use Rattle.std.specs.Prelude.{ℕ, Bool, true, false, ◌||◌, ◌==◌, if◌then◌else◌, List, [], ◌∷◌, ◌++◌, codes, decimal}
 
 -- a comma after an earlier block
 abbrev pub comma : Bool → List ℕ

@@ -2,9 +2,9 @@
 ghost use Rattle.std.specs.Prelude.{◌≤◌, length, IfOk};
 ghost use Rattle.nandlab.specs.Answer.{Answers};
 
-use crate::nine_lines::read_nine_lines;
 use crate::report::report;
 use crate::status::Status;
+use chips_reader::read_several_chips;
 use nand_model::Bytes;
 use std::alloc::{AllocError, Global};
 
@@ -17,15 +17,15 @@ pub struct Answer {
     pub text: Bytes,
 }
 
-/// The report of a nine-line plan, or the line that refuses other bytes.
+/// The report of a several-chip plan, or the line that refuses other bytes.
 pub fn answer_plan(alloc: Global, bytes: &[u8]) -> Result<Answer, AllocError>
     requires { length bytes.now ≤ 16777216 }
     ensures { IfOk result (λ answer. Answers bytes.now answer.status answer.text) }
 {
-    match read_nine_lines(alloc, bytes)? {
-        Some(payload) => Ok(Answer {
+    match read_several_chips(alloc, bytes)? {
+        Some(plan) => Ok(Answer {
             status: Status::Fine,
-            text: report(alloc, payload.as_slice())?,
+            text: report(alloc, &plan)?,
         }),
         None => Ok(Answer {
             status: Status::PlanRefused,

@@ -2,7 +2,7 @@
 #![tactic(auto)]
 
 mod answer;
-mod nine_lines;
+mod outcomes;
 mod print;
 mod report;
 mod run;

@@ -2,7 +2,8 @@
 ghost use Rattle.std.specs.Prelude.{◌≡◌, ◌∷◌, [], ◌++◌, ◌<◌, ◌≤◌, ◌*◌, ◌+◌, ◌^◌, length, take, drop, All, flat_map, OnOk, IfOk, IsTrue, ◌↔◌, codes, decimal, string_bytes};
 ghost use Rattle.report_model.specs.Report.{note_text, line, spaced, device_name, op_text, state_text, kind_text, page_text, counts_text, reply_text, reply_rows, rows_in, rows_text, runs_text, row_line, bad_entries, joined_by_commas, origin_text, yes_or_no, chip_name, event_text, cause_text, fairness_text};
 ghost use Rattle.report_model.proofs.RowLemmas.{leading};
-ghost use Rattle.nandlab.specs.Printing.{ForPage, ForAnswer, entry_text, any_after};
+ghost use Rattle.nandlab.specs.Printing.{entry_text, any_after};
+ghost use Rattle.std.specs.Int.{to_be_bytes, w32};
 
 use nand_iface::History;
 use nand_model::{Bytes, Event, Fairness, Note, Op, Origin, PageKind, PageRead, Reply, Which};
@@ -18,18 +19,26 @@ pub fn put_text(out: &mut Bytes, text: &str) -> Result<(), AllocError>
     out.push_slice(text.as_bytes())
 }
 
+// The four low bytes of a number, the highest first.
+fn low_bytes(n: usize) -> [u8; 4]
+    ensures { result ≡ to_be_bytes w32 n }
+{
+    let [_, _, _, _, a, b, c, d] = n.to_be_bytes();
+    [a, b, c, d]
+}
+
 // The line of a run of `count` equal rows, the first of which has number `at`.
 fn put_run(
     alloc: Global,
     out: &mut Bytes,
-    at: u32,
+    at: usize,
     count: usize,
     row: &[u8],
 ) -> Result<(), AllocError>
-    requires { 32 * at < 2 ^ 32 }
+    requires { 32 * at < 2 ^ 64 }
     ensures { OnOk result (out.new ≡ out.old ++ row_line (record { at = at; count = count; row = row.now })) }
 {
-    let offset = hex::encode(alloc, (32 * at).to_be_bytes())?;
+    let offset = hex::encode(alloc, low_bytes(32 * at))?;
     let digits = hex::encode(alloc, row)?;
     let text = format!(in alloc; " {offset} {count} {digits}\n")?;
     put_text(out, text.as_str())
@@ -80,19 +89,18 @@ fn leading_rows(row: &[u8], bytes: &[u8]) -> usize
     count
 }
 
-/// Appends the rows of bytes: cut into rows of 32, each longest run of equal neighbouring rows is one line.
+/// Appends the rows of bytes: cut into rows of 32, each longest run of equal neighbouring rows is one line. Offsets are printed by their low 32 bits.
 pub fn put_rows(alloc: Global, out: &mut Bytes, bytes: &[u8]) -> Result<(), AllocError>
-    requires { length bytes.now ≤ 2 ^ 32 }
     ensures { OnOk result (out.new ≡ out.old ++ rows_text bytes.now) }
 {
     let mut rest = bytes;
-    let mut at = 0u32;
+    let mut at = 0usize;
     while !rest.is_empty() {
         let (row, later) = split_row(rest);
         let more = leading_rows(row, later);
         put_run(alloc, out, at, more + 1, row)?;
         rest = skip_rows(later, more);
-        at += more as u32 + 1;
+        at += more + 1;
     }
     Ok(())
 }
@@ -191,8 +199,8 @@ fn put_counts(
     put_text(out, text.as_str())
 }
 
-// Appends an answer, without the rows of a page.
-fn put_reply(alloc: Global, out: &mut Bytes, reply: &Reply) -> Result<(), AllocError>
+/// Appends an answer, without the rows of a page.
+pub fn put_reply(alloc: Global, out: &mut Bytes, reply: &Reply) -> Result<(), AllocError>
     ensures { OnOk result (out.new ≡ out.old ++ reply_text reply.now) }
 {
     match reply {
@@ -222,7 +230,6 @@ fn put_reply(alloc: Global, out: &mut Bytes, reply: &Reply) -> Result<(), AllocE
 
 // Appends the rows that follow an answer.
 fn put_reply_rows(alloc: Global, out: &mut Bytes, reply: &Reply) -> Result<(), AllocError>
-    requires { ForPage (λ image. length image ≤ 2 ^ 32) reply.now }
     ensures { OnOk result (out.new ≡ out.old ++ reply_rows reply.now) }
 {
     match reply {
@@ -238,7 +245,6 @@ fn put_answered(
     session: u32,
     reply: &Reply,
 ) -> Result<(), AllocError>
-    requires { ForPage (λ image. length image ≤ 2 ^ 32) reply.now }
     ensures { OnOk result (out.new ≡ out.old
         ++ (line (spaced (codes "a" ∷ decimal session ∷ reply_text reply.now ∷ [])) ++ reply_rows reply.now)) }
 {
@@ -405,7 +411,6 @@ pub fn put_note(
     controller: u32,
     note: &Note,
 ) -> Result<(), AllocError>
-    requires { ForAnswer (ForPage (λ image. length image ≤ 2 ^ 32)) note.now }
     ensures { OnOk result (out.new ≡ out.old ++ note_text controller note.now) }
 {
     match note {
@@ -452,7 +457,6 @@ pub fn put_notes(
     controller: u32,
     notes: &History,
 ) -> Result<(), AllocError>
-    requires { All (ForAnswer (ForPage (λ image. length image ≤ 2 ^ 32))) notes.now.notes }
     ensures { OnOk result (out.new ≡ out.old ++ flat_map (note_text controller) notes.now.notes) }
 {
     for n in 0..notes.len() {

@@ -1,7 +1,7 @@
 // The top call.
 ghost use Rattle.std.specs.Prelude.{◌≡◌, ◌<◌, ◌≤◌, ◌⊎◌, ℕ, List, true, false, Some, map, string_bytes, length, IfSome};
 ghost use Rattle.std.specs.Io.KnownBytes.{IsAtEnd, append_known};
-ghost use Rattle.nine_line_plan.specs.NineLines.{IsOfTheForm};
+ghost use Rattle.several_chip_plan.specs.SeveralChips.{IsOfTheForm};
 ghost use Rattle.lab_outside.specs.Outside.{TookPrefix};
 ghost use Rattle.nand_model.specs.Counts.{HasRisen};
 ghost use Rattle.nandlab.specs.Answer.{accepts, most_bytes, Holds};
@@ -43,8 +43,8 @@ fn written<K: Sink>(sink: &mut K, text: &[u8], status: Status) -> Status
 
 /// Serves the words of a call: `replay` reads a plan from the source, runs it, and writes its report to the sink.
 ///
-/// The plan is the nine-line plan, which writes one raw page of a new chip and dumps it. Other bytes are refused with `line 0: NotBuilt`,
-/// or `line 0: TooLong` where more than 16,777,216 have come, and other words with the usage line. It waits for nobody.
+/// The plan is a several-chip plan: one controller with one to eight chips, and one to eight sessions under one list of turns. Other bytes are refused with
+/// `line 0: NotBuilt`, or `line 0: TooLong` where more than 16,777,216 have come, and other words with the usage line. It waits for nobody.
 pub fn serial_top<S: Source, K: Sink>(
     alloc: Global,
     words: &Vec<String>,

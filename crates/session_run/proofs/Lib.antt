@@ -1,6 +1,6 @@
 mod Rounds
 mod Progress
-mod Once
+pub mod Once
 mod Pasts
 mod Starts
 mod Replays

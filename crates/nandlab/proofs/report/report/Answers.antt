@@ -1,14 +1,25 @@
-use Rattle.std.proofs.Common.{◌∙◌}
-use Rattle.nandlab.proofs.PlanReport.{are_printable, is_report}
+use Rattle.std.proofs.Common.{◌≡◌, [], ◌∷◌}
+use Rattle.std.proofs.lemmas.Result.{IfOk-weaker}
+use Rattle.report_model.specs.Report.{report_text}
+use Rattle.several_chip_plan.specs.SeveralChips.{plan_of}
+use Rattle.nandlab.specs.Answer.{IsReportOfPlan}
+use Rattle.nandlab.proofs.PlanRuns.{run_ends, run_report, run_stats}
 use Rattle.nandlab.proofs.report.report.Goals as goal
 
-pub put_notes-requires : goal.put_notes-requires
-put_notes-requires c =
-    are_printable c.args.payload.now c.requires.some c.requires.fits (λ i. (c.type_inv.payload i).fits) c.in_ok-run.run'.notes.notes c.in_ok-run.ensures.notes
+pub boot_report-requires-clause-ends : goal.boot_report-requires-clause-ends
+boot_report-requires-clause-ends c =
+    run_ends c.args.plan.now c.in_ok-ended.ended.notes.notes c.in_ok-ended.ended.outcomes c.in_ok-ended.ended.stats c.requires.legal c.requires.ready
+    c.in_ok-ended.ensures
+
+pub boot_report-requires-clause-stats : goal.boot_report-requires-clause-stats
+boot_report-requires-clause-stats c =
+    run_stats c.args.plan.now c.in_ok-ended.ended.notes.notes c.in_ok-ended.ended.outcomes c.in_ok-ended.ended.stats c.requires.legal c.requires.ready
+    c.in_ok-ended.ensures
 
 pub returns : goal.returns
 returns c =
-    is_report c.args.payload.now c.requires.some c.requires.fits (λ i. (c.type_inv.payload i).fits) c.in_ok-run.run'.notes.notes c.as_slice.result.now
-    c.in_ok-out.out c.put_text.new.out c.put_notes.new.out c.put_text-2.new.out c.put_rows.new.out c.put_text-3.new.out
-    c.in_ok-run.ensures.notes (c.as_slice.ensures ∙ c.in_ok-run.ensures.dumped)
-    c.in_ok-out.ensures c.in_ok-put_text.ensures c.in_ok-put_notes.ensures c.in_ok-put_text-2.ensures c.in_ok-put_rows.ensures c.in_ok-put_text-3.ensures
+    IfOk-weaker c.boot_report.result (λ text. text ≡ report_text (plan_of c.args.plan.now) ((c.in_ok-ended.ended.notes.notes ∷ []) ∷ []))
+    (IsReportOfPlan c.args.plan.now)
+    (run_report c.args.plan.now c.in_ok-ended.ended.notes.notes c.in_ok-ended.ended.outcomes c.in_ok-ended.ended.stats c.requires.legal c.requires.ready
+    c.in_ok-ended.ensures)
+    c.boot_report.ensures

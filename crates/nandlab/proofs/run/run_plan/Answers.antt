@@ -1,17 +1,15 @@
-use Rattle.std.proofs.Common.{◌∙◌, ap, sym, take}
-use Rattle.chip_sim.specs.State.{sim_state}
-use Rattle.nine_line_plan.proofs.CourseOfPlan.{notes_of_course}
-use Rattle.nine_line_plan.proofs.Image.{take-image_of}
-use Rattle.nandlab.proofs.PlanNotes.{notes_joined}
+use Rattle.std.proofs.Common.{subst, subst₂, sym, ap, ◌∙◌}
+use Rattle.std.specs.Prelude.{All}
+use Rattle.nand_model.specs.Chip.{SimFaults}
+use Rattle.ctl_core.specs.Start.{CanStart, HasSession}
+use Rattle.nandlab.proofs.PlanRuns.{can_start, own_sessions}
 use Rattle.nandlab.proofs.run.run_plan.Goals as goal
 
-pub returns-clause-notes : goal.returns-clause-notes
-returns-clause-notes c =
-    notes_joined c.args.payload.now ((sim_state c.write_first.new.chip).pages 0).cells
-    c.in_ok-notes.notes.notes c.exchange.new.notes.notes c.write_first.new.notes.notes c.dump_first.new.notes.notes
-    c.in_ok-notes.ensures.notes c.exchange.ensures.notes c.in_ok-write_first.ensures.notes c.in_ok-dumped.ensures.notes c.in_ok-write_first.ensures.cells
-    ∙ sym (notes_of_course c.args.payload.now c.requires.some c.requires.fits (λ i. (c.type_inv.payload i).fits))
+pub start-requires : goal.start-requires
+start-requires c = subst₂ (λ boot starts. CanStart {W = SimFaults} boot starts) (sym c.in_ok-boot.ensures) (sym c.in_ok-flashes.ensures)
+    (can_start c.args.plan.now c.requires.ready)
 
-pub returns-clause-dumped : goal.returns-clause-dumped
-returns-clause-dumped c =
-    c.in_ok-dumped.ensures.body ∙ ap (take 2048) c.in_ok-write_first.ensures.cells ∙ take-image_of c.args.payload.now c.requires.fits
+pub replay-requires-clause-own : goal.replay-requires-clause-own
+replay-requires-clause-own c =
+    subst (λ boot. All (HasSession boot) c.args.plan.now.schedule) (sym (ap (λ core. core.boot) c.in_ok-core.ensures ∙ c.in_ok-boot.ensures))
+    (own_sessions c.args.plan.now c.requires.legal)

@@ -33,7 +33,8 @@ pub returns-in-Err-TooLong-clause-written : goal.returns-in-Err-TooLong-clause-w
 returns-in-Err-TooLong-clause-written g c =
     λ bytes before left_is held_is.
     let long : most_bytes < length bytes =
-    told (g.S.Source.left c.args.source.now) (λ left. most_bytes < length left) bytes left_is (c.in-Err-TooLong.ensures.too_long (ap Err c.in-Err-TooLong.field-0-is)) in
+    told (g.S.Source.left c.args.source.now) (λ left. most_bytes < length left) bytes left_is
+    (c.in-Err-TooLong.ensures.too_long (ap Err c.in-Err-TooLong.field-0-is)) in
     holds_written (map string_bytes c.args.words.now.items) bytes PlanRefused c.written-in-Err-TooLong.result (g.K.Sink.held c.args.sink.now)
     (g.K.Sink.held c.written-in-Err-TooLong.new.sink) too_long_line
     (HasRisen (g.K.Sink.faults c.args.sink.now) (g.K.Sink.faults c.written-in-Err-TooLong.new.sink))

@@ -1,0 +1,13 @@
+use Rattle.std.proofs.Common.{◌∙◌}
+use Rattle.std.specs.Prelude.{codes, decimal}
+use Rattle.nandlab.proofs.Joined.{eleven_joined, put_as}
+use Rattle.nandlab.proofs.outcomes.put_dumped.Goals as goal
+
+pub returns : goal.returns
+returns c =
+    put_as c.put_text.result c.args.out.now c.put_text.new.out c.as_str.result.now _
+    (c.as_str.ensures.value ∙ c.in_ok-text.ensures.ok
+    ∙ eleven_joined (codes "nanddump mtd") (decimal c.args.dev) (codes ": pages ") (decimal c.args.pages) (codes ", bad ") (decimal c.args.bad)
+    (codes ", corrected ") (decimal c.args.corrected)
+    (codes ", failed ") (decimal c.args.failed) (codes "\n"))
+    c.put_text.ensures
