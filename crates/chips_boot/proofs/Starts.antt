@@ -3,28 +3,32 @@ use Rattle.std.proofs.Common.{◌≡◌, ℕ, zero, suc, ◌+◌, ◌-◌, ◌*�
 use Rattle.std.specs.Prelude.{All, codes, flat_map, if◌then◌else◌, map, option_map, unwrap_or, slice_get, slice_index_or, sum_by, ◌==◌}
 use Rattle.std.proofs.Math.Nat.{sub-zero}
 use Rattle.std.proofs.lemmas.Bool.{le-ltb}
-use Rattle.std.proofs.lemmas.List.Elements.{All-cons, All-head, All-nil, All-tail}
+use Rattle.std.proofs.lemmas.List.Elements.{All-cons, All-head, All-nil, All-tail, All-weaker}
 use Rattle.std.proofs.lemmas.List.Sums.{sum_by-cons}
 use Rattle.std.proofs.lemmas.Option.{get_or_from_slice_get, slice_get-map}
 use Rattle.nand_model.specs.Chip.{ChipState, SimFaults, new_chip}
 use Rattle.nand_model.specs.Operation.{Partitions, part_of}
 use Rattle.nand_model.specs.Sizes.{small_chip}
 use Rattle.nand_model.specs.declared.geometry.Geometry.{Geometry}
+use Rattle.nand_model.specs.declared.words.BadMode.{BadMode}
+use Rattle.nand_model.specs.declared.words.BadMode.TheVariants.{PadBad, DumpBad}
 use Rattle.nand_model.specs.declared.words.Command.{Command}
 use Rattle.nand_model.specs.declared.words.Command.TheVariants.{FlashErase as ToErase, NandWrite as ToWrite, NandDump as ToDump, NandTest as ToTest, MarkBad as ToMark, Stats as ToCount, IsBad as ToAsk}
+use Rattle.nand_model.specs.declared.words.Flip.{Flip}
 use Rattle.nand_model.specs.declared.words.Part.{Part}
 use Rattle.run_model.specs.Command.{command_device, cost_of}
 use Rattle.run_model.specs.Course.{chip_of as chip_number, chip_of_part, geometry_for, geometry_of_chip, sizes_of as sizes_for}
-use Rattle.report_model.specs.Plan.{ChipPlan, new_chips}
+use Rattle.report_model.specs.Plan.{ChipPlan, items_of, new_chips}
 use Rattle.report_model.specs.Report.{line}
+use Rattle.report_model.proofs.Checked.{this_passes}
 use Rattle.tool_steps.specs.Stage.{CanRun, IsDeviceSize, device_size}
 use Rattle.tool_steps.proofs.Scripts.{cost_of-short}
-use Rattle.several_chip_plan.specs.SeveralChips.{IsChip, IsCommand, IsPlan, IsSeveralChipPlan, blocks_of, chip_of, chip_text, data_text, command_of, command_text, geometry_of, plan_text, schedule_text, session_text, sizes_of}
+use Rattle.several_chip_plan.specs.SeveralChips.{IsChip, IsCommand, IsFlip, IsPageOffset, IsPlan, IsSeveralChipPlan, blocks_of, chip_of, chip_text, data_text, command_of, command_text, flip_text, geometry_of, plan_text, schedule_text, session_text, sizes_of}
 use Rattle.several_chip_plan.specs.declared.lines.ChipLines.{ChipLines}
 use Rattle.several_chip_plan.specs.declared.lines.CommandLine.{CommandLine}
-use Rattle.several_chip_plan.specs.declared.lines.CommandLine.TheVariants.{NandWrite, NandDump, FlashErase, IsBad}
+use Rattle.several_chip_plan.specs.declared.lines.CommandLine.TheVariants.{RawWrite, NandWrite, RawDump, NandDump, NandDumpAt, FlashErase, IsBad, Stats}
 use Rattle.several_chip_plan.specs.declared.lines.PlanLines.{PlanLines}
-use Rattle.chips_boot.specs.Ready.{AllCommands, AreAscending, IsOfDevice, IsOnChip, IsReady, the_boot, the_chips}
+use Rattle.chips_boot.specs.Ready.{AllCommands, AreAscending, IsOfDevice, IsOnChip, IsOnFlash, IsReady, the_boot, the_chips}
 use Rattle.chips_boot.proofs.Devices.{length-parts_by, part_at, part_for, parts_by}
 use Rattle.chips_boot.proofs.Sessions.{session_for, sessions_by}
 
@@ -32,6 +36,7 @@ use Rattle.chips_boot.proofs.Sessions.{session_for, sessions_by}
 pub record HasSizes (chip : ChipLines) (g : Geometry) : Type 0 where
   pub page : g.page ≡ 2048
   pub pages : g.pages_per_block ≡ 64
+  pub spare : g.spare ≡ 64
   pub plain : g.bbt ≡ 0
   pub blocks : IsChip chip → g.blocks ≡ chip.blocks
 
@@ -43,10 +48,10 @@ blocks_large chip large n test is legal =
     ]
 
 sizes_by : (chip : ChipLines) (large strong : Bool) → (chip.blocks == 16) ≡ large → HasSizes chip (sizes_of large strong)
-sizes_by chip false false test = record { page = refl; pages = refl; plain = refl; blocks = blocks_large chip false 8 test refl }
-sizes_by chip false true test = record { page = refl; pages = refl; plain = refl; blocks = blocks_large chip false 8 test refl }
-sizes_by chip true false test = record { page = refl; pages = refl; plain = refl; blocks = blocks_large chip true 16 test refl }
-sizes_by chip true true test = record { page = refl; pages = refl; plain = refl; blocks = blocks_large chip true 16 test refl }
+sizes_by chip false false test = record { page = refl; pages = refl; spare = refl; plain = refl; blocks = blocks_large chip false 8 test refl }
+sizes_by chip false true test = record { page = refl; pages = refl; spare = refl; plain = refl; blocks = blocks_large chip false 8 test refl }
+sizes_by chip true false test = record { page = refl; pages = refl; spare = refl; plain = refl; blocks = blocks_large chip true 16 test refl }
+sizes_by chip true true test = record { page = refl; pages = refl; spare = refl; plain = refl; blocks = blocks_large chip true 16 test refl }
 
 has_sizes : (chip : ChipLines) → HasSizes chip (geometry_of chip)
 has_sizes chip = sizes_by chip (chip.blocks == 16) (chip.t == 4) refl
@@ -142,7 +147,7 @@ module _ (chips : List ChipLines) (payload : List ℕ) (legal : All IsChip chips
   few_operations g (ToAsk dev blocks block) h pages few = rw (cost_of-short g (ToAsk dev blocks block) blocks h) (omega arith)
   few_operations g (ToTest dev blocks keep mark seed passes off len) h pages few = absurd h
   few_operations g (ToMark dev blocks block) h pages few = absurd h
-  few_operations g (ToCount dev blocks) h pages few = absurd h
+  few_operations g (ToCount dev blocks) h pages few = rw (cost_of-short g (ToCount dev blocks) blocks h) (omega arith)
 
   -- a command of a device that can be run on its chip
   good_by : (command : Command) (dev : ℕ) (d : HasDevice chips dev) → command_device command ≡ dev → device_size command ≡ blocks_of chips dev
@@ -169,32 +174,31 @@ module _ (chips : List ChipLines) (payload : List ℕ) (legal : All IsChip chips
       ap (λ n. (geometry_of_chip (map (λ (s : ChipState SimFaults). s.geometry) (starts_of chips)) (chip_number (devices_by chips) n)).pages_per_block) names
       ∙ ap (λ (g : Geometry). g.pages_per_block) (geometry_found dev d) ∙ (has_sizes d.chip).pages
 
-  good_write : (dev : ℕ) → dev < length chips → 1 ≤ length payload → length payload ≤ 2048 → IsGood (command_of chips payload (NandWrite dev))
-  good_write dev below some fits =
+  -- a nandwrite of the data
+  good_write : (dev : ℕ) (raw : Bool) → dev < length chips → 1 ≤ length payload → length payload ≤ 2048
+      → IsGood (ToWrite dev (blocks_of chips dev) false raw false true 0 payload)
+  good_write dev raw below some fits =
       let d = has_device chips dev legal below in
-      let command : Command = command_of chips payload (NandWrite dev) in
+      let command : Command = ToWrite dev (blocks_of chips dev) false raw false true 0 payload in
       let page = page_found command dev d refl in
       good_by command dev d refl refl
-      (record { size = has_size dev d; unmarked = refl; is_raw = refl; body_only = refl; padded = refl; from_first = refl; some = some; one = omega (arith, page, fits) })
+      (record { size = has_size dev d; unmarked = refl; body_only = refl; padded = refl; from_first = refl; some = some; one = omega (arith, page, fits) })
 
-  good_dump : (dev : ℕ) → dev < length chips → IsGood (command_of chips payload (NandDump dev))
-  good_dump dev below =
+  -- a nanddump of a page
+  good_dump : (dev off : ℕ) (raw : Bool) (bad : BadMode) → dev < length chips → IsPageOffset (blocks_of chips dev) off
+      → IsGood (ToDump dev (blocks_of chips dev) off 2048 raw false bad)
+  good_dump dev off raw bad below is_page =
       let d = has_device chips dev legal below in
-      let command : Command = command_of chips payload (NandDump dev) in
+      let command : Command = ToDump dev (blocks_of chips dev) off 2048 raw false bad in
       let page = page_found command dev d refl in
       let pages = pages_found command dev d refl in
-      let size = has_size dev d in
-      let least : 1 ≤ blocks_of chips dev = size.0 in
+      let within : off < blocks_of chips dev * 64 * 2048 = is_page.1 in
       good_by command dev d refl refl
-      (record {
-        size = size;
-        whole = rw page refl;
-        in_device = rw (pages, page) (omega (arith, least));
-        one = sym page;
-        is_raw = refl;
-        body_only = refl;
-        all_blocks = refl;
-      })
+      (record { size = has_size dev d; whole = rw page is_page.0; in_device = rw (pages, page) (omega (arith, within)); one = sym page; body_only = refl })
+
+  -- the first page of a device
+  first_page : (dev : ℕ) → dev < length chips → IsPageOffset (blocks_of chips dev) 0
+  first_page dev below = let least = (has_size dev (has_device chips dev legal below)).0 in (refl, omega (arith, least))
 
   good_erase : (dev : ℕ) → dev < length chips → IsGood (command_of chips payload (FlashErase dev))
   good_erase dev below =
@@ -204,57 +208,68 @@ module _ (chips : List ChipLines) (payload : List ℕ) (legal : All IsChip chips
   good_ask : (dev block : ℕ) → dev < length chips → IsGood (command_of chips payload (IsBad dev block))
   good_ask dev block below = let d = has_device chips dev legal below in good_by (command_of chips payload (IsBad dev block)) dev d refl refl (has_size dev d)
 
-  good : (line : CommandLine) → length payload ≤ 2048 → IsCommand (length chips) (length payload) line → IsGood (command_of chips payload line)
-  good (NandWrite dev) fits h = good_write dev h.0 h.1 fits
-  good (NandDump dev) fits h = good_dump dev h
+  good_count : (dev : ℕ) → dev < length chips → IsGood (command_of chips payload (Stats dev))
+  good_count dev below = let d = has_device chips dev legal below in good_by (command_of chips payload (Stats dev)) dev d refl refl (has_size dev d)
+
+  good : (line : CommandLine) → length payload ≤ 2048 → IsCommand chips payload line → IsGood (command_of chips payload line)
+  good (RawWrite dev) fits h = good_write dev true h.0 h.1 fits
+  good (NandWrite dev) fits h = good_write dev false h.0 h.1 fits
+  good (RawDump dev) fits h = good_dump dev 0 true DumpBad h (first_page dev h)
+  good (NandDump dev) fits h = good_dump dev 0 false PadBad h (first_page dev h)
+  good (NandDumpAt dev off) fits h = good_dump dev off false PadBad h.0 h.1
   good (FlashErase dev) fits h = good_erase dev h
   good (IsBad dev block) fits h = good_ask dev block h.0
+  good (Stats dev) fits h = good_count dev h
 
   -- the commands of lines
   module _ (fits : length payload ≤ 2048) (P : Command → Type 0) (from_good : (command : Command) → IsGood command → P command) where
-    all_of_session : (lines : List CommandLine) → All (IsCommand (length chips) (length payload)) lines → All P (map (command_of chips payload) lines)
+    all_of_session : (lines : List CommandLine) → All (IsCommand chips payload) lines → All P (map (command_of chips payload) lines)
     all_of_session [] h = All-nil P
     all_of_session (line ∷ lines) h =
         All-cons P (command_of chips payload line) (map (command_of chips payload) lines)
-        (from_good (command_of chips payload line) (good line fits (All-head (IsCommand (length chips) (length payload)) line lines h)))
-        (all_of_session lines (All-tail (IsCommand (length chips) (length payload)) line lines h))
+        (from_good (command_of chips payload line) (good line fits (All-head (IsCommand chips payload) line lines h)))
+        (all_of_session lines (All-tail (IsCommand chips payload) line lines h))
 
-    all_of_sessions : (k : ℕ) (sessions : List (List CommandLine)) → All (All (IsCommand (length chips) (length payload))) sessions
+    all_of_sessions : (k : ℕ) (sessions : List (List CommandLine)) → All (All (IsCommand chips payload)) sessions
         → All (λ (s : ℕ × List Command). All P s.1) (sessions_by chips payload k sessions)
     all_of_sessions k [] h = All-nil (λ (s : ℕ × List Command). All P s.1)
     all_of_sessions k (lines ∷ sessions) h =
         All-cons (λ (s : ℕ × List Command). All P s.1) (session_for chips payload k lines) (sessions_by chips payload (k + 1) sessions)
-        (all_of_session lines (All-head (All (IsCommand (length chips) (length payload))) lines sessions h))
-        (all_of_sessions (k + 1) sessions (All-tail (All (IsCommand (length chips) (length payload))) lines sessions h))
+        (all_of_session lines (All-head (All (IsCommand chips payload)) lines sessions h))
+        (all_of_sessions (k + 1) sessions (All-tail (All (IsCommand chips payload)) lines sessions h))
 
   -- the operations of commands are few for the length of their lines
   abbrev cost : Command → ℕ
   cost command = cost_of (sizes command) command (device_size command)
 
   line_long : (line : CommandLine) → 1 ≤ length (command_text line)
+  line_long (RawWrite dev) = omega arith
   line_long (NandWrite dev) = omega arith
+  line_long (RawDump dev) = omega arith
   line_long (NandDump dev) = omega arith
+  line_long (NandDumpAt dev off) = omega arith
   line_long (FlashErase dev) = omega arith
   line_long (IsBad dev block) = omega arith
+  line_long (Stats dev) = omega arith
 
-  commands_cheap : length payload ≤ 2048 → (lines : List CommandLine) → All (IsCommand (length chips) (length payload)) lines
+  commands_cheap : length payload ≤ 2048 → (lines : List CommandLine) → All (IsCommand chips payload) lines
       → sum_by cost (map (command_of chips payload) lines) ≤ 1073 * length (flat_map command_text lines)
   commands_cheap fits [] h = omega arith
   commands_cheap fits (line ∷ lines) h =
-      let one : cost (command_of chips payload line) ≤ 1073 = (good line fits (All-head (IsCommand (length chips) (length payload)) line lines h)).cheap in
-      let more = commands_cheap fits lines (All-tail (IsCommand (length chips) (length payload)) line lines h) in
+      let one : cost (command_of chips payload line) ≤ 1073 = (good line fits (All-head (IsCommand chips payload) line lines h)).cheap in
+      let more = commands_cheap fits lines (All-tail (IsCommand chips payload) line lines h) in
       let long = line_long line in
       let joined = length-append (command_text line) (flat_map command_text lines) in
       let sum : sum_by cost (map (command_of chips payload) (line ∷ lines)) ≡ cost (command_of chips payload line) + sum_by cost (map (command_of chips payload) lines) =
       sum_by-cons cost (command_of chips payload line) (map (command_of chips payload) lines) in
       omega (arith, one, more, long, joined, sum)
 
-  sessions_cheap : length payload ≤ 2048 → (k : ℕ) (sessions : List (List CommandLine)) → All (All (IsCommand (length chips) (length payload))) sessions
+  sessions_cheap : length payload ≤ 2048 → (k : ℕ) (sessions : List (List CommandLine)) → All (All (IsCommand chips payload)) sessions
       → sum_by (λ (s : ℕ × List Command). sum_by cost s.1) (sessions_by chips payload k sessions) ≤ 1073 * length (flat_map session_text sessions)
   sessions_cheap fits k [] h = omega arith
   sessions_cheap fits k (lines ∷ sessions) h =
-      let one = commands_cheap fits lines (All-head (All (IsCommand (length chips) (length payload))) lines sessions h) in
-      let more = sessions_cheap fits (k + 1) sessions (All-tail (All (IsCommand (length chips) (length payload))) lines sessions h) in
+      let one = commands_cheap fits lines (All-head (All (IsCommand chips payload)) lines sessions h) in
+      let more = sessions_cheap fits (k + 1) sessions (All-tail (All (IsCommand chips payload)) lines sessions h) in
       let inner = length-append (line (codes "session 0")) (flat_map command_text lines) in
       let joined = length-append (session_text lines) (flat_map session_text sessions) in
       let sum : sum_by (λ (s : ℕ × List Command). sum_by cost s.1) (sessions_by chips payload k (lines ∷ sessions))
@@ -286,6 +301,33 @@ module _ (chips : List ChipLines) (payload : List ℕ) (legal : All IsChip chips
       let lies : IsOnChip (starts_of chips) (part_for k d.chip) = (new_of d.chip, start_at chips k d.chip d.is_there, (d.legal.some, omega (arith, within, blocks))) in
       subst (IsOnChip (starts_of chips)) (sym (is_part ∙ ap (λ n. part_for n d.chip) place)) lies
 
+-- bits that turn over as the form allows are of a page of a new chip
+flip_on_flash : (chips : List ChipLines) → All IsChip chips → (flip : Flip) → IsFlip chips flip → IsOnFlash (starts_of chips) flip
+flip_on_flash chips legal flip h =
+    let sizes = has_sizes h.chip in
+    let page = sizes.page in
+    let spare = sizes.spare in
+    let pages = sizes.pages in
+    let blocks = sizes.blocks (this_passes IsChip chips flip.chip h.chip h.is_there legal) in
+    let within = h.page in
+    record {
+      state = new_of h.chip;
+      is_there = start_at chips flip.chip h.chip h.is_there;
+      page = rw (blocks, pages) within;
+      bits = rw (page, spare) h.bits;
+      from_first = h.from_first;
+    }
+
+-- the flips of the one controller are all flips
+pub flips_of-all : (flips : List Flip) → items_of 0 (map (λ (flip : Flip). (0, flip)) flips) ≡ flips
+flips_of-all [] = refl
+flips_of-all (flip ∷ flips) = ap (λ l. flip ∷ l) (flips_of-all flips)
+
+flips_on_flash : (plan : PlanLines) → IsPlan plan → All (IsOnFlash (the_chips plan)) (the_boot plan).flips
+flips_on_flash plan legal =
+    subst (All (IsOnFlash (the_chips plan))) (sym (flips_of-all plan.flips))
+    (All-weaker (IsFlip plan.chips) (IsOnFlash (the_chips plan)) (flip_on_flash plan.chips legal.chips) plan.flips legal.flips)
+
 -- the text of the sessions is within the text of the plan
 sessions_short : (a sessions schedule : List ℕ) → length sessions ≤ length (a ++ sessions ++ schedule)
 sessions_short a sessions schedule =
@@ -294,7 +336,7 @@ sessions_short a sessions schedule =
 
 -- the text of a plan up to its sessions
 abbrev text_before : PlanLines → List ℕ
-text_before plan = line (codes "nandlab 1") ++ line (codes "controller") ++ flat_map chip_text plan.chips ++ data_text plan.payload ++ line (codes "boot")
+text_before plan = line (codes "nandlab 1") ++ line (codes "controller") ++ flat_map chip_text plan.chips ++ data_text plan.payload ++ line (codes "boot") ++ flat_map flip_text plan.flips
 
 -- each command of a plan can be run on its chip
 pub can_run : (plan : PlanLines) → IsPlan plan → AllCommands (λ (c : Command). CanRun (sizes_for (the_boot plan) (the_chips plan) c) c) (the_boot plan)
@@ -316,6 +358,8 @@ can_start bytes plan h =
       few = omega (arith, many, few);
       without_tables = without_tables plan.chips;
       parts = parts_on_chips plan.chips plan.payload legal.chips;
+      flips = flips_on_flash plan legal;
+      uncut = refl;
       devices = all_of_sessions plan.chips plan.payload legal.chips legal.payload_fits (IsOfDevice (devices_by plan.chips)) (λ command good. good.of_device) 0 plan.sessions legal.commands;
       runnable = can_run plan legal;
       ascending = ascending plan.chips plan.payload legal.chips plan.sessions;

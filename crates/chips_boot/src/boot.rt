@@ -6,56 +6,13 @@ ghost use Rattle.several_chip_plan.specs.SeveralChips.{IsCommand, IsPlan, boot_o
 ghost use Rattle.tool_steps.specs.Boot.{with_command};
 ghost use Rattle.chips_boot.specs.Sessions.{with_whole_session};
 
+use crate::command::command_of_line;
+use crate::faults::faults_of_flips;
 use crate::parts::parts_of_chips;
-use nand_model::{BadMode, Bytes, Command, ItemList};
+use nand_model::{Command, ItemList};
 use several_chip_plan::{ChipLines, CommandLine, PlanLines};
 use std::alloc::{AllocError, Global};
 use tool_steps::ControllerBoot;
-
-/// The command of a line, with the number of its device's blocks, and for a nandwrite the plan's data.
-pub fn command_of_line(
-    alloc: Global,
-    chips: &ItemList<ChipLines>,
-    payload: &[u8],
-    line: &CommandLine,
-) -> Result<Command, AllocError>
-    requires { IsCommand (length chips.now) (length payload.now) line.now }
-    ensures { IfOk result (λ command. command ≡ ordered chips.now payload.now line.now) }
-{
-    match *line {
-        CommandLine::NandWrite { dev } => Ok(Command::NandWrite {
-            dev,
-            blocks: chips.get(dev as usize).part,
-            mark: false,
-            raw: true,
-            oob: false,
-            pad: true,
-            off: 0,
-            bytes: Bytes::from_slice(alloc, payload)?,
-        }),
-        CommandLine::NandDump { dev } => Ok(Command::NandDump {
-            dev,
-            blocks: chips.get(dev as usize).part,
-            off: 0,
-            len: 2048,
-            raw: true,
-            oob: false,
-            bad: BadMode::DumpBad,
-        }),
-        CommandLine::FlashErase { dev } => Ok(Command::FlashErase {
-            dev,
-            blocks: chips.get(dev as usize).part,
-            no_scan: true,
-            start: 0,
-            count: 0,
-        }),
-        CommandLine::IsBad { dev, block } => Ok(Command::IsBad {
-            dev,
-            blocks: chips.get(dev as usize).part,
-            block,
-        }),
-    }
-}
 
 // Adds a command to the last session.
 fn add_command(boot: &mut ControllerBoot, command: Command) -> Result<(), AllocError>
@@ -75,7 +32,7 @@ fn add_session(
     lines: &ItemList<CommandLine>,
 ) -> Result<(), AllocError>
     requires later { All (λ (earlier : ℕ × List Ordered). earlier.0 < session) boot.old.sessions }
-    requires commands { All (IsCommand (length chips.now) (length payload.now)) lines.now }
+    requires commands { All (IsCommand chips.now payload.now) lines.now }
     ensures { OnOk result (boot.new ≡ with_whole_session boot.old session (map (ordered chips.now payload.now) lines.now)) }
 {
     boot.add_session(session)?;
@@ -86,13 +43,14 @@ fn add_session(
     Ok(())
 }
 
-/// The controller's part of a plan's boot: its partitions, and its sessions with their commands.
+/// The controller's part of a plan's boot: its partitions, its flips, and its sessions with their commands.
 pub fn boot_of_plan(alloc: Global, plan: &PlanLines) -> Result<ControllerBoot, AllocError>
     requires { IsPlan plan.now }
     ensures { IfOk result (λ boot. boot ≡ boot_part (plan_of plan.now) 0 (map chip_of plan.now.chips) (boot_of plan.now)) }
 {
     let parts = parts_of_chips(alloc, &plan.chips)?;
-    let mut boot = ControllerBoot::new(alloc, parts);
+    let faults = faults_of_flips(alloc, &plan.flips)?;
+    let mut boot = ControllerBoot::new(alloc, parts, faults);
     let payload = plan.payload.as_slice();
     for n in 0..plan.sessions.len() {
         add_session(
