@@ -1,0 +1,6 @@
+mod Decoding
+mod Operations
+mod Steps
+mod ReadCounts
+mod Courses
+mod Follows
