@@ -2,5 +2,5 @@ mod Decoding
 mod Operations
 mod Steps
 mod ReadCounts
-mod Courses
-mod Follows
+pub mod Courses
+pub mod Follows
