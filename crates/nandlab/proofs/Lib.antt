@@ -4,8 +4,5 @@ mod Entries
 mod Holding
 mod EndedTexts
 mod BootText
-mod ReadSums
-mod OpReads
-mod CourseReads
 mod PlanTurns
 mod PlanRuns

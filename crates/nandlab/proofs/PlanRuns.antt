@@ -14,6 +14,12 @@ use Rattle.nand_model.specs.declared.words.Stats.{Stats}
 use Rattle.run_model.specs.Course.{Course, SessionRun, chip_of as chip_of_device, course_after, geometry_for, is_finished, is_over, sizes_of, with_reply, without_finished}
 use Rattle.run_model.specs.History.{Exchange, Asked, Replied, exchanges_of, session_after}
 use Rattle.run_model.specs.Run.{AreComplete, CoursesAreFaithful, HaveOneNumberEach}
+use Rattle.count_laws.specs.Counts.{StatisticsFollow}
+use Rattle.count_laws.proofs.Follows.{statistics_follow}
+use Rattle.read_laws.specs.Fresh.{IsFresh}
+use Rattle.read_laws.specs.Laws.{CoursesReadBack}
+use Rattle.read_laws.proofs.Filled.{new_fresh}
+use Rattle.read_laws.proofs.Lives.{course_reads}
 use Rattle.run_laws.proofs.Faithful.{faithful}
 use Rattle.run_laws.proofs.Sessions.{number_stays}
 use Rattle.report_model.specs.Plan.{ChipPlan, devices_of, new_chips, sessions_from}
@@ -35,7 +41,6 @@ use Rattle.session_run.proofs.Once.{replayed_once}
 use Rattle.nandlab.specs.Answer.{IsHistory, IsReplay, IsReportOfPlan}
 use Rattle.nandlab.specs.Ends.{ends_by, stats_by, stats_of}
 use Rattle.nandlab.specs.Run.{EndsRun}
-use Rattle.nandlab.proofs.CourseReads.{statistics_are_reads}
 use Rattle.nandlab.proofs.PlanTurns.{numbered, replay_turns-rounds}
 
 -- a new chip of the form is plain
@@ -124,6 +129,12 @@ module _ (plan : PlanLines) (notes : List Note) (complete : AreComplete (the_boo
       ends_from 0 plan.sessions (λ s has. has)
       ∙ ap (λ sizes. ends_by sizes 0 (boot_of plan).sessions notes) (same_sizes plan)
 
+-- the new chips of a plan are fresh
+chips_fresh : (chips : List ChipLines) (k : ℕ) (s : ChipState SimFaults) → slice_get (new_chips (map chip_of chips)) k ≡ Some s → IsFresh s
+chips_fresh [] k s h = absurd (none-some s h)
+chips_fresh (chip ∷ chips) zero s h = subst IsFresh (same_Some (new_chip (geometry_of chip) [] []) s h) (new_fresh (geometry_of chip) [])
+chips_fresh (chip ∷ chips) (suc k) s h = chips_fresh chips k s h
+
 -- each number from m on stands once among n of them
 none_before : (s m n : ℕ) → s < m → count_by (λ k. k == s) (numbers_from m n) ≡ 0
 none_before s m zero low = refl
@@ -192,7 +203,10 @@ module _ (plan : PlanLines) (notes : List Note) (ends : List EndOfSession) (stat
   sums dev =
       subst (λ (course : Course SimFaults). statistics_at course (chip_of_device (the_boot plan).partitions dev) dev
       ≡ stats_of (reads_of dev (numbers_from 0 (length plan.sessions)) course.notes)) (sym run.replayed.steps)
-      (statistics_are_reads sim_faults (the_boot plan) (the_chips plan) (numbers_from 0 (length plan.sessions)) (once plan) run.replayed.attaches turns dev)
+      (λ i. record { corrected = counted.corrected i; failed = counted.failed i })
+    where
+      counted : StatisticsFollow sim_faults (the_boot plan) (the_chips plan) run.replayed.attaches turns (numbers_from 0 (length plan.sessions)) dev
+      counted = statistics_follow sim_faults (the_boot plan) (the_chips plan) run.replayed.attaches turns (numbers_from 0 (length plan.sessions)) (once plan) dev
 
   -- what the devices counted
   pub run_stats : stats ≡ stats_by 0 (length plan.chips) (length plan.sessions) notes
@@ -228,12 +242,16 @@ module _ (plan : PlanLines) (notes : List Note) (ends : List EndOfSession) (stat
     counted = found.counted;
     of_log = found.of_log;
     one_thread = found.one_thread;
+    reads_back = λ k chip life at has. read.reads_back k chip life at (chips_fresh plan.chips k chip at) has;
     in_order = found.in_order one;
     complete = subst (λ (course : Course SimFaults). AreComplete (the_boot plan) (the_chips plan) course.notes) run.replayed.steps complete_notes;
   })
     where
+      read : CoursesReadBack sim_faults (the_boot plan) (the_chips plan) run.replayed.attaches turns
+      read = course_reads sim_faults (the_boot plan) (the_chips plan) run.replayed.attaches turns
+
       found : CoursesAreFaithful sim_faults (the_boot plan) (the_chips plan) run.replayed.attaches turns
-      found = faithful sim_faults (the_boot plan) (the_chips plan) run.replayed.attaches turns
+      found = read.faithful
 
   -- the text of these notes is the report of the plan
   pub run_report : (text : List ℕ) → text ≡ report_text (plan_of plan) ((notes ∷ []) ∷ []) → IsReportOfPlan plan text

@@ -1,9 +1,10 @@
 -- What a call writes, by its words and the bytes that it reads.
-use Rattle.std.specs.Prelude.{◌≡◌, ℕ, ◌<◌, ◌≤◌, ◌++◌, Bool, true, false, List, [], ◌∷◌, length, map, take, codes, bytes_eq}
-use Rattle.nand_model.specs.Chip.{SimFaults, sim_faults}
+use Rattle.std.specs.Prelude.{◌≡◌, ℕ, ◌<◌, ◌≤◌, ◌++◌, Bool, true, false, List, [], ◌∷◌, length, map, take, slice_get, Some, codes, bytes_eq}
+use Rattle.nand_model.specs.Chip.{ChipState, SimFaults, sim_faults}
 use Rattle.run_model.specs.Course.{Course, IsWholeCourse, end_states}
 use Rattle.run_model.specs.History.{AreOneThread, ChipBoot}
 use Rattle.run_model.specs.Log.{AreOfLog, Log}
+use Rattle.run_model.specs.ReadBack.{ReadsBackAlong}
 use Rattle.run_model.specs.Run.{AreComplete, AreInOrder}
 use Rattle.report_model.specs.Headline.{replay_turns}
 use Rattle.report_model.specs.Report.{line, report_text}
@@ -36,13 +37,16 @@ pub record IsReplay (plan : PlanLines) (course : Course SimFaults) : Type 0 wher
   pub rounds : ℕ
   pub whole : IsWholeCourse sim_faults (the_boot plan) (the_chips plan) (replay_turns (boot_of plan) rounds 0) course
 
--- the notes of a course of the plan are a history of one thread, by what befell its chips, in which all operations of each session stand once and in order
+-- the notes of a course of the plan are a history of one thread, by what befell its chips, in which all operations of each session stand once and in order;
+-- and along it each answered read of a page that one good program has filled since it was erased, with at most t flips in each step's word, gives the written body and parity bits with exact counts
 pub record IsHistory (plan : PlanLines) (course : Course SimFaults) : Type 0 where
   pub lives : List ChipBoot
   pub log : Log
   pub counted : course.events ≡ length log
   pub of_log : AreOfLog sim_faults (the_boot plan) (the_chips plan) lives (end_states course) log
   pub one_thread : AreOneThread sim_faults (the_boot plan).partitions (the_chips plan) (map (λ (b : ChipBoot). b ∷ []) lives) (course.notes ∷ [])
+  pub reads_back : (k : ℕ) (chip : ChipState SimFaults) (life : ChipBoot) → slice_get (the_chips plan) k ≡ Some chip → slice_get lives k ≡ Some life
+      → ReadsBackAlong sim_faults chip [] (life ∷ [])
   pub in_order : AreInOrder (the_boot plan) (the_chips plan) course.notes
   pub complete : AreComplete (the_boot plan) (the_chips plan) course.notes
 
