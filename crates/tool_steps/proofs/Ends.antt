@@ -82,7 +82,8 @@ module _ (g : Geometry) (unit : List ℕ) (dev : ℕ) (raw : Bool) where
       (omega arith)
 
 -- a command of one operation
-ask_ends : (op : Op) (outcome : Reply → Outcome) (replies : List Reply) → 1 ≤ length replies → IsOver (next_in (after_replies replies (Ask op (λ r. End (outcome r)))))
+ask_ends : (op : Op) (outcome : Reply → Outcome) (replies : List Reply) → 1 ≤ length replies
+    → IsOver (next_in (after_replies replies (Ask op (λ r. End (outcome r)))))
 ask_ends op outcome [] h = absurd (omega arith)
 ask_ends op outcome (r ∷ replies) h = over_stays replies (outcome r)
 

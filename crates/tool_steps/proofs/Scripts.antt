@@ -76,7 +76,8 @@ pub script_of-write : (g : Geometry) (dev blocks : ℕ) (raw pad : Bool) (bytes 
     → script_of g (NandWrite dev blocks false raw false pad 0 bytes)
     ≡ write_blocks g (write_mode dev raw) blocks 0 0 ((bytes ++ replicate (g.page - length bytes) 0xff) ∷ []) (unwritten 0 0)
 script_of-write g dev blocks raw pad bytes some one =
-    rw (unit_count-one g bytes some one) (rw (zero-div (block_size g)) (rw (zero-div g.page) (rw (zero-mod g.pages_per_block) (rw (sub-zero blocks, take_all g.page bytes one) refl))))
+    rw (unit_count-one g bytes some one) (rw (zero-div (block_size g)) (rw (zero-div g.page) (rw (zero-mod g.pages_per_block)
+    (rw (sub-zero blocks, take_all g.page bytes one) refl))))
 
 -- the blocks of a device are a first one and the others
 one_more : (blocks : ℕ) → 1 ≤ blocks → blocks ≡ suc (blocks - 1)
@@ -104,7 +105,8 @@ first-write : (g : Geometry) (dev blocks : ℕ) (mark raw oob pad : Bool) (off :
 first-write g dev blocks mark raw oob pad off bytes h =
     rw (h.unmarked, h.body_only, h.from_first)
     (script_of-write g dev blocks raw pad bytes h.some h.one
-    ∙ ap (λ (n : ℕ). write_blocks g (write_mode dev raw) n 0 0 ((bytes ++ replicate (g.page - length bytes) 0xff) ∷ []) (unwritten 0 0)) (one_more blocks h.size.0))
+    ∙ ap (λ (n : ℕ). write_blocks g (write_mode dev raw) n 0 0 ((bytes ++ replicate (g.page - length bytes) 0xff) ∷ []) (unwritten 0 0))
+    (one_more blocks h.size.0))
 
 first-dump : (g : Geometry) (dev blocks off len : ℕ) (raw oob : Bool) (bad : BadMode) → DumpsOnePage g blocks off len oob
     → script_of g (NandDump dev blocks off len raw oob bad) ≡ dump_left g (dump_at g dev off raw bad)
@@ -193,7 +195,8 @@ page_of_dump-lt g command dev blocks off len raw oob bad same h =
     dumped_page-lt g blocks off dumps.size.1 dumps.in_device
 
 -- replies one after another
-pub after_replies-append : (first second : List Reply) (script : Script) → after_replies (first ++ second) script ≡ after_replies second (after_replies first script)
+pub after_replies-append : (first second : List Reply) (script : Script)
+    → after_replies (first ++ second) script ≡ after_replies second (after_replies first script)
 after_replies-append [] second script = refl
 after_replies-append (r ∷ first) second (Ask op go_on) = after_replies-append first second (go_on r)
 after_replies-append (r ∷ first) [] (End outcome) = refl
