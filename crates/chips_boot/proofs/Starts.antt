@@ -336,7 +336,9 @@ sessions_short a sessions schedule =
 
 -- the text of a plan up to its sessions
 abbrev text_before : PlanLines → List ℕ
-text_before plan = line (codes "nandlab 1") ++ line (codes "controller") ++ flat_map chip_text plan.chips ++ data_text plan.payload ++ line (codes "boot") ++ flat_map flip_text plan.flips
+text_before plan =
+    line (codes "nandlab 1") ++ line (codes "controller") ++ flat_map chip_text plan.chips ++ data_text plan.payload ++ line (codes "boot")
+    ++ flat_map flip_text plan.flips
 
 -- each command of a plan can be run on its chip
 pub can_run : (plan : PlanLines) → IsPlan plan → AllCommands (λ (c : Command). CanRun (sizes_for (the_boot plan) (the_chips plan) c) c) (the_boot plan)

@@ -118,7 +118,9 @@ pub record IsFound (l : Line) (found : Option CommandLine) : Type 0 where
   pub is_found : found ≡ Some command
   pub is_line : l ≡ Command command
 
-pub command_found : (l : Line) (head : Head) (rest : List ℕ) (found : Option CommandLine) → IsProper l → head_of l ≡ head → rank_of_head head ≡ 9 → tail_text l ≡ rest
+pub command_found : (l : Line) (head : Head) (rest : List ℕ) (found : Option CommandLine) → IsProper l → head_of l ≡ head → rank_of_head head ≡ 9
+    → tail_text l ≡ rest
     → ((command : CommandLine) → HasNumbers command → head ≡ head_of_command command → rest ≡ command_tail command → found ≡ Some command) → IsFound l found
-command_found (Command command) head rest found proper kind nine tail by = record { command = command; is_found = by command proper (sym kind) (sym tail); is_line = refl }
+command_found (Command command) head rest found proper kind nine tail by =
+    record { command = command; is_found = by command proper (sym kind) (sym tail); is_line = refl }
 command_found l head rest found proper kind nine tail by = let nine_too = sym (rank_is l) ∙ ap rank_of_head kind ∙ nine in absurd (omega (arith, nine_too))

@@ -75,7 +75,8 @@ schedule_lines-text [] = refl
 schedule_lines-text (n ∷ numbers) = append-nil (line_text (Schedule (n ∷ numbers)))
 
 -- the texts of parts that each item of a list has
-all-text : {A : Type 0} (lines : A → List Line) (text : A → List ℕ) → ((x : A) → texts (lines x) ≡ text x) → (xs : List A) → texts (flat_map lines xs) ≡ flat_map text xs
+all-text : {A : Type 0} (lines : A → List Line) (text : A → List ℕ) → ((x : A) → texts (lines x) ≡ text x) → (xs : List A)
+    → texts (flat_map lines xs) ≡ flat_map text xs
 all-text lines text same [] = refl
 all-text lines text same (x ∷ xs) =
     flat_map-append line_text (lines x) (flat_map lines xs) ∙ ap (λ t. t ++ texts (flat_map lines xs)) (same x) ∙ ap (λ t. text x ++ t) (all-text lines text same xs)
@@ -146,7 +147,8 @@ module _ (chips : List ChipLines) (payload : List ℕ) where
         ∙ commands_made before (done ++ command ∷ []) commands
         ∙ ap (λ d. with_sessions (before ++ d ∷ [])) (append_assoc done (command ∷ []) commands)
 
-    sessions_made : (done sessions : List (List CommandLine)) → fold with_line (with_sessions done) (flat_map session_lines sessions) ≡ with_sessions (done ++ sessions)
+    sessions_made : (done sessions : List (List CommandLine))
+        → fold with_line (with_sessions done) (flat_map session_lines sessions) ≡ with_sessions (done ++ sessions)
     sessions_made done [] = ap with_sessions (sym (append-nil done))
     sessions_made done (commands ∷ sessions) =
         fold-append with_line (with_sessions (done ++ [] ∷ [])) (map Command commands) (flat_map session_lines sessions)
@@ -205,7 +207,8 @@ chips_proper (chip ∷ chips) legal =
     let t = one_of chip.t 1 4 h.t (omega arith) (omega arith) in
     let within : chip.part ≤ chip.blocks = h.within in
     All-cons IsProper (Chip chip.blocks chip.t) (Part chip.part ∷ flat_map chip_lines chips) (few chip.blocks blocks, few chip.t t)
-    (All-cons IsProper (Part chip.part) (flat_map chip_lines chips) (few chip.part (omega (arith, blocks, within))) (chips_proper chips (All-tail IsChip chip chips legal)))
+    (All-cons IsProper (Part chip.part) (flat_map chip_lines chips) (few chip.part (omega (arith, blocks, within)))
+    (chips_proper chips (All-tail IsChip chip chips legal)))
 
 flip_proper : (chips : List ChipLines) → length chips ≤ 8 → All IsChip chips → (flip : Turned) → IsFlip chips flip → HasFlipNumbers flip
 flip_proper chips small legal flip h =
@@ -286,7 +289,8 @@ lines_proper plan legal =
     (All-append IsProper (a ++ b ++ c ++ d) e
     (All-append IsProper (a ++ b ++ c) d
     (All-append IsProper (a ++ b) c
-    (All-append IsProper a b (All-cons IsProper Header (Controller ∷ []) tt (All-cons IsProper Controller [] tt (All-nil IsProper))) (chips_proper plan.chips legal.chips))
+    (All-append IsProper a b (All-cons IsProper Header (Controller ∷ []) tt (All-cons IsProper Controller [] tt (All-nil IsProper)))
+    (chips_proper plan.chips legal.chips))
     (data_proper plan legal plan.payload refl))
     (All-cons IsProper Boot [] tt (All-nil IsProper)))
     (flips_proper plan.chips chips legal.chips plan.flips legal.flips))

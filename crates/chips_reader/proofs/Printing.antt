@@ -17,7 +17,8 @@ chip_joined c b s t z l p q n = simp append_assoc refl
 pub chip_printed : (chip : ChipLines)
     → codes "chip 2048 64 64 " ++ (decimal chip.blocks ++ (codes " " ++ (decimal chip.t ++ (codes " 0\npart 0 " ++ (decimal chip.part ++ codes "\n"))))) ≡ chip_text chip
 chip_printed chip =
-    chip_joined (codes "chip 2048 64 64 ") (decimal chip.blocks) (codes " ") (decimal chip.t) (codes " 0") (codes "\n") (codes "part 0 ") (decimal chip.part) (codes "\n")
+    chip_joined (codes "chip 2048 64 64 ") (decimal chip.blocks) (codes " ") (decimal chip.t) (codes " 0") (codes "\n") (codes "part 0 ")
+    (decimal chip.part) (codes "\n")
 
 -- the data line
 pub data_printed : (payload : List ℕ) → 0 < length payload → codes "data img hex:" ++ (encode_lower payload ++ codes "\n") ≡ data_text payload

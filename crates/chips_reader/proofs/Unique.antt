@@ -33,7 +33,8 @@ chip_same b t c u fits_b fits_t fits_c fits_u e =
     let rest : List ℕ = codes " " ++ (decimal u ++ codes " 0") in
     let joined : chip_tail b t ≡ decimal c ++ rest =
     e ∙ append_assoc (decimal c ++ codes " ") (decimal u) (codes " 0") ∙ append_assoc (decimal c) (codes " ") (decimal u ++ codes " 0") in
-    let cut = chip_cut b t (chip_tail b t) (decimal c) rest fits_b refl joined (decimal_lacks 32 c (lit< tt) (omega (arith, fits_c))) (inr (decimal u ++ codes " 0", refl)) in
+    let cut = chip_cut b t (chip_tail b t) (decimal c) rest fits_b refl joined (decimal_lacks 32 c (lit< tt) (omega (arith, fits_c)))
+    (inr (decimal u ++ codes " 0", refl)) in
     let second = append_cancel_left (codes " ") (decimal u ++ codes " 0") (decimal t ++ codes " 0") cut.1 in
     (number_same b c fits_b fits_c (sym cut.0), ended_same t u (codes " 0") fits_t fits_u (sym second))
 
@@ -53,7 +54,8 @@ numbers_same (m ∷ ms) (n ∷ ns) all_m all_n e =
     let fits_m = All-head (λ k. k < 2 ^ 32) m ms all_m in
     let fits_n = All-head (λ k. k < 2 ^ 32) n ns all_n in
     let inner = append_cancel_left (codes " ") (decimal m ++ flat_map spaced_number ms) (decimal n ++ flat_map spaced_number ns) e in
-    let cut = number_cut m (flat_map spaced_number ms) (decimal m ++ flat_map spaced_number ms) (decimal n) (flat_map spaced_number ns) fits_m refl (numbers_begin ms) inner
+    let cut = number_cut m (flat_map spaced_number ms) (decimal m ++ flat_map spaced_number ms) (decimal n) (flat_map spaced_number ns) fits_m refl
+    (numbers_begin ms) inner
     (decimal_lacks 32 n (lit< tt) (omega (arith, fits_n))) (numbers_begin ns) in
     let same = number_same m n fits_m fits_n (sym cut.0) in
     let rest = numbers_same ms ns (All-tail (λ k. k < 2 ^ 32) m ms all_m) (All-tail (λ k. k < 2 ^ 32) n ns all_n) (sym cut.1) in
@@ -136,12 +138,14 @@ lines_same (a ∷ ls) (b ∷ ms) all_a all_b e =
     let more_b : List ℕ = flat_map line_text ms in
     let joined : line_body a ++ 10 ∷ more_a ≡ line_body b ++ 10 ∷ more_b =
     sym (append_assoc (line_body a) (10 ∷ []) more_a) ∙ e ∙ append_assoc (line_body b) (10 ∷ []) more_b in
-    let cut = cut_same 10 (line_body a) (10 ∷ more_a) (line_body b) (10 ∷ more_b) joined (body_lacks a pa) (body_lacks b pb) (inr (more_a, refl)) (inr (more_b, refl)) in
+    let cut = cut_same 10 (line_body a) (10 ∷ more_a) (line_body b) (10 ∷ more_b) joined (body_lacks a pa) (body_lacks b pb) (inr (more_a, refl))
+    (inr (more_b, refl)) in
     let rest = lines_same ls ms (All-tail IsProper a ls all_a) (All-tail IsProper b ms all_b) (append_cancel_left (10 ∷ []) more_a more_b cut.1) in
     ap (λ l. l ∷ ls) (body_same a b pa pb cut.0) ∙ ap (λ ls. b ∷ ls) rest
 
 -- bytes are the text of one plan at most
 pub plan_same : (bytes : List ℕ) (p q : PlanLines) → IsSeveralChipPlan bytes p → IsSeveralChipPlan bytes q → p ≡ q
 plan_same bytes p q h k =
-    let lines = lines_same (lines_of p) (lines_of q) (lines_proper p h.legal) (lines_proper q k.legal) (lines_of-text p ∙ sym h.text ∙ k.text ∙ sym (lines_of-text q)) in
+    let lines = lines_same (lines_of p) (lines_of q) (lines_proper p h.legal) (lines_proper q k.legal)
+    (lines_of-text p ∙ sym h.text ∙ k.text ∙ sym (lines_of-text q)) in
     sym (lines_make p) ∙ ap (fold with_line new_plan) lines ∙ lines_make q

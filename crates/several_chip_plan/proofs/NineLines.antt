@@ -33,7 +33,8 @@ joined a chips d e n b sessions c s same_chips same_sessions = rw (same_chips, s
 text_same : (payload : List ℕ) → 1 ≤ length payload → plan_text (nine_lines payload) ≡ text_of_nine payload
 text_same [] some = absurd (omega (arith, some))
 text_same (byte ∷ bytes) some =
-    joined (codes "nandlab 1\ncontroller\n") (codes "chip 2048 64 64 8 1 0\npart 0 1\n") (codes "data img hex:") (encode_lower (byte ∷ bytes)) (codes "\n") (codes "boot\n")
+    joined (codes "nandlab 1\ncontroller\n") (codes "chip 2048 64 64 8 1 0\npart 0 1\n") (codes "data img hex:") (encode_lower (byte ∷ bytes))
+    (codes "\n") (codes "boot\n")
     (codes "session 0\nnandwrite -n -p mtd0 img\nnanddump -n --bb=dumpbad -l 2048 mtd0\n") (chip_text nine_chip) (session_text (RawWrite 0 ∷ RawDump 0 ∷ []))
     chip_lines session_lines
 

@@ -25,7 +25,8 @@ pub add_session-requires-clause-commands : goal.add_session-requires-clause-comm
 add_session-requires-clause-commands c =
     let P : List ℕ → Type 0 = λ payload. All (IsCommand c.args.plan.now.chips payload) c.get.result.now in
     subst P (sym c.as_slice-payload.ensures)
-    (this_passes (All (IsCommand c.args.plan.now.chips c.args.plan.now.payload)) c.args.plan.now.sessions c.loop-n.n c.get.result.now c.get.ensures c.requires.commands)
+    (this_passes (All (IsCommand c.args.plan.now.chips c.args.plan.now.payload)) c.args.plan.now.sessions c.loop-n.n c.get.result.now c.get.ensures
+    c.requires.commands)
 
 pub loop-n-preserved : goal.loop-n-preserved
 loop-n-preserved c =
@@ -36,13 +37,16 @@ loop-n-preserved c =
     c.in_ok-add_session.ensures
     ∙ ap (λ (b : Boot). with_whole_session b n (map (command_of c.args.plan.now.chips c.as_slice-payload.result.now) c.get.result.now)) c.loop-n.invariant
     ∙ ap (λ (payload : List ℕ). with_whole_session done n (map (command_of c.args.plan.now.chips payload) c.get.result.now)) c.as_slice-payload.ensures
-    ∙ ap (boot_with devices c.args.plan.now.flips) (sym (sessions_by-more c.args.plan.now.chips c.args.plan.now.payload c.args.plan.now.sessions n c.get.result.now c.get.ensures within))
+    ∙ ap (boot_with devices c.args.plan.now.flips)
+    (sym (sessions_by-more c.args.plan.now.chips c.args.plan.now.payload c.args.plan.now.sessions n c.get.result.now c.get.ensures within))
 
 pub returns : goal.returns
 returns c =
     let devices : Partitions = record { first = 0; parts = parts_by 0 c.args.plan.now.chips } in
     let all : c.loop-n.n ≡ length c.args.plan.now.sessions = omega (arith, c.loop-n-test.false, c.loop-n.auto.n-end, c.len-n-end.ensures) in
-    let sessions : take c.loop-n.n c.args.plan.now.sessions ≡ c.args.plan.now.sessions = ap (λ k. take k c.args.plan.now.sessions) all ∙ take-length c.args.plan.now.sessions in
+    let sessions : take c.loop-n.n c.args.plan.now.sessions ≡ c.args.plan.now.sessions =
+    ap (λ k. take k c.args.plan.now.sessions) all ∙ take-length c.args.plan.now.sessions in
     c.loop-n.invariant
     ∙ ap (λ (s : List (List CommandLine)). boot_with devices c.args.plan.now.flips (sessions_by c.args.plan.now.chips c.args.plan.now.payload 0 s)) sessions
-    ∙ ap (λ (flips : List Flip). boot_with devices flips (sessions_by c.args.plan.now.chips c.args.plan.now.payload 0 c.args.plan.now.sessions)) (sym (flips_of-all c.args.plan.now.flips))
+    ∙ ap (λ (flips : List Flip). boot_with devices flips (sessions_by c.args.plan.now.chips c.args.plan.now.payload 0 c.args.plan.now.sessions))
+    (sym (flips_of-all c.args.plan.now.flips))

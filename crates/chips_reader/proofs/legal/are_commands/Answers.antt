@@ -4,7 +4,9 @@ use Rattle.report_model.proofs.Checked.{all_pass, one_passes, this_passes}
 use Rattle.chips_reader.proofs.legal.are_commands.Goals as goal
 
 pub loop-n-preserved : goal.loop-n-preserved
-loop-n-preserved c = one_passes (IsCommand c.args.chips.now c.args.payload.now) c.args.commands.now c.loop-n.n c.get.result.now c.get.ensures c.loop-n.invariant (c.if-not-is_command.ensures.0 refl)
+loop-n-preserved c =
+    one_passes (IsCommand c.args.chips.now c.args.payload.now) c.args.commands.now c.loop-n.n c.get.result.now c.get.ensures c.loop-n.invariant
+    (c.if-not-is_command.ensures.0 refl)
 
 pub returns-then-not-is_command : goal.returns-then-not-is_command
 returns-then-not-is_command c = (

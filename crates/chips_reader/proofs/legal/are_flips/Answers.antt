@@ -4,7 +4,8 @@ use Rattle.report_model.proofs.Checked.{all_pass, one_passes, this_passes}
 use Rattle.chips_reader.proofs.legal.are_flips.Goals as goal
 
 pub loop-n-preserved : goal.loop-n-preserved
-loop-n-preserved c = one_passes (IsFlip c.args.chips.now) c.args.flips.now c.loop-n.n c.get.result.now c.get.ensures c.loop-n.invariant (c.if-not-is_flip.ensures.0 refl)
+loop-n-preserved c =
+    one_passes (IsFlip c.args.chips.now) c.args.flips.now c.loop-n.n c.get.result.now c.get.ensures c.loop-n.invariant (c.if-not-is_flip.ensures.0 refl)
 
 pub returns-then-not-is_flip : goal.returns-then-not-is_flip
 returns-then-not-is_flip c = (
