@@ -1,4 +1,4 @@
-use Rattle.std.proofs.Common.{◌≡◌, ◌∙◌, ◌+◌, ◌*◌, ℕ, ap, sym, subst, length, All, [], arith}
+use Rattle.std.proofs.Common.{◌∙◌, ℕ, ap, sym, subst, length, All, [], arith}
 use Rattle.std.specs.Vec.{with_items}
 use Rattle.std.proofs.lemmas.List.{with_items_is}
 use Rattle.nand_model.specs.Sizes.{raw_len}
@@ -17,16 +17,14 @@ overflow_add-end c = omega (arith, block_end-small c.args.self.now.geometry c.ar
 pub invariant_of-self : goal.invariant_of-self
 invariant_of-self c =
     let s = c.args.self.now in
-    let new = c.clear_slots.new.slots in
-    let pages : ℕ = s.geometry.pages_per_block in
-    let first : ℕ = c.args.block * s.geometry.pages_per_block in
-    let same = with_items_is s.slots new (c.clear_slots.auto.slots ∙ c.deref_mut.ensures.len) in
-    let count : length c.clear_slots.new.slots ≡ length c.args.self.now.slots.items = c.clear_slots.auto.slots ∙ ap length c.deref_mut.ensures.value in
-    let whole = cleared-whole (raw_len s.geometry) first (first + pages) s.slots.items new count
-    (λ page. rw (← c.deref_mut.ensures.value) (c.clear_slots.ensures page)) s.whole in
+    let raw : ℕ = raw_len c.args.self.now.geometry in
+    let lent = c.deref_mut.result.now in
+    let same = with_items_is s.slots c.clear_slots.new.slots (c.clear_slots.auto.slots ∙ c.deref_mut.ensures.len) in
+    let before : All (IsWholeSlot raw) c.deref_mut.result.now = rw c.deref_mut.ensures.value s.whole in
+    let after = cleared-whole raw _ _ lent c.clear_slots.new.slots c.clear_slots.auto.slots c.clear_slots.ensures before in
     record {
-      all_there = ap length same ∙ count ∙ s.all_there;
-      whole = subst (All (IsWholeSlot (raw_len s.geometry))) (sym same) whole;
+      all_there = ap length same ∙ c.clear_slots.auto.slots ∙ ap length c.deref_mut.ensures.value ∙ s.all_there;
+      whole = subst (All (IsWholeSlot raw)) (sym same) after;
       blanks_fit = s.blanks_fit;
     }
 
