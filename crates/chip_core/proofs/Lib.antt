@@ -4,6 +4,7 @@ pub mod Imaging
 pub mod Scanning
 pub mod Quiet
 pub mod Ranges
+pub mod Answering
 pub mod Advancing
 pub mod Seen
 pub mod Performing

@@ -1,5 +1,5 @@
 -- What a chip is at, as its stage.
-use Rattle.std.specs.Prelude.{◌≡◌, ℕ, ◌<◌, ◌&&◌, take, length, ⊤, Option, Some, None, IsSome, option_map, Bool}
+use Rattle.std.specs.Prelude.{◌≡◌, ℕ, ◌<◌, ◌&&◌, List, take, length, ⊤, Option, Some, None, IsSome, option_map, Bool}
 use Rattle.std.specs.Coded.{Unit-prop}
 use Rattle.std.proofs.Props.{props}
 use Rattle.nand_model.specs.Chip.{ChipState}
@@ -16,6 +16,7 @@ use Rattle.chip_core.specs.declared.knowledge.Knowledge.{Knowledge}
 use Rattle.chip_core.specs.declared.scan.Finding.{Finding}
 use Rattle.chip_core.specs.declared.scan.Scan.{Scan}
 use Rattle.chip_core.specs.declared.phase.Phase.{Phase}
+use Rattle.chip_core.specs.declared.sums.DeviceSums.{DeviceSums}
 use Rattle.chip_core.specs.declared.task.Task.{Task}
 use Rattle.chip_core.specs.declared.phase.Phase.TheVariants.{Attaching as IsAttaching, Resting, Working}
 
@@ -33,29 +34,29 @@ pub record ScanFits (g : Geometry) (scan : Scan) : Type 0 where
   pub states : length scan.states ≡ g.blocks
 
 -- an attach fits, and no device has statistics yet
-pub record AttachFits (known : Knowledge) (scan : Scan) : Type 0 where
-  pub scan_fits : ScanFits known.geometry scan
-  pub fresh : length known.sums ≡ 0
+pub record AttachFits (g : Geometry) (sums : List DeviceSums) (scan : Scan) : Type 0 where
+  pub scan_fits : ScanFits g scan
+  pub fresh : length sums ≡ 0
 
 -- a task fits, and the statistics that it adds to have an entry and room
-pub record WorkFits (known : Knowledge) (task : Task) : Type 0 where
-  pub task_fits : TaskFits known.geometry task
-  pub there : (dev : ℕ) → counted_by task ≡ Some dev → IsSome (place_of known.sums dev)
-  pub small : (dev : ℕ) → counted_by task ≡ Some dev → AreSmall (stats_in known.sums dev)
+pub record WorkFits (g : Geometry) (sums : List DeviceSums) (task : Task) : Type 0 where
+  pub task_fits : TaskFits g task
+  pub there : (dev : ℕ) → counted_by task ≡ Some dev → IsSome (place_of sums dev)
+  pub small : (dev : ℕ) → counted_by task ≡ Some dev → AreSmall (stats_in sums dev)
 
-pub WorkFits-prop : (known : Knowledge) (task : Task) → IsProp (WorkFits known task)
-WorkFits-prop known task = let fits = TaskFits-prop known.geometry task in hlevel (props, fits)
+pub WorkFits-prop : (g : Geometry) (sums : List DeviceSums) (task : Task) → IsProp (WorkFits g sums task)
+WorkFits-prop g sums task = let fits = TaskFits-prop g task in hlevel (props, fits)
 
 -- what a phase holds fits the chip
-abbrev pub PhaseFits : Knowledge → Phase → Type 0
-PhaseFits known (IsAttaching scan) = AttachFits known scan
-PhaseFits known Resting = ⊤
-PhaseFits known (Working task) = WorkFits known task
+abbrev pub PhaseFits : Geometry → List DeviceSums → Phase → Type 0
+PhaseFits g sums (IsAttaching scan) = AttachFits g sums scan
+PhaseFits g sums Resting = ⊤
+PhaseFits g sums (Working task) = WorkFits g sums task
 
-pub PhaseFits-prop : (known : Knowledge) (phase : Phase) → IsProp (PhaseFits known phase)
-PhaseFits-prop known (IsAttaching scan) = hlevel props
-PhaseFits-prop known Resting = Unit-prop
-PhaseFits-prop known (Working task) = WorkFits-prop known task
+pub PhaseFits-prop : (g : Geometry) (sums : List DeviceSums) (phase : Phase) → IsProp (PhaseFits g sums phase)
+PhaseFits-prop g sums (IsAttaching scan) = hlevel props
+PhaseFits-prop g sums Resting = Unit-prop
+PhaseFits-prop g sums (Working task) = WorkFits-prop g sums task
 
 -- the pages that may still be programmed
 abbrev pub programs_left : Phase → ℕ

@@ -41,7 +41,7 @@ pub struct Chip<F: Flash, C: PageCode> {
     ghost sizes: { (F.state flash).geometry ≡ known.geometry },
     ghost without_tables: { (F.state flash).geometry.bbt ≡ 0 },
     ghost quiet: { KnowsQuiet (F.state flash) phase } by { KnowsQuiet-prop (F.state flash) phase },
-    ghost fits: { PhaseFits known phase } by { PhaseFits-prop known phase },
+    ghost fits: { PhaseFits known.geometry known.sums phase } by { PhaseFits-prop known.geometry known.sums phase },
     ghost room: { spare + programs_left phase ≤ F.room flash },
 }
 
@@ -189,9 +189,7 @@ impl<F: Flash, C: PageCode> Chip<F, C> {
         ensures spare { chip_spare self.new ≡ chip_spare self.old }
         ensures bits { chip_bits self.old ≤ chip_bits self.new }
     {
-        if let Op::Read { dev, .. } = op {
-            self.known.sums.make_entry(*dev)?;
-        }
+        self.known.expect(op)?;
         let task = begin(self.alloc, &self.code, &self.known, parts, op)?;
         let room = self.spare.checked_add(task.programs()).ok_or(AllocError)?;
         self.flash.reserve(room, 0)?;
@@ -269,7 +267,7 @@ impl<F: Flash, C: PageCode> Chip<F, C> {
     // Reads the marker of the next block; after the last one the chip is attached, and there is a note to be handed out.
     fn attach_on(&mut self, scan: Scan)
         requires rests { self.old.phase ≡ Resting }
-        requires fits { AttachFits self.old.known scan }
+        requires fits { AttachFits self.old.known.geometry self.old.known.sums scan }
         requires quiet { scan.quiet_now ≡ is_quiet (F.state self.old.flash).geometry (F.state self.old.flash).pages }
         ensures state { F.state self.new.flash ≡ F.state self.old.flash }
         ensures stage { phase_stage self.new.known self.new.phase

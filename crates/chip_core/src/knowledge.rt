@@ -1,10 +1,12 @@
 // What is known of a chip.
-ghost use Rattle.std.specs.Prelude.{◌≡◌, ◌+◌, ◌<◌, ◌≤◌, ◌==◌, [], not, length, count_by, slice_index, slice_range, slice_set, IfOk, OnOk, replicate};
+ghost use Rattle.std.specs.Prelude.{◌≡◌, ◌+◌, ◌<◌, ◌≤◌, ◌==◌, [], not, length, count_by, slice_index, slice_range, slice_set, ℕ, IsSome, IfOk, OnOk, Some, replicate};
 ghost use Rattle.nand_model.specs.ChipRun.{is_bad_state};
 ghost use Rattle.nand_model.specs.Operation.{bad_count};
-ghost use Rattle.chip_core.specs.Sums.{stats_in};
+ghost use Rattle.chip_core.specs.Begin.{read_device};
+ghost use Rattle.chip_core.specs.Sums.{place_of, stats_in};
 
 use crate::sums::Sums;
+use nand_iface::Op;
 use nand_model::{Bytes, Geometry, Part};
 use std::alloc::{AllocError, Global};
 
@@ -56,6 +58,19 @@ impl Knowledge {
         ensures sums { self.new.sums ≡ self.old.sums }
     {
         self.states.as_mut_slice()[block as usize] = state;
+    }
+
+    /// Makes an entry for the statistics that an operation adds to, and leaves all that is known as it is.
+    pub fn expect(&mut self, op: &Op) -> Result<(), AllocError>
+        ensures there { OnOk result ((dev : ℕ) → read_device op.now ≡ Some dev → IsSome (place_of self.new.sums dev)) }
+        ensures geometry { self.new.geometry ≡ self.old.geometry }
+        ensures states { self.new.states ≡ self.old.states }
+        ensures stats { stats_in self.new.sums ≡ stats_in self.old.sums }
+    {
+        match op {
+            Op::Read { dev, .. } => self.sums.make_entry(*dev),
+            _ => Ok(()),
+        }
     }
 
     /// The number of worn and factory-bad blocks.

@@ -6,11 +6,11 @@ use Rattle.nand_model.specs.Quiet.{is_quiet}
 use Rattle.nand_model.specs.declared.words.Fairness.{Fairness}
 use Rattle.nand_model.specs.declared.words.Fairness.TheVariants.{Plain}
 use Rattle.chip_model.specs.Stage.{failure_told}
-use Rattle.chip_core.specs.Phase.{programs_left}
+use Rattle.chip_core.specs.Phase.{PhaseFits, WorkFits, programs_left}
 use Rattle.chip_core.specs.Task.{task_event}
 use Rattle.chip_core.specs.declared.phase.Phase.{Phase}
 use Rattle.chip_core.specs.declared.phase.Phase.TheVariants.{Working}
-use Rattle.chip_core.proofs.Advancing.{working_has_event, sizes_kept, knows_quiet, of_event, of_read, read_stage, read_news}
+use Rattle.chip_core.proofs.Advancing.{working_has_event, sizes_kept, knows_quiet, of_event, of_read, read_stage, read_news, tells, works_on}
 use Rattle.chip_core.proofs.chip.Chip.advance.Goals as goal
 
 pub invariant_of-self-in-Working : goal.invariant_of-self-in-Working
@@ -29,11 +29,18 @@ invariant_of-self-in-Working g c =
     (sizes_kept model before after task left told) in
     let Room : Phase → Type 0 = λ p. chip.spare + programs_left p ≤ g.F.Flash.room chip.flash in
     let room = subst Room phase chip.room in
+    let Fits : Phase → Type 0 = λ p. PhaseFits chip.known.geometry chip.known.sums p in
+    let work : WorkFits chip.known.geometry chip.known.sums task = subst Fits phase chip.fits in
     record {
       sizes = sizes ∙ chip.sizes;
       without_tables = rw sizes chip.without_tables;
       quiet = tt;
-      fits = rw (← chip.sizes) c.advance-left.ensures.fits;
+      fits =
+          record {
+            task_fits = rw (← chip.sizes) c.advance-left.ensures.fits;
+            there = λ dev counted. work.there dev (sym c.advance-left.ensures.counted ∙ counted);
+            small = λ dev counted. work.small dev (sym c.advance-left.ensures.counted ∙ counted);
+          };
       room = omega (arith, room, c.advance-left.ensures.room);
     }
 
@@ -86,3 +93,16 @@ pub attach_on-requires-clause-quiet : goal.attach_on-requires-clause-quiet
 attach_on-requires-clause-quiet g c =
     let chip = c.args.self.now in
     sym (knows_quiet (g.F.Flash.state chip.flash) chip.phase chip.quiet c.in-Attaching.scan (sym c.replace.ensures.value ∙ c.in-Attaching.is))
+
+pub returns-in-Working-clause-stage : goal.returns-in-Working-clause-stage
+returns-in-Working-clause-stage g c =
+    let chip = c.args.self.now in
+    let s = g.F.Flash.state chip.flash in
+    works_on g.F.Flash.fault_model s (g.F.Flash.state c.advance-left.new.flash) c.in-Working.task c.advance-left.result.0 c.advance-left.result.1 chip.known
+    chip.sizes chip.phase (sym c.replace.ensures.value ∙ c.in-Working.is) c.advance-left.ensures.advanced (is_quiet s.geometry s.pages)
+
+pub returns-in-Working-clause-failed : goal.returns-in-Working-clause-failed
+returns-in-Working-clause-failed g c =
+    let chip = c.args.self.now in
+    tells g.F.Flash.fault_model (g.F.Flash.state chip.flash) (g.F.Flash.state c.advance-left.new.flash) c.in-Working.task c.advance-left.result.0
+    c.advance-left.result.1 chip.known chip.sizes chip.phase (sym c.replace.ensures.value ∙ c.in-Working.is) c.advance-left.ensures.advanced
