@@ -1,7 +1,11 @@
 pub mod Places
+pub mod Summing
+pub mod Imaging
 pub mod Scanning
-pub mod Unflipped
-pub mod Beginning
+pub mod Quiet
+pub mod Ranges
+pub mod Answering
 pub mod Advancing
+pub mod Seen
 pub mod Performing
 pub mod Attached

@@ -1,68 +1,70 @@
 // One chip.
-ghost use Rattle.std.specs.Prelude.{◌≡◌, ◌≤◌, ◌+◌, None, true, option_map, IsSome, IfSome, IfOk, OnOk, OnErr, is_some};
-ghost use Rattle.nand_model.specs.Chip.{Complete, happens};
+ghost use Rattle.std.specs.Prelude.{◌≡◌, ◌≤◌, ◌+◌, length, None, true, option_map, IsSome, IfSome, IfOk, OnOk, OnErr, is_some};
+ghost use Rattle.nand_model.specs.Chip.{Complete, after_trace, flip_events, happens};
 ghost use Rattle.nand_model.specs.ChipRun.{name_of, bad_blocks_in};
 ghost use Rattle.nand_model.specs.Counts.{HasRisen};
 ghost use Rattle.nand_model.specs.Path.{Data, answer_to, is_failure};
 ghost use Rattle.nand_model.specs.Quiet.{is_quiet};
 ghost use Rattle.nand_model.specs.declared.words.Fairness.TheVariants.{Plain};
+ghost use Rattle.nand_iface.specs.Flash.{FitsBits};
 ghost use Rattle.chip_model.specs.Stage.{Rests, failure_told, finished_in, first_stage, is_attached, is_resting, is_working, news_after, note_of_news, stage_after, stage_begun, stage_event, stage_statistics, stage_table};
 ghost use Rattle.chip_core.specs.Begin.{CanBegin};
-ghost use Rattle.chip_core.specs.Calm.{HasNoFlips};
-ghost use Rattle.chip_core.specs.Phase.{PhaseFits, PhaseFits-prop, ScanFits, news_in, phase_stage, programs_left};
+ghost use Rattle.chip_core.specs.Phase.{AttachFits, KnowsQuiet, KnowsQuiet-prop, PhaseFits, PhaseFits-prop, news_in, phase_stage, programs_left};
 ghost use Rattle.chip_core.specs.Markers.{marker_page};
 ghost use Rattle.chip_core.specs.declared.phase.Phase.TheVariants.{Attaching, Resting};
 
+use crate::beginning::begin;
+use crate::knowledge::Knowledge;
 use crate::phase::Phase;
-use crate::scan::Scan;
-use crate::table::Table;
+use crate::scan::{Finding, Scan, marker_is_quiet};
 use crate::task::Task;
 use mtd_part::Parts;
-use nand_iface::{Event, Fairness, Flash, Note, Op, Origin, Reply, Stats};
-use nand_model::{Bytes, Geometry};
+use nand_iface::{Event, Fairness, Flash, Note, Op, Origin, PageCode, Reply, Stats};
+use nand_model::{BlockList, Geometry};
 use std::alloc::{AllocError, Global};
 use std::mem;
 
 /// A chip with its attach or its operation, which is held from its begin to its answer. It has no tables on flash.
 ///
 /// Contracts see the state of its flash (`chip_state`); its stage (`chip_stage`): what is left of its attach or of its operation, or what is known of it at rest;
-/// its spare (`chip_spare`): how many pages may be programmed beyond those of the attach or the operation; and its news (`chip_news`): the attach whose note was
-/// not handed out yet.
+/// its spare (`chip_spare`): how many pages may be programmed or flipped beyond those of the attach or the operation; its bits (`chip_bits`): how many bits may be
+/// flipped; and its news (`chip_news`): the attach whose note was not handed out yet.
 #[derive(Drop)]
-pub struct Chip<F: Flash> {
+pub struct Chip<F: Flash, C: PageCode> {
     alloc: Global,
     flash: F,
-    table: Table,
-    note: Option<Bytes>,
+    code: C,
+    known: Knowledge,
+    finding: Option<Finding>,
     phase: Phase,
     spare: u32,
-    ghost sizes: { (F.state flash).geometry ≡ table.geometry },
+    ghost sizes: { (F.state flash).geometry ≡ known.geometry },
     ghost without_tables: { (F.state flash).geometry.bbt ≡ 0 },
-    ghost unflipped: { HasNoFlips (F.state flash) },
-    ghost fits: { PhaseFits table.geometry phase } by { PhaseFits-prop table.geometry phase },
+    ghost quiet: { KnowsQuiet (F.state flash) phase } by { KnowsQuiet-prop (F.state flash) phase },
+    ghost fits: { PhaseFits known.geometry known.sums phase } by { PhaseFits-prop known.geometry known.sums phase },
     ghost room: { spare + programs_left phase ≤ F.room flash },
 }
 
-impl<F: Flash> Chip<F> {
-    ghost use Rattle.chip_core.specs.Chip.{chip_state, chip_stage, chip_news, chip_spare};
+impl<F: Flash, C: PageCode> Chip<F, C> {
+    ghost use Rattle.chip_core.specs.Chip.{chip_bits, chip_news, chip_spare, chip_stage, chip_state};
 
     /// A chip at the start of its attach, with all the memory that attaching needs.
     ///
-    /// The flash has no tables, and no bit of it was turned.
-    pub fn attach_start(alloc: Global, flash: F) -> Result<Chip<F>, AllocError>
-        requires without_tables { (F.state flash).geometry.bbt ≡ 0 }
-        requires unflipped { HasNoFlips (F.state flash) }
+    /// The flash has no tables.
+    pub fn attach_start(alloc: Global, flash: F, code: C) -> Result<Chip<F, C>, AllocError>
+        requires { (F.state flash).geometry.bbt ≡ 0 }
         ensures state { IfOk result (λ chip. chip_state chip ≡ F.state flash) }
         ensures stage { IfOk result (λ chip. chip_stage chip ≡ first_stage (F.state flash).geometry) }
         ensures news { IfOk result (λ chip. chip_news chip ≡ None) }
     {
         let geometry = flash.geometry();
-        let scan = Scan::start(alloc, &geometry)?;
+        let scan = Scan::start(alloc, &flash, &geometry)?;
         Ok(Chip {
             alloc,
             flash,
-            table: Table::new(alloc, geometry)?,
-            note: None,
+            code,
+            known: Knowledge::new(alloc, geometry)?,
+            finding: None,
             phase: Phase::Attaching(scan),
             spare: 0,
         })
@@ -72,7 +74,7 @@ impl<F: Flash> Chip<F> {
     pub fn geometry(&self) -> Geometry
         ensures { result ≡ (chip_state self.now).geometry }
     {
-        self.table.geometry
+        self.known.geometry
     }
 
     /// The next event of the attach or of the operation in flight. None comes exactly where neither has an event left.
@@ -80,25 +82,45 @@ impl<F: Flash> Chip<F> {
         ensures { result ≡ option_map name_of (stage_event (chip_stage self.now)) }
     {
         match &self.phase {
-            Phase::Attaching(scan) => Some(scan.event(&self.table.geometry)),
+            Phase::Attaching(scan) => Some(scan.event(&self.known.geometry)),
             Phase::Resting => None,
             Phase::Working(task) => task.event(),
         }
     }
 
-    /// Makes the spare at least `pages`, and leaves all else as it is. Where memory runs out, the spare is no less than before.
-    pub fn reserve(&mut self, pages: u32) -> Result<(), AllocError>
+    /// Makes the spare at least `pages` and the bits at least `bits`, and leaves all else as it is. Where memory runs out, neither is less than before.
+    pub fn reserve(&mut self, pages: u32, bits: u32) -> Result<(), AllocError>
         ensures spare { OnOk result (pages ≤ chip_spare self.new) }
+        ensures bits { OnOk result (bits ≤ chip_bits self.new) }
         ensures no_less { chip_spare self.old ≤ chip_spare self.new }
+        ensures no_fewer_bits { chip_bits self.old ≤ chip_bits self.new }
         ensures state { chip_state self.new ≡ chip_state self.old }
         ensures stage { chip_stage self.new ≡ chip_stage self.old }
         ensures news { chip_news self.new ≡ chip_news self.old }
     {
         let spare = pages.max(self.spare);
         let room = spare.checked_add(self.phase.programs()).ok_or(AllocError)?;
-        self.flash.reserve(room)?;
+        self.flash.reserve(room, bits)?;
         self.spare = spare;
         Ok(())
+    }
+
+    /// Turns these bits of a page one after the other; bit 0 is the highest of byte 0. It takes at most one page of the spare, and of the bits at most their number.
+    pub fn flip(&mut self, page: u32, bits: &BlockList)
+        requires place { FitsBits (chip_state self.old).geometry page bits.now }
+        requires spare { 1 ≤ chip_spare self.old }
+        requires bits { length bits.now ≤ chip_bits self.old }
+        ensures state { chip_state self.new ≡ after_trace F.fault_model (chip_state self.old) (flip_events page bits.now) }
+        ensures stage { chip_stage self.new ≡ chip_stage self.old }
+        ensures news { chip_news self.new ≡ chip_news self.old }
+        ensures spare { chip_spare self.old ≤ chip_spare self.new + 1 }
+        ensures bits { chip_bits self.old ≤ chip_bits self.new + length bits.now }
+    {
+        self.flash.flip(page, bits);
+        self.spare -= 1;
+        let g = &self.known.geometry;
+        let quiet = marker_is_quiet(&self.flash, g, page / g.pages_per_block);
+        self.phase.see_marker(quiet);
     }
 
     /// Hands out the note of the attach, under this number of the chip. None comes exactly where attaching is not over or the note was handed out before.
@@ -108,18 +130,19 @@ impl<F: Flash> Chip<F> {
         ensures state { chip_state self.new ≡ chip_state self.old }
         ensures stage { chip_stage self.new ≡ chip_stage self.old }
         ensures spare { chip_spare self.new ≡ chip_spare self.old }
+        ensures bits { chip_bits self.old ≤ chip_bits self.new }
     {
         if let Phase::Attaching(_) = &self.phase {
             return None;
         }
-        let states = self.note.take()?;
+        let finding = self.finding.take()?;
         Some(Note::Attached {
             chip,
             origin: Origin::Markers,
             version: 0,
             copies: 0,
-            quiet: true,
-            states,
+            quiet: finding.quiet,
+            states: finding.states,
         })
     }
 
@@ -137,15 +160,11 @@ impl<F: Flash> Chip<F> {
         matches!(self.phase, Phase::Working(_))
     }
 
-    /// The statistics of a device since the start of the boot. They are 0, as no operation of these decodes a page.
+    /// The statistics of a device since the start of the boot, over its answered reads.
     pub fn stats(&self, dev: u32) -> Stats
         ensures { result ≡ stage_statistics (chip_stage self.now) dev }
     {
-        let _ = dev;
-        Stats {
-            corrected: 0,
-            failed: 0,
-        }
+        self.known.sums.get(dev)
     }
 
     /// The number of blocks that are worn or factory bad; 0 while attaching is not over.
@@ -155,23 +174,25 @@ impl<F: Flash> Chip<F> {
     {
         match &self.phase {
             Phase::Attaching(_) => 0,
-            _ => self.table.bad(),
+            _ => self.known.bad(),
         }
     }
 
     /// Begins an operation, and takes all the memory that it needs. Nothing is in flight before. Where memory runs out, all is as before.
     pub fn begin(&mut self, parts: &Parts, op: &Op) -> Result<(), AllocError>
         requires rests { is_resting (chip_stage self.old) ≡ true }
-        requires can { CanBegin (chip_state self.old).geometry parts.now op.now }
+        requires can { CanBegin (chip_state self.old).geometry parts.now (chip_stage self.old) op.now }
         ensures begun { OnOk result (chip_stage self.new ≡ stage_begun (chip_state self.old).geometry parts.now op.now (chip_stage self.old)) }
         ensures no_memory { OnErr result (chip_stage self.new ≡ chip_stage self.old) }
         ensures state { chip_state self.new ≡ chip_state self.old }
         ensures news { chip_news self.new ≡ chip_news self.old }
         ensures spare { chip_spare self.new ≡ chip_spare self.old }
+        ensures bits { chip_bits self.old ≤ chip_bits self.new }
     {
-        let task = Task::begin(self.alloc, &self.table, parts, op)?;
+        self.known.expect(op)?;
+        let task = begin(self.alloc, &self.code, &self.known, parts, op)?;
         let room = self.spare.checked_add(task.programs()).ok_or(AllocError)?;
-        self.flash.reserve(room)?;
+        self.flash.reserve(room, 0)?;
         self.phase = Phase::Working(task);
         Ok(())
     }
@@ -192,6 +213,7 @@ impl<F: Flash> Chip<F> {
         ensures plain { IfSome result (λ fairness. fairness ≡ Plain) }
         ensures risen { IfSome result (λ fairness. HasRisen (chip_state self.old).faults (chip_state self.new).faults) }
         ensures spare { chip_spare self.new ≡ chip_spare self.old }
+        ensures bits { chip_bits self.old ≤ chip_bits self.new }
     {
         match mem::replace(&mut self.phase, Phase::Resting) {
             Phase::Attaching(scan) => {
@@ -200,7 +222,7 @@ impl<F: Flash> Chip<F> {
             }
             Phase::Resting => unreachable!(),
             Phase::Working(task) => {
-                let (left, told) = task.advance(&mut self.flash);
+                let (left, told) = task.advance(&mut self.flash, &self.code);
                 self.phase = Phase::Working(left);
                 told
             }
@@ -215,9 +237,21 @@ impl<F: Flash> Chip<F> {
         ensures state { chip_state self.new ≡ chip_state self.old }
         ensures news { chip_news self.new ≡ chip_news self.old }
         ensures spare { chip_spare self.new ≡ chip_spare self.old }
+        ensures bits { chip_bits self.old ≤ chip_bits self.new }
     {
         match mem::replace(&mut self.phase, Phase::Resting) {
             Phase::Working(Task::Ended(reply)) => reply,
+            Phase::Working(
+                Task::Decoded {
+                    dev,
+                    kind,
+                    read,
+                    image,
+                },
+            ) => {
+                self.known.sums.add(dev, read.corrected, read.failed);
+                Reply::Page { kind, read, image }
+            }
             _ => unreachable!(),
         }
     }
@@ -233,22 +267,24 @@ impl<F: Flash> Chip<F> {
     // Reads the marker of the next block; after the last one the chip is attached, and there is a note to be handed out.
     fn attach_on(&mut self, scan: Scan)
         requires rests { self.old.phase ≡ Resting }
-        requires fits { ScanFits self.old.table.geometry scan }
+        requires fits { AttachFits self.old.known.geometry self.old.known.sums scan }
+        requires quiet { scan.quiet_now ≡ is_quiet (F.state self.old.flash).geometry (F.state self.old.flash).pages }
         ensures state { F.state self.new.flash ≡ F.state self.old.flash }
-        ensures stage { phase_stage self.new.table.geometry self.new.table.states self.new.phase
-            ≡ stage_after true (Data (marker_page (F.state self.old.flash) scan.next)) (phase_stage self.old.table.geometry self.old.table.states (Attaching scan)) }
-        ensures news { news_in self.new.phase self.new.note
-            ≡ news_after true (Data (marker_page (F.state self.old.flash) scan.next)) (phase_stage self.old.table.geometry self.old.table.states (Attaching scan)) None }
+        ensures stage { phase_stage self.new.known self.new.phase
+            ≡ stage_after scan.quiet_now (Data (marker_page (F.state self.old.flash) scan.next)) (phase_stage self.old.known (Attaching scan)) }
+        ensures news { news_in self.new.phase self.new.finding
+            ≡ news_after scan.quiet_now (Data (marker_page (F.state self.old.flash) scan.next)) (phase_stage self.old.known (Attaching scan)) None }
         ensures spare { self.new.spare ≡ self.old.spare }
+        ensures bits { F.bit_room self.old.flash ≤ F.bit_room self.new.flash }
     {
         let mut scan = scan;
         let block = scan.next;
-        let state = scan.read_marker(&self.flash, &self.table.geometry);
-        self.table.set(block, state);
-        if scan.next < self.table.geometry.blocks {
+        let state = scan.read_marker(&self.flash, &self.known.geometry);
+        self.known.set(block, state);
+        if scan.next < self.known.geometry.blocks {
             self.phase = Phase::Attaching(scan);
         } else {
-            self.note = Some(scan.into_note(&self.table));
+            self.finding = Some(scan.into_finding(&self.known));
         }
     }
 }

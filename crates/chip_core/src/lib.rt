@@ -1,14 +1,16 @@
 //! One chip, whose attach or operation is held from its begin to its end.
 #![tactic(auto)]
 
+mod beginning;
 mod chip;
+mod knowledge;
 mod phase;
 mod scan;
-mod table;
+mod sums;
 mod task;
 mod whole;
 
 pub use chip::Chip;
 pub use mtd_part::Parts;
-pub use nand_iface::{Event, Fairness, Flash, Note, Op, Reply, Stats};
+pub use nand_iface::{Event, Fairness, Flash, Note, Op, PageCode, Reply, Stats};
 pub use whole::{attach, perform};
