@@ -1,10 +1,11 @@
 -- What an event of a chip leaves of it, whichever calls its fault model fails.
-use Rattle.std.proofs.Common.{◌≡◌, ◌≢◌, ℕ, ◌/◌, List, replicate, refl, ap, sym, arith, suc, ◌+◌, ◌<◌, length, Bool, true, false, if◌then◌else◌, [], ◌∷◌, ◌++◌, ◌∙◌, Option, Some, None}
+use Rattle.std.proofs.Common.{◌≡◌, ◌≢◌, ℕ, ◌/◌, List, replicate, refl, ap, sym, arith, suc, ◌+◌, ◌<◌, length, Bool, true, false, if◌then◌else◌, [], ◌∷◌, ◌++◌, ◌∙◌, Option, Some, None, fold, append_assoc, append-nil}
 use Rattle.std.specs.Prelude.{◌==◌, ◌%◌}
 use Rattle.std.proofs.lemmas.Bool.{eqb-true}
 use Rattle.std.proofs.lemmas.Bool.Decides.{nat_tests}
 use Rattle.std.proofs.lemmas.List.{length-set, length-replicate}
-use Rattle.nand_model.specs.Chip.{ChipState, ChipEvent, DoneBits, FaultModel, ReadEvent, ProgramEvent, EraseEvent, ProgramCall, EraseCall, Complete, PowerCut, Flipped, happens, after_trace, failure_of, counted, program_page, erase_block, programmed, saturating_increment, PageState, map_from, with_page, good_program, torn_program, torn_erase, blank_page, flipped}
+use Rattle.nand_model.specs.Chip.{ChipState, ChipEvent, DoneBits, FaultModel, ReadEvent, ProgramEvent, EraseEvent, ProgramCall, EraseCall, Complete, PowerCut, Flipped, happens, after_trace, failure_of, counted, program_page, erase_block, programmed, saturating_increment, PageState, map_from, with_page, good_program, torn_program, torn_erase, blank_page, flip_events, flipped}
+use Rattle.nand_model.specs.Flips.{with_bit_turned}
 use Rattle.nand_model.specs.Sizes.{page_count, raw_len}
 use Rattle.nand_iface.specs.Flash.{HasWholePages}
 
@@ -111,3 +112,38 @@ module _ {W : Type 0} (model : FaultModel W) where
   happens-whole_pages s (PowerCut (ProgramEvent page image) done) whole = program-whole s page image (Some done) whole
   happens-whole_pages s (PowerCut (EraseEvent block) done) whole = erase-whole s block (Some done) whole
   happens-whole_pages s (Flipped page bit) whole = one_page-whole s page (flipped (s.pages page) bit) (length-set (s.pages page).cells (bit / 8) _) whole
+
+  -- flips of bits of a page turn its bits one after the other
+  pub flips-turned : (s : ChipState W) (page : ℕ) (bits : List ℕ)
+      → ((after_trace model s (flip_events page bits)).pages page).cells ≡ fold with_bit_turned (s.pages page).cells bits
+  flips-turned s page [] = refl
+  flips-turned s page (bit ∷ bits) =
+      flips-turned (happens model s (Flipped page bit)) page bits ∙ ap (λ cells. fold with_bit_turned cells bits) (ap (λ p. p.cells) (here s page bit))
+    where
+      here : (s : ChipState W) (page bit : ℕ) → (happens model s (Flipped page bit)).pages page ≡ flipped (s.pages page) bit
+      here s page bit = grind (arith, nat_tests)
+
+  -- and each of them joins the list of its flips
+  pub flips-counted : (s : ChipState W) (page : ℕ) (bits : List ℕ)
+      → ((after_trace model s (flip_events page bits)).pages page).flips ≡ (s.pages page).flips ++ bits
+  flips-counted s page [] = sym (append-nil (s.pages page).flips)
+  flips-counted s page (bit ∷ bits) =
+      flips-counted (happens model s (Flipped page bit)) page bits ∙ ap (λ flips. flips ++ bits) (ap (λ p. p.flips) (here s page bit))
+      ∙ append_assoc (s.pages page).flips (bit ∷ []) bits
+    where
+      here : (s : ChipState W) (page bit : ℕ) → (happens model s (Flipped page bit)).pages page ≡ flipped (s.pages page) bit
+      here s page bit = grind (arith, nat_tests)
+
+  -- they leave all other pages as they are
+  pub flips-others : (s : ChipState W) (page : ℕ) (bits : List ℕ) (p : ℕ) → p ≢ page
+      → (after_trace model s (flip_events page bits)).pages p ≡ s.pages p
+  flips-others s page [] p other = refl
+  flips-others s page (bit ∷ bits) p other = flips-others (happens model s (Flipped page bit)) page bits p other ∙ here
+    where
+      here : (happens model s (Flipped page bit)).pages p ≡ s.pages p
+      here = grind (arith, nat_tests)
+
+  -- and the count of faults
+  pub flips-faults : (s : ChipState W) (page : ℕ) (bits : List ℕ) → (after_trace model s (flip_events page bits)).faults ≡ s.faults
+  flips-faults s page [] = refl
+  flips-faults s page (bit ∷ bits) = flips-faults (happens model s (Flipped page bit)) page bits

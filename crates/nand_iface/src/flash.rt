@@ -1,10 +1,12 @@
 // A chip as the layers above it see it.
-ghost use Rattle.std.specs.Prelude.{◌≡◌, ◌≤◌, ◌<◌, ◌+◌, ℕ, OnOk, is_none, is_ok};
+ghost use Rattle.std.specs.Prelude.{◌≡◌, ◌≤◌, ◌<◌, ◌+◌, ◌-◌, ◌^◌, ℕ, length, min, OnOk, is_none, is_ok};
 ghost use Rattle.std.specs.Coded.{Coded};
-ghost use Rattle.nand_model.specs.Chip.{ChipState, FaultModel, ProgramCall, EraseCall, Complete, ProgramEvent, EraseEvent, happens, failure_of};
-ghost use Rattle.nand_iface.specs.Flash.{FitsPage, HasWholePages};
+ghost use Rattle.nand_model.specs.Chip.{ChipState, FaultModel, ProgramCall, EraseCall, Complete, ProgramEvent, EraseEvent, after_trace, failure_of, flip_events, happens};
+ghost use Rattle.nand_model.specs.Flips.{flips_between};
+ghost use Rattle.nand_model.specs.Sizes.{page_count};
+ghost use Rattle.nand_iface.specs.Flash.{FitsBits, FitsPage, HasWholePages};
 
-use nand_model::Geometry;
+use nand_model::{BlockList, Geometry};
 use std::alloc::AllocError;
 
 /// A program failed, and its page is torn.
@@ -32,18 +34,23 @@ pub trait Flash: Drop {
     /// The state of the chip.
     ghost state: { Self → ChipState FaultState };
 
-    /// How many pages may still be programmed before memory has to be asked for.
+    /// How many pages may still be programmed or flipped before memory has to be asked for.
     ghost room: { Self → ℕ };
+
+    /// How many bits may still be flipped before memory has to be asked for.
+    ghost bit_room: { Self → ℕ };
 
     /// The sizes of the chip, which no call changes.
     fn geometry(&self) -> Geometry
         ensures sizes { result ≡ (state self.now).geometry }
         ensures whole_pages { HasWholePages (state self.now) };
 
-    /// Makes the room at least `pages`, and changes nothing else. Where memory runs out, the room is no less than before.
-    fn reserve(&mut self, pages: u32) -> Result<(), AllocError>
+    /// Makes the room at least `pages` and the bit room at least `bits`, and changes nothing else. Where memory runs out, neither is less than before.
+    fn reserve(&mut self, pages: u32, bits: u32) -> Result<(), AllocError>
         ensures room { OnOk result (pages ≤ room self.new) }
+        ensures bit_room { OnOk result (bits ≤ bit_room self.new) }
         ensures no_less { room self.old ≤ room self.new }
+        ensures no_fewer_bits { bit_room self.old ≤ bit_room self.new }
         ensures state { state self.new ≡ state self.old };
 
     /// Reads a page: `out` becomes its cells.
@@ -60,7 +67,8 @@ pub trait Flash: Drop {
         ensures state { state self.new ≡ happens fault_model (state self.old) (Complete (ProgramEvent page image.now)) }
         ensures ok { is_ok result ≡ is_none (failure_of fault_model (state self.old) (ProgramCall page)) }
         ensures faults { (state self.old).faults ≤ (state self.new).faults }
-        ensures room { room self.old ≤ room self.new + 1 };
+        ensures room { room self.old ≤ room self.new + 1 }
+        ensures bit_room { bit_room self.old ≤ bit_room self.new };
 
     /// Erases a block: the cells of its pages become 0xFF throughout. It takes no room.
     ///
@@ -70,5 +78,26 @@ pub trait Flash: Drop {
         ensures state { state self.new ≡ happens fault_model (state self.old) (Complete (EraseEvent block)) }
         ensures ok { is_ok result ≡ is_none (failure_of fault_model (state self.old) (EraseCall block)) }
         ensures faults { (state self.old).faults ≤ (state self.new).faults }
-        ensures room { room self.old ≤ room self.new };
+        ensures room { room self.old ≤ room self.new }
+        ensures bit_room { bit_room self.old ≤ bit_room self.new };
+
+    /// Turns these bits of a page one after the other; bit 0 is the highest of byte 0. Each counts as one flip, and a bit that stands twice is turned twice.
+    /// It takes at most one page of the room, and of the bit room at most the number of the bits.
+    fn flip(&mut self, page: u32, bits: &BlockList)
+        requires place { FitsBits (state self.old).geometry page bits.now }
+        requires room { 0 < room self.old }
+        requires bit_room { length bits.now ≤ bit_room self.old }
+        ensures state { state self.new ≡ after_trace fault_model (state self.old) (flip_events page bits.now) }
+        ensures room { room self.old ≤ room self.new + 1 }
+        ensures bit_room { bit_room self.old ≤ bit_room self.new + length bits.now };
+
+    /// The number of flips that were made in bits `from` up to but not including `to` of a page since its last erase that answered Ok, or since the chip was made; 2^32 - 1 where there are more.
+    fn flips(&self, page: u32, from: u32, to: u32) -> u32
+        requires { page < page_count (state self.now).geometry }
+        ensures { result ≡ min (flips_between ((state self.now).pages page).flips from to) (2 ^ 32 - 1) };
+
+    /// Whether a bit of a page was flipped since its last good program or erase, or since the first torn or failed one after that.
+    fn flipped_since(&self, page: u32) -> bool
+        requires { page < page_count (state self.now).geometry }
+        ensures { result ≡ ((state self.now).pages page).flipped_since };
 }

@@ -1,10 +1,12 @@
 // What the clauses of a flash chip come to, page by page, proved from them alone for every chip.
-ghost use Rattle.std.specs.Prelude.{◌≡◌, ◌≢◌, ◌<◌, ◌≤◌, ◌+◌, ◌/◌, ◌++◌, ◌∷◌, [], ℕ, List, replicate, OnOk, OnErr};
-ghost use Rattle.nand_model.specs.Chip.{ChipState, ChipEvent, Complete, ProgramEvent, EraseEvent, after_trace, programmed};
+ghost use Rattle.std.specs.Prelude.{◌≡◌, ◌≢◌, ◌<◌, ◌≤◌, ◌+◌, ◌/◌, ◌++◌, ◌∷◌, [], ℕ, List, fold, length, replicate, OnOk, OnErr};
+ghost use Rattle.nand_model.specs.Chip.{ChipState, ChipEvent, Complete, ProgramEvent, EraseEvent, after_trace, flip_events, programmed};
+ghost use Rattle.nand_model.specs.Flips.{with_bit_turned};
 ghost use Rattle.nand_model.specs.Sizes.{raw_len};
-ghost use Rattle.nand_iface.specs.Flash.{FitsPage, HasRisen};
+ghost use Rattle.nand_iface.specs.Flash.{FitsBits, FitsPage, HasRisen};
 
 use crate::{EraseFailed, Flash, ProgramFailed};
+use nand_model::BlockList;
 
 /// Programs a page as `Flash::program_page` does. Its clauses say what a caller sees of the pages, and that the state is still the fold of its trace.
 pub fn program_one_page<F: Flash>(
@@ -19,6 +21,7 @@ pub fn program_one_page<F: Flash>(
     ensures failed { OnErr result (HasRisen (F.state flash.old).faults (F.state flash.new).faults) }
     ensures geometry { (F.state flash.new).geometry ≡ (F.state flash.old).geometry }
     ensures room { F.room flash.old ≤ F.room flash.new + 1 }
+    ensures bit_room { F.bit_room flash.old ≤ F.bit_room flash.new }
     ensures trace { (start : ChipState F.FaultState) (events : List ChipEvent) → F.state flash.old ≡ after_trace F.fault_model start events
         → F.state flash.new ≡ after_trace F.fault_model start (events ++ Complete (ProgramEvent page image.now) ∷ []) }
 {
@@ -34,8 +37,25 @@ pub fn erase_one_block<F: Flash>(flash: &mut F, block: u32) -> Result<(), EraseF
     ensures failed { OnErr result (HasRisen (F.state flash.old).faults (F.state flash.new).faults) }
     ensures geometry { (F.state flash.new).geometry ≡ (F.state flash.old).geometry }
     ensures room { F.room flash.old ≤ F.room flash.new }
+    ensures bit_room { F.bit_room flash.old ≤ F.bit_room flash.new }
     ensures trace { (start : ChipState F.FaultState) (events : List ChipEvent) → F.state flash.old ≡ after_trace F.fault_model start events
         → F.state flash.new ≡ after_trace F.fault_model start (events ++ Complete (EraseEvent block) ∷ []) }
 {
     flash.erase_block(block)
+}
+
+/// Turns bits of a page as `Flash::flip` does. Its clauses say what a caller sees of the pages, and that the state is still the fold of its trace.
+pub fn turn_bits<F: Flash>(flash: &mut F, page: u32, bits: &BlockList)
+    requires place { FitsBits (F.state flash.old).geometry page bits.now }
+    requires room { 0 < F.room flash.old }
+    requires bit_room { length bits.now ≤ F.bit_room flash.old }
+    ensures turned { ((F.state flash.new).pages page).cells ≡ fold with_bit_turned ((F.state flash.old).pages page).cells bits.now }
+    ensures counted { ((F.state flash.new).pages page).flips ≡ ((F.state flash.old).pages page).flips ++ bits.now }
+    ensures others { (p : ℕ) → p ≢ page → (F.state flash.new).pages p ≡ (F.state flash.old).pages p }
+    ensures geometry { (F.state flash.new).geometry ≡ (F.state flash.old).geometry }
+    ensures faults { (F.state flash.new).faults ≡ (F.state flash.old).faults }
+    ensures trace { (start : ChipState F.FaultState) (events : List ChipEvent) → F.state flash.old ≡ after_trace F.fault_model start events
+        → F.state flash.new ≡ after_trace F.fault_model start (events ++ flip_events page bits.now) }
+{
+    flash.flip(page, bits)
 }

@@ -8,6 +8,6 @@ mod page_code;
 
 pub use flash::{EraseFailed, Flash, ProgramFailed};
 pub use history::History;
-pub use laws::{erase_one_block, program_one_page};
+pub use laws::{erase_one_block, program_one_page, turn_bits};
 pub use nand_model::{Event, Fairness, Note, Op, Origin, PageKind, PageRead, Reply, Stats, Which};
 pub use page_code::PageCode;

@@ -1,0 +1,3 @@
+mod Decoding
+mod Operations
+mod Courses

@@ -1,0 +1,12 @@
+// The law of the ECC statistics of a boot.
+ghost use Rattle.std.specs.Prelude.{ℕ, List};
+ghost use Rattle.nand_model.specs.Chip.{ChipState, FaultModel};
+ghost use Rattle.run_model.specs.Course.{Boot};
+ghost use Rattle.count_laws.specs.Counts.{CountsAreSmall};
+
+/// Whatever the boot, its flips, its cut and its turns, the corrected bits and the failed steps that a device has counted are at most 128 for each turn: a page has at most
+/// eight steps, and a code corrects at most 16 bits of each.
+pub fn counts_are_small<W>()
+    ensures { (model : FaultModel W) (boot : Boot) (starts : List (ChipState W)) (attaches : ℕ) (turns : List ℕ) →
+        CountsAreSmall model boot starts attaches turns }
+{}
