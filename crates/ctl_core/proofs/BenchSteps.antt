@@ -46,16 +46,16 @@ pub some_of : {A : Type 0} (o : Option A) → IsSome o → (x : A) × (o ≡ Som
 some_of None h = cc
 some_of (Some x) h = (x, refl)
 
-module _ {F : Type 0} {flash : Ghosts F} (past : Past F) (bench : Bench F flash) (session place : ℕ) (turn : IsAtTurn past session place bench)
-    (s : Session) (at : slice_get bench.sessions.items place ≡ Some s) (number : number_of s ≡ session) (k : ℕ) (slot : Slot F flash) (slot_at : slice_get bench.slots.items k ≡ Some slot) where
-  pub stands_answer : (finished : Finished) (now_slot : Slot F flash) (now_session : Session) (now_notes : List Note) → first_held_by session (kept_chips bench) ≡ Some k
+module _ {F C : Type 0} {flash : Ghosts F} (past : Past F) (bench : Bench F C flash) (session place : ℕ) (turn : IsAtTurn past session place bench)
+    (s : Session) (at : slice_get bench.sessions.items place ≡ Some s) (number : number_of s ≡ session) (k : ℕ) (slot : Slot F C flash) (slot_at : slice_get bench.slots.items k ≡ Some slot) where
+  pub stands_answer : (finished : Finished) (now_slot : Slot F C flash) (now_session : Session) (now_notes : List Note) → first_held_by session (kept_chips bench) ≡ Some k
       → finished_in (kept_slot slot).stage ≡ Some finished → kept_slot now_slot ≡ after_answer finished.known (kept_slot slot)
       → now_notes ≡ bench.notes.notes ++ Answered session finished.reply ∷ []
       → ((sizes : Command → Geometry) (commands : List Command) (notes later : List Note) (run : SessionRun) (n : ℕ) (reply : Reply) → Mirrors sizes commands notes s run → IsWaiting s
       → slice_get later (length bench.notes.notes) ≡ Some (Answered n reply) → Mirrors sizes commands later now_session (with_reply sizes reply run))
       → Follows past.boot (starts_of flash.state past) (next_course flash.fault_model flash.state past session) (map kept_slot (set bench.slots.items k now_slot)) bench.events now_notes (set bench.sessions.items place now_session)
   stands_answer finished now_slot now_session now_notes held over is_slot is_notes replied_so =
-      let after = follows_answer flash.fault_model past.boot turn.on_course.calm (starts_of flash.state past) (course_of flash.fault_model flash.state past) (kept_chips bench) bench.events bench.notes.notes bench.sessions.items
+      let after = follows_answer flash.fault_model past.boot turn.on_course.conditions.uncut (starts_of flash.state past) (course_of flash.fault_model flash.state past) (kept_chips bench) bench.events bench.notes.notes bench.sessions.items
       turn.on_course.stands turn.on_course.conditions.ascending (holds past bench turn.on_course) place k s now_session (set bench.sessions.items place now_session) (kept_slot slot) finished turn.attached at
       (ap (λ n. first_held_by n (kept_chips bench)) number ∙ held) (at_mapped kept_slot bench.slots.items k slot slot_at) over
       (set_changes bench.sessions.items place now_session (slice_get_within bench.sessions.items place s at))
@@ -137,19 +137,19 @@ module _ {F : Type 0} {flash : Ghosts F} (past : Past F) (bench : Bench F flash)
         → ((sizes : Command → Geometry) (run : SessionRun) → Mirrors sizes commands bench.notes.notes s run → First (λ c. sizes c ≡ (kept_slot slot).state.geometry) run.commands → Mirrors sizes commands bench.notes.notes now_session run)
         → Follows past.boot (starts_of flash.state past) (course_of flash.fault_model flash.state past) (kept_chips bench) bench.events bench.notes.notes (set bench.sessions.items place now_session)
     stands_resumed now_session commands given free resumed =
-        follows_resumed flash.fault_model past.boot turn.on_course.calm (starts_of flash.state past) (course_of flash.fault_model flash.state past) (kept_chips bench) bench.events bench.notes.notes bench.sessions.items
+        follows_resumed flash.fault_model past.boot turn.on_course.conditions.uncut (starts_of flash.state past) (course_of flash.fault_model flash.state past) (kept_chips bench) bench.events bench.notes.notes bench.sessions.items
         turn.on_course.stands turn.on_course.conditions.ascending (holds past bench turn.on_course) place s now_session (set bench.sessions.items place now_session) at
         (ap (λ n. first_held_by n (kept_chips bench)) number ∙ free)
         (set_changes bench.sessions.items place now_session (slice_get_within bench.sessions.items place s at))
         (resumed_so now_session commands given resumed)
 
-    pub stands_begun : (now_slot : Slot F flash) (now_session : Session) (now_notes : List Note) (commands : List Command) → commands_at past.boot place ≡ Some commands
+    pub stands_begun : (now_slot : Slot F C flash) (now_session : Session) (now_notes : List Note) (commands : List Command) → commands_at past.boot place ≡ Some commands
         → first_held_by session (kept_chips bench) ≡ None → slot.holder ≡ None → kept_slot now_slot ≡ after_begin past.boot.partitions session first.op (kept_slot slot)
         → now_notes ≡ bench.notes.notes ++ Began session first.op ∷ [] → IsWaiting now_session
         → ((sizes : Command → Geometry) (run : SessionRun) → Mirrors sizes commands bench.notes.notes s run → First (λ c. sizes c ≡ (kept_slot slot).state.geometry) run.commands → Mirrors sizes commands bench.notes.notes now_session run)
         → Follows past.boot (starts_of flash.state past) (next_course flash.fault_model flash.state past session) (map kept_slot (set bench.slots.items k now_slot)) bench.events now_notes (set bench.sessions.items place now_session)
     stands_begun now_slot now_session now_notes commands given free no_holder is_slot is_notes waits resumed =
-        let after = follows_begin flash.fault_model past.boot turn.on_course.calm (starts_of flash.state past) (course_of flash.fault_model flash.state past) (kept_chips bench) bench.events bench.notes.notes bench.sessions.items
+        let after = follows_begin flash.fault_model past.boot turn.on_course.conditions.uncut (starts_of flash.state past) (course_of flash.fault_model flash.state past) (kept_chips bench) bench.events bench.notes.notes bench.sessions.items
         turn.on_course.stands turn.on_course.conditions.ascending (holds past bench turn.on_course) place k s now_session (set bench.sessions.items place now_session) (kept_slot slot) first.op turn.attached at
         (ap (λ n. first_held_by n (kept_chips bench)) number ∙ free) (at_mapped kept_slot bench.slots.items k slot slot_at) no_holder
         (set_changes bench.sessions.items place now_session (slice_get_within bench.sessions.items place s at)) waits

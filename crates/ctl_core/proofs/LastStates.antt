@@ -110,7 +110,7 @@ found_passes test is_it (y ∷ ys) x h g = by_test (is_it y) g (found_passes tes
     by_test true e later = let same : y ≡ x = cc in ap test (sym same) ∙ (and_parts _ _ h).0
     by_test false e later = later e
 
-module _ {F : Type 0} {flash : Ghosts F} (past : Past F) (bench : Bench F flash) (on : IsOnCourse past bench) where
+module _ {F C : Type 0} {flash : Ghosts F} (past : Past F) (bench : Bench F C flash) (on : IsOnCourse past bench) where
   -- the parts lie on chips that are there
   pub parts_there : All (λ (part : Part). part.chip < length bench.slots.items) past.boot.partitions.parts
   parts_there k d h =

@@ -4,6 +4,7 @@ pub mod CourseSteps
 pub mod Pending
 pub mod Places
 pub mod Sessions
+pub mod Flipped
 pub mod Turns
 pub mod Slots
 pub mod Devices

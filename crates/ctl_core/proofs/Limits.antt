@@ -72,7 +72,7 @@ working_by partitions c None p by h = cc
 working_by partitions c (Some known) None by h = cc
 working_by partitions c (Some known) (Some pending) by h = refl
 
-module _ {F : Type 0} {flash : Ghosts F} (past : Past F) (bench : Bench F flash) (on : IsOnCourse past bench) where
+module _ {F C : Type 0} {flash : Ghosts F} (past : Past F) (bench : Bench F C flash) (on : IsOnCourse past bench) where
   pub few_slots : length bench.slots.items ≤ 8
   few_slots =
       let kept : length (kept_chips bench) ≡ length (course_of flash.fault_model flash.state past).chips = ap length on.stands.keeps.of_chips ∙ mapped_length (kept_as past.boot.partitions) (course_of flash.fault_model flash.state past).chips in
@@ -107,7 +107,7 @@ module _ {F : Type 0} {flash : Ghosts F} (past : Past F) (bench : Bench F flash)
       omega (arith, events, same, starts, on.attach_events, few_attaches, few_blocks, few_turns, on.conditions.cheap, on.conditions.few, on.stands.keeps.of_events)
 
   pub attached_there : unattached (course_of flash.fault_model flash.state past) ≡ first_attaching (kept_chips bench)
-  attached_there = unattached_there flash.fault_model past.boot on.calm (starts_of flash.state past) (course_of flash.fault_model flash.state past) (kept_chips bench) bench.events bench.notes.notes bench.sessions.items on.stands
+  attached_there = unattached_there flash.fault_model past.boot on.conditions.uncut (starts_of flash.state past) (course_of flash.fault_model flash.state past) (kept_chips bench) bench.events bench.notes.notes bench.sessions.items on.stands
 
   -- a session of the boot is found
   pub place_there : (session : ℕ) → HasSession past.boot session → position (λ (s : Session). number_of s == session) bench.sessions.items ≡ None → ⊥
@@ -138,13 +138,13 @@ module _ {F : Type 0} {flash : Ghosts F} (past : Past F) (bench : Bench F flash)
       → option_map (λ (c : KeptChip flash.FaultState). is_working c.stage) (slice_get (kept_chips bench) k) ≡ Some true
   held_works session k h =
       let x = position_is (λ (y : KeptChip flash.FaultState). is_held_by session y.holder) (kept_chips bench) k h in
-      let holder = found_held flash.fault_model past.boot on.calm (starts_of flash.state past) (course_of flash.fault_model flash.state past) (kept_chips bench) bench.events bench.notes.notes bench.sessions.items on.stands
+      let holder = found_held flash.fault_model past.boot on.conditions.uncut (starts_of flash.state past) (course_of flash.fault_model flash.state past) (kept_chips bench) bench.events bench.notes.notes bench.sessions.items on.stands
       on.conditions.ascending (holds past bench on) session k x.0 h x.1 in
-      let c = chip_there flash.fault_model past.boot on.calm (starts_of flash.state past) (course_of flash.fault_model flash.state past) (kept_chips bench) bench.events bench.notes.notes bench.sessions.items on.stands k x.0 x.1 in
+      let c = chip_there flash.fault_model past.boot on.conditions.uncut (starts_of flash.state past) (course_of flash.fault_model flash.state past) (kept_chips bench) bench.events bench.notes.notes bench.sessions.items on.stands k x.0 x.1 in
       ap (option_map (λ (y : KeptChip flash.FaultState). is_working y.stage)) x.1
       ∙ ap Some (ap (λ (y : KeptChip flash.FaultState). is_working y.stage) (sym c.2)
       ∙ working_by past.boot.partitions c.0 c.0.known c.0.pending session (ap (λ (y : KeptChip flash.FaultState). y.holder) c.2 ∙ holder))
 
 -- a search in the slots is one in what is kept of them
-pub held_in_slots : {F : Type 0} {flash : Ghosts F} (bench : Bench F flash) (session : ℕ) → position (λ slot. is_held_by session slot.holder) bench.slots.items ≡ first_held_by session (kept_chips bench)
+pub held_in_slots : {F C : Type 0} {flash : Ghosts F} (bench : Bench F C flash) (session : ℕ) → position (λ slot. is_held_by session slot.holder) bench.slots.items ≡ first_held_by session (kept_chips bench)
 held_in_slots bench session = position_kept _ _ kept_slot bench.slots.items (λ k slot h. refl)
