@@ -1,6 +1,6 @@
 -- A whole attach without tables, block after block.
-use Rattle.std.proofs.Common.{◌≡◌, ℕ, ◌+◌, ◌<◌, ◌≤◌, Bool, true, List, [], ◌∷◌, ◌++◌, Option, Some, None, refl, ap, sym, subst, ◌∙◌, arith, zero, suc, add-one, add-zero}
-use Rattle.std.specs.Prelude.{map, IsSome, IfSome}
+use Rattle.std.proofs.Common.{◌≡◌, ℕ, ◌+◌, ◌<◌, ◌≤◌, Bool, true, List, [], ◌∷◌, ◌++◌, Option, Some, None, refl, ap, sym, subst, ◌∙◌, arith, zero, suc, false, add-one, add-zero}
+use Rattle.std.specs.Prelude.{◌&&◌, map, IsSome, IfSome}
 use Rattle.std.proofs.lemmas.List.{map-append}
 use Rattle.nand_model.proofs.Bounds.{bounds}
 use Rattle.nand_model.specs.Attach.{Attaching, marker_table}
@@ -9,11 +9,9 @@ use Rattle.nand_model.specs.Path.{Path, Over, Data, answer_to}
 use Rattle.nand_model.specs.Quiet.{is_quiet}
 use Rattle.nand_model.specs.Sizes.{numbers_from, first_page}
 use Rattle.chip_model.specs.Stage.{Stage, Attaches, Rests, attach_end, attach_stage, first_stage, news_after, path_after, stage_after, stage_event}
-use Rattle.chip_core.specs.Calm.{HasNoFlips}
 use Rattle.chip_core.specs.Markers.{attached_by_markers, blocks_from, known_by_markers, marker_page, marker_state, markers_left}
 use Rattle.chip_core.specs.Whole.{marker_states}
 use Rattle.chip_core.proofs.Scanning.{attach_path-markers, blocks_from-end, blocks_from-head, next_read, no_end_yet, still_attaches}
-use Rattle.chip_core.proofs.Unflipped.{quiet}
 
 -- the states of the blocks before this one
 abbrev pub states_before : {W : Type 0} → ChipState W → ℕ → List ℕ
@@ -23,11 +21,25 @@ states_before s block = marker_table s.geometry (map (marker_page s) (numbers_fr
 abbrev pub left_from : {W : Type 0} → ChipState W → ℕ → Path Attaching
 left_from s block = markers_left s.geometry (states_before s block) (blocks_from s.geometry block)
 
+-- whether an attach of this chip is quiet before its event of this number
+abbrev pub quiet_before : {W : Type 0} → ChipState W → ℕ → Bool
+quiet_before s zero = true
+quiet_before s (suc events) = is_quiet s.geometry s.pages
+
 -- a chip of which the blocks before this one are read
 pub record IsAttachedTo {W : Type 0} (start : ChipState W) (block : ℕ) (now : ChipState W) (stage : Stage) (news : Option (Bool × Attaching)) : Type 0 where
   pub same : now ≡ start
-  pub stage_is : stage ≡ attach_stage (left_from start block) true
-  pub news_is : news ≡ attach_end (left_from start block) true
+  pub stage_is : stage ≡ attach_stage (left_from start block) (quiet_before start block)
+  pub news_is : news ≡ attach_end (left_from start block) (quiet_before start block)
+
+and-self : (a : Bool) → (a && a) ≡ a
+and-self true = refl
+and-self false = refl
+
+-- one more event
+quiet_before-more : {W : Type 0} (s : ChipState W) (events : ℕ) → (quiet_before s events && is_quiet s.geometry s.pages) ≡ quiet_before s (events + 1)
+quiet_before-more s zero = refl
+quiet_before-more s (suc events) = rw (add-one (suc events)) (and-self (is_quiet s.geometry s.pages))
 
 -- one more number
 numbers_from-suc : (first count : ℕ) → numbers_from first (suc count) ≡ numbers_from first count ++ (first + count) ∷ []
@@ -64,8 +76,8 @@ module _ {W : Type 0} (start : ChipState W) where
 
   module _ (block : ℕ) (now : ChipState W) (stage : Stage) (news : Option (Bool × Attaching)) (at : IsAttachedTo start block now stage news) where
     module _ (there : block < start.geometry.blocks) where
-      attaches : stage ≡ Attaches (left_from start block) true
-      attaches = at.stage_is ∙ still_attaches start.geometry (states_before start block) block there true
+      attaches : stage ≡ Attaches (left_from start block) (quiet_before start block)
+      attaches = at.stage_is ∙ still_attaches start.geometry (states_before start block) block there (quiet_before start block)
 
       reads : stage_event stage ≡ Some (ReadEvent (first_page start.geometry block))
       reads = ap stage_event attaches ∙ next_read start.geometry (states_before start block) block there
@@ -79,9 +91,9 @@ module _ {W : Type 0} (start : ChipState W) where
           (blocks_from-head start.geometry block there)
           ∙ ap (λ states. markers_left start.geometry states (blocks_from start.geometry (block + 1))) (sym (one_more_state block))
 
-      module _ (model : FaultModel W) (none : start.geometry.bbt ≡ 0) (calm : HasNoFlips start) where
-        is_calm : is_quiet now.geometry now.pages ≡ true
-        is_calm = ap (λ (s : ChipState W). is_quiet s.geometry s.pages) at.same ∙ quiet start none calm
+      module _ (model : FaultModel W) where
+        is_now : is_quiet now.geometry now.pages ≡ is_quiet start.geometry start.pages
+        is_now = ap (λ (s : ChipState W). is_quiet s.geometry s.pages) at.same
 
         saw : answer_to model now (ReadEvent (first_page start.geometry block)) ≡ Data (marker_page start block)
         saw = ap (λ s. answer_to model s (ReadEvent (first_page start.geometry block))) at.same
@@ -94,18 +106,23 @@ module _ {W : Type 0} (start : ChipState W) where
             → IsAttachedTo start (block + 1) after stage_then news_then
         goes_on after stage_then news_then state_is stage_is news_is =
             let read : PageEvent = ReadEvent (first_page start.geometry block) in
+            let quiet : Bool = is_quiet start.geometry start.pages in
             record {
               same = at_some (stage_event stage) read (λ e. after ≡ happens model now (Complete e)) reads state_is ∙ at.same;
               stage_is =
                   at_some (stage_event stage) read (λ e. stage_then ≡ stage_after (is_quiet now.geometry now.pages) (answer_to model now e) stage) reads
                   stage_is
-                  ∙ ap (λ q. stage_after q (answer_to model now read) stage) is_calm ∙ ap (λ answer. stage_after true answer stage) saw
-                  ∙ ap (stage_after true (Data (marker_page start block))) attaches ∙ ap (λ left. attach_stage left true) path_goes_on;
+                  ∙ ap (λ q. stage_after q (answer_to model now read) stage) is_now ∙ ap (λ answer. stage_after quiet answer stage) saw
+                  ∙ ap (stage_after quiet (Data (marker_page start block))) attaches
+                  ∙ ap (λ left. attach_stage left (quiet_before start block && quiet)) path_goes_on
+                  ∙ ap (attach_stage (left_from start (block + 1))) (quiet_before-more start block);
               news_is =
                   at_some (stage_event stage) read (λ e. news_then ≡ news_after (is_quiet now.geometry now.pages) (answer_to model now e) stage news) reads
                   news_is
-                  ∙ ap (λ q. news_after q (answer_to model now read) stage news) is_calm ∙ ap (λ answer. news_after true answer stage news) saw
-                  ∙ ap (λ stage. news_after true (Data (marker_page start block)) stage news) attaches ∙ ap (λ left. attach_end left true) path_goes_on;
+                  ∙ ap (λ q. news_after q (answer_to model now read) stage news) is_now ∙ ap (λ answer. news_after quiet answer stage news) saw
+                  ∙ ap (λ stage. news_after quiet (Data (marker_page start block)) stage news) attaches
+                  ∙ ap (λ left. attach_end left (quiet_before start block && quiet)) path_goes_on
+                  ∙ ap (attach_end (left_from start (block + 1))) (quiet_before-more start block);
             }
 
     module _ (last : block ≡ start.geometry.blocks) where
@@ -115,7 +132,14 @@ module _ {W : Type 0} (start : ChipState W) where
           ap (left_from start) last ∙ ap (markers_left start.geometry (marker_states start)) (blocks_from-end start.geometry start.geometry.blocks past)
 
       pub now_rests : stage ≡ Rests (known_by_markers (marker_states start))
-      now_rests = at.stage_is ∙ ap (λ left. attach_stage left true) all_read
+      now_rests = at.stage_is ∙ ap (λ left. attach_stage left (quiet_before start block)) all_read
 
-      pub now_news : news ≡ Some (true, attached_by_markers (marker_states start))
-      now_news = at.news_is ∙ ap (λ left. attach_end left true) all_read
+      -- the attach had an event
+      was_quiet : (events : ℕ) → 0 < events → quiet_before start events ≡ is_quiet start.geometry start.pages
+      was_quiet zero none = absurd (omega arith)
+      was_quiet (suc events) some = refl
+
+      pub now_news : news ≡ Some (is_quiet start.geometry start.pages, attached_by_markers (marker_states start))
+      now_news =
+          at.news_is ∙ ap (λ left. attach_end left (quiet_before start block)) all_read
+          ∙ ap (λ q. Some (q, attached_by_markers (marker_states start))) (was_quiet block (rw last first_there))

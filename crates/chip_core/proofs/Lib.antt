@@ -1,7 +1,8 @@
 pub mod Places
 pub mod Scanning
-pub mod Unflipped
+pub mod Quiet
 pub mod Beginning
 pub mod Advancing
+pub mod Seen
 pub mod Performing
 pub mod Attached

@@ -15,7 +15,7 @@ use Rattle.nand_model.specs.declared.words.Op.TheVariants.{Read, Write, RawRead,
 use Rattle.nand_model.specs.declared.words.Part.{Part}
 use Rattle.nand_model.specs.declared.words.Reply.{Reply}
 use Rattle.nand_model.specs.declared.words.Reply.TheVariants.{OutOfRange, BadBlock, MarkerByte, ProgramFailed, EraseFailed, State}
-use Rattle.chip_model.specs.Raw.{IsRaw}
+use Rattle.chip_core.specs.Begin.{IsRaw}
 use Rattle.chip_model.specs.Stage.{Stage, Attaches, Rests, Works, finished_in, is_resting, news_after, stage_after, stage_begun, stage_event}
 use Rattle.chip_core.specs.Whole.{HasCause, HasPerformed, is_fault, is_refusal, known_at_rest, refusal_in, refusal_of, refused_unless}
 

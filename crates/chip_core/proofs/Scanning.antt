@@ -1,5 +1,5 @@
 -- An attach without tables: where its path stands after each page.
-use Rattle.std.proofs.Common.{◌≡◌, ℕ, suc, ◌+◌, ◌-◌, ◌<◌, ◌≤◌, Bool, true, false, not, List, [], ◌∷◌, ◌++◌, length, take, set, Some, None, refl, ap, sym, ◌∙◌, arith}
+use Rattle.std.proofs.Common.{◌≡◌, ℕ, suc, ◌+◌, ◌-◌, ◌<◌, ◌≤◌, Bool, false, not, List, [], ◌∷◌, ◌++◌, length, take, set, Some, None, refl, ap, sym, ◌∙◌, arith}
 use Rattle.std.specs.Prelude.{◌==◌}
 use Rattle.std.proofs.lemmas.List.{length-set, take_all, take_more_set, map-append}
 use Rattle.nand_model.specs.Chip.{ReadEvent}
@@ -78,31 +78,31 @@ module _ (g : Geometry) where
     now_news = ap (λ left. attach_end left quiet) over
 
   -- a chip whose next marker is read, and the state of that block kept
-  module _ (states : List ℕ) (block : ℕ) (cells : List ℕ) (there : block < g.blocks) (all : length states ≡ g.blocks) where
+  module _ (states : List ℕ) (block : ℕ) (cells : List ℕ) (there : block < g.blocks) (all : length states ≡ g.blocks) (quiet : Bool) where
     kept-all : length (set states block (marker_state g cells)) ≡ g.blocks
     kept-all = length-set states block (marker_state g cells) ∙ all
 
     module _ (more : block + 1 < g.blocks) where
-      pub goes_on : attach_stage (path_after (Data cells) (markers_left g (take block states) (blocks_from g block))) true
-          ≡ Attaches (markers_left g (take (block + 1) (set states block (marker_state g cells))) (blocks_from g (block + 1))) true
+      pub goes_on : attach_stage (path_after (Data cells) (markers_left g (take block states) (blocks_from g block))) quiet
+          ≡ Attaches (markers_left g (take (block + 1) (set states block (marker_state g cells))) (blocks_from g (block + 1))) quiet
       goes_on =
-          ap (λ left. attach_stage left true) (after_read states block there cells all)
-          ∙ still_attaches (take (block + 1) (set states block (marker_state g cells))) (block + 1) more true
+          ap (λ left. attach_stage left quiet) (after_read states block there cells all)
+          ∙ still_attaches (take (block + 1) (set states block (marker_state g cells))) (block + 1) more quiet
 
-      pub no_news : attach_end (path_after (Data cells) (markers_left g (take block states) (blocks_from g block))) true ≡ None
+      pub no_news : attach_end (path_after (Data cells) (markers_left g (take block states) (blocks_from g block))) quiet ≡ None
       no_news =
-          ap (λ left. attach_end left true) (after_read states block there cells all)
-          ∙ no_end_yet (take (block + 1) (set states block (marker_state g cells))) (block + 1) more true
+          ap (λ left. attach_end left quiet) (after_read states block there cells all)
+          ∙ no_end_yet (take (block + 1) (set states block (marker_state g cells))) (block + 1) more quiet
 
     module _ (last : g.blocks ≤ block + 1) where
-      pub comes_to_rest : attach_stage (path_after (Data cells) (markers_left g (take block states) (blocks_from g block))) true
+      pub comes_to_rest : attach_stage (path_after (Data cells) (markers_left g (take block states) (blocks_from g block))) quiet
           ≡ Rests (known_by_markers (set states block (marker_state g cells)))
       comes_to_rest =
-          ap (λ left. attach_stage left true) (after_read states block there cells all)
-          ∙ now_rests (set states block (marker_state g cells)) (block + 1) last kept-all true
+          ap (λ left. attach_stage left quiet) (after_read states block there cells all)
+          ∙ now_rests (set states block (marker_state g cells)) (block + 1) last kept-all quiet
 
-      pub news : attach_end (path_after (Data cells) (markers_left g (take block states) (blocks_from g block))) true
-          ≡ Some (true, attached_by_markers (set states block (marker_state g cells)))
+      pub news : attach_end (path_after (Data cells) (markers_left g (take block states) (blocks_from g block))) quiet
+          ≡ Some (quiet, attached_by_markers (set states block (marker_state g cells)))
       news =
-          ap (λ left. attach_end left true) (after_read states block there cells all)
-          ∙ now_news (set states block (marker_state g cells)) (block + 1) last kept-all true
+          ap (λ left. attach_end left quiet) (after_read states block there cells all)
+          ∙ now_news (set states block (marker_state g cells)) (block + 1) last kept-all quiet

@@ -1,4 +1,4 @@
--- What contracts see of a chip: the state of its flash, its stage, the pages set aside, and the news of its attach.
+-- What contracts see of a chip: the state of its flash, its stage, the pages and bits set aside, and the news of its attach.
 use Rattle.std.specs.Prelude.{ℕ, Option, Bool}
 use Rattle.nand_model.specs.Chip.{ChipState}
 use Rattle.nand_model.specs.Attach.{Attaching}
@@ -8,17 +8,21 @@ use Rattle.chip_core.specs.Phase.{phase_stage, news_in}
 use Rattle.chip_core.specs.declared.chip.Chip.{Chip}
 
 -- the state of its flash
-abbrev pub chip_state : {F : Type 0} {flash : Ghosts F} → Chip F flash → ChipState flash.FaultState
-chip_state {F} {flash} chip = flash.state chip.flash
+abbrev pub chip_state : {F C : Type 0} {flash : Ghosts F} → Chip F C flash → ChipState flash.FaultState
+chip_state {F} {C} {flash} chip = flash.state chip.flash
 
 -- its stage
-abbrev pub chip_stage : {F : Type 0} {flash : Ghosts F} → Chip F flash → Stage
+abbrev pub chip_stage : {F C : Type 0} {flash : Ghosts F} → Chip F C flash → Stage
 chip_stage chip = phase_stage chip.table.geometry chip.table.states chip.phase
 
--- how many pages may be programmed beyond those that its attach or its operation in flight may still program, before memory has to be asked for
-abbrev pub chip_spare : {F : Type 0} {flash : Ghosts F} → Chip F flash → ℕ
+-- how many pages may be programmed or flipped beyond those that its attach or its operation in flight may still program, before memory has to be asked for
+abbrev pub chip_spare : {F C : Type 0} {flash : Ghosts F} → Chip F C flash → ℕ
 chip_spare chip = chip.spare
 
+-- how many bits may be flipped before memory has to be asked for
+abbrev pub chip_bits : {F C : Type 0} {flash : Ghosts F} → Chip F C flash → ℕ
+chip_bits {F} {C} {flash} chip = flash.bit_room chip.flash
+
 -- the attach whose note was not handed out yet, and whether it was quiet
-abbrev pub chip_news : {F : Type 0} {flash : Ghosts F} → Chip F flash → Option (Bool × Attaching)
-chip_news chip = news_in chip.phase chip.note
+abbrev pub chip_news : {F C : Type 0} {flash : Ghosts F} → Chip F C flash → Option (Bool × Attaching)
+chip_news chip = news_in chip.phase chip.finding

@@ -1,5 +1,4 @@
 pub mod Markers
-pub mod Calm
 pub mod Begin
 pub mod Task
 pub mod Phase

@@ -1,68 +1,69 @@
 // One chip.
-ghost use Rattle.std.specs.Prelude.{◌≡◌, ◌≤◌, ◌+◌, None, true, option_map, IsSome, IfSome, IfOk, OnOk, OnErr, is_some};
-ghost use Rattle.nand_model.specs.Chip.{Complete, happens};
+ghost use Rattle.std.specs.Prelude.{◌≡◌, ◌≤◌, ◌+◌, length, None, true, option_map, IsSome, IfSome, IfOk, OnOk, OnErr, is_some};
+ghost use Rattle.nand_model.specs.Chip.{Complete, after_trace, flip_events, happens};
 ghost use Rattle.nand_model.specs.ChipRun.{name_of, bad_blocks_in};
 ghost use Rattle.nand_model.specs.Counts.{HasRisen};
 ghost use Rattle.nand_model.specs.Path.{Data, answer_to, is_failure};
 ghost use Rattle.nand_model.specs.Quiet.{is_quiet};
 ghost use Rattle.nand_model.specs.declared.words.Fairness.TheVariants.{Plain};
+ghost use Rattle.nand_iface.specs.Flash.{FitsBits};
 ghost use Rattle.chip_model.specs.Stage.{Rests, failure_told, finished_in, first_stage, is_attached, is_resting, is_working, news_after, note_of_news, stage_after, stage_begun, stage_event, stage_statistics, stage_table};
 ghost use Rattle.chip_core.specs.Begin.{CanBegin};
-ghost use Rattle.chip_core.specs.Calm.{HasNoFlips};
-ghost use Rattle.chip_core.specs.Phase.{PhaseFits, PhaseFits-prop, ScanFits, news_in, phase_stage, programs_left};
+ghost use Rattle.chip_core.specs.Phase.{KnowsQuiet, KnowsQuiet-prop, PhaseFits, PhaseFits-prop, ScanFits, news_in, phase_stage, programs_left};
 ghost use Rattle.chip_core.specs.Markers.{marker_page};
 ghost use Rattle.chip_core.specs.declared.phase.Phase.TheVariants.{Attaching, Resting};
 
 use crate::phase::Phase;
-use crate::scan::Scan;
+use crate::scan::{Finding, Scan, marker_is_quiet};
 use crate::table::Table;
 use crate::task::Task;
 use mtd_part::Parts;
-use nand_iface::{Event, Fairness, Flash, Note, Op, Origin, Reply, Stats};
-use nand_model::{Bytes, Geometry};
+use nand_iface::{Event, Fairness, Flash, Note, Op, Origin, PageCode, Reply, Stats};
+use nand_model::{BlockList, Geometry};
 use std::alloc::{AllocError, Global};
 use std::mem;
 
 /// A chip with its attach or its operation, which is held from its begin to its answer. It has no tables on flash.
 ///
 /// Contracts see the state of its flash (`chip_state`); its stage (`chip_stage`): what is left of its attach or of its operation, or what is known of it at rest;
-/// its spare (`chip_spare`): how many pages may be programmed beyond those of the attach or the operation; and its news (`chip_news`): the attach whose note was
-/// not handed out yet.
+/// its spare (`chip_spare`): how many pages may be programmed or flipped beyond those of the attach or the operation; its bits (`chip_bits`): how many bits may be
+/// flipped; and its news (`chip_news`): the attach whose note was not handed out yet.
 #[derive(Drop)]
-pub struct Chip<F: Flash> {
+pub struct Chip<F: Flash, C: PageCode> {
     alloc: Global,
     flash: F,
+    code: C,
     table: Table,
-    note: Option<Bytes>,
+    finding: Option<Finding>,
     phase: Phase,
     spare: u32,
     ghost sizes: { (F.state flash).geometry ≡ table.geometry },
     ghost without_tables: { (F.state flash).geometry.bbt ≡ 0 },
-    ghost unflipped: { HasNoFlips (F.state flash) },
+    ghost quiet: { KnowsQuiet (F.state flash) phase } by { KnowsQuiet-prop (F.state flash) phase },
     ghost fits: { PhaseFits table.geometry phase } by { PhaseFits-prop table.geometry phase },
     ghost room: { spare + programs_left phase ≤ F.room flash },
 }
 
-impl<F: Flash> Chip<F> {
-    ghost use Rattle.chip_core.specs.Chip.{chip_state, chip_stage, chip_news, chip_spare};
+impl<F: Flash, C: PageCode> Chip<F, C> {
+    ghost use Rattle.chip_core.specs.Chip.{chip_bits, chip_news, chip_spare, chip_stage, chip_state};
 
     /// A chip at the start of its attach, with all the memory that attaching needs.
     ///
-    /// The flash has no tables, and no bit of it was turned.
-    pub fn attach_start(alloc: Global, flash: F) -> Result<Chip<F>, AllocError>
-        requires without_tables { (F.state flash).geometry.bbt ≡ 0 }
-        requires unflipped { HasNoFlips (F.state flash) }
+    /// The flash has no tables.
+    pub fn attach_start(alloc: Global, flash: F, code: C) -> Result<Chip<F, C>, AllocError>
+        requires { (F.state flash).geometry.bbt ≡ 0 }
         ensures state { IfOk result (λ chip. chip_state chip ≡ F.state flash) }
         ensures stage { IfOk result (λ chip. chip_stage chip ≡ first_stage (F.state flash).geometry) }
         ensures news { IfOk result (λ chip. chip_news chip ≡ None) }
     {
         let geometry = flash.geometry();
-        let scan = Scan::start(alloc, &geometry)?;
+        let scan = Scan::start(alloc, &flash, &geometry)?;
         Ok(Chip {
             alloc,
             flash,
+            code,
             table: Table::new(alloc, geometry)?,
-            note: None,
+            finding: None,
             phase: Phase::Attaching(scan),
             spare: 0,
         })
@@ -86,19 +87,39 @@ impl<F: Flash> Chip<F> {
         }
     }
 
-    /// Makes the spare at least `pages`, and leaves all else as it is. Where memory runs out, the spare is no less than before.
-    pub fn reserve(&mut self, pages: u32) -> Result<(), AllocError>
+    /// Makes the spare at least `pages` and the bits at least `bits`, and leaves all else as it is. Where memory runs out, neither is less than before.
+    pub fn reserve(&mut self, pages: u32, bits: u32) -> Result<(), AllocError>
         ensures spare { OnOk result (pages ≤ chip_spare self.new) }
+        ensures bits { OnOk result (bits ≤ chip_bits self.new) }
         ensures no_less { chip_spare self.old ≤ chip_spare self.new }
+        ensures no_fewer_bits { chip_bits self.old ≤ chip_bits self.new }
         ensures state { chip_state self.new ≡ chip_state self.old }
         ensures stage { chip_stage self.new ≡ chip_stage self.old }
         ensures news { chip_news self.new ≡ chip_news self.old }
     {
         let spare = pages.max(self.spare);
         let room = spare.checked_add(self.phase.programs()).ok_or(AllocError)?;
-        self.flash.reserve(room)?;
+        self.flash.reserve(room, bits)?;
         self.spare = spare;
         Ok(())
+    }
+
+    /// Turns these bits of a page one after the other; bit 0 is the highest of byte 0. It takes at most one page of the spare, and of the bits at most their number.
+    pub fn flip(&mut self, page: u32, bits: &BlockList)
+        requires place { FitsBits (chip_state self.old).geometry page bits.now }
+        requires spare { 1 ≤ chip_spare self.old }
+        requires bits { length bits.now ≤ chip_bits self.old }
+        ensures state { chip_state self.new ≡ after_trace F.fault_model (chip_state self.old) (flip_events page bits.now) }
+        ensures stage { chip_stage self.new ≡ chip_stage self.old }
+        ensures news { chip_news self.new ≡ chip_news self.old }
+        ensures spare { chip_spare self.old ≤ chip_spare self.new + 1 }
+        ensures bits { chip_bits self.old ≤ chip_bits self.new + length bits.now }
+    {
+        self.flash.flip(page, bits);
+        self.spare -= 1;
+        let g = &self.table.geometry;
+        let quiet = marker_is_quiet(&self.flash, g, page / g.pages_per_block);
+        self.phase.see_marker(quiet);
     }
 
     /// Hands out the note of the attach, under this number of the chip. None comes exactly where attaching is not over or the note was handed out before.
@@ -108,18 +129,19 @@ impl<F: Flash> Chip<F> {
         ensures state { chip_state self.new ≡ chip_state self.old }
         ensures stage { chip_stage self.new ≡ chip_stage self.old }
         ensures spare { chip_spare self.new ≡ chip_spare self.old }
+        ensures bits { chip_bits self.old ≤ chip_bits self.new }
     {
         if let Phase::Attaching(_) = &self.phase {
             return None;
         }
-        let states = self.note.take()?;
+        let finding = self.finding.take()?;
         Some(Note::Attached {
             chip,
             origin: Origin::Markers,
             version: 0,
             copies: 0,
-            quiet: true,
-            states,
+            quiet: finding.quiet,
+            states: finding.states,
         })
     }
 
@@ -168,10 +190,11 @@ impl<F: Flash> Chip<F> {
         ensures state { chip_state self.new ≡ chip_state self.old }
         ensures news { chip_news self.new ≡ chip_news self.old }
         ensures spare { chip_spare self.new ≡ chip_spare self.old }
+        ensures bits { chip_bits self.old ≤ chip_bits self.new }
     {
         let task = Task::begin(self.alloc, &self.table, parts, op)?;
         let room = self.spare.checked_add(task.programs()).ok_or(AllocError)?;
-        self.flash.reserve(room)?;
+        self.flash.reserve(room, 0)?;
         self.phase = Phase::Working(task);
         Ok(())
     }
@@ -192,6 +215,7 @@ impl<F: Flash> Chip<F> {
         ensures plain { IfSome result (λ fairness. fairness ≡ Plain) }
         ensures risen { IfSome result (λ fairness. HasRisen (chip_state self.old).faults (chip_state self.new).faults) }
         ensures spare { chip_spare self.new ≡ chip_spare self.old }
+        ensures bits { chip_bits self.old ≤ chip_bits self.new }
     {
         match mem::replace(&mut self.phase, Phase::Resting) {
             Phase::Attaching(scan) => {
@@ -215,6 +239,7 @@ impl<F: Flash> Chip<F> {
         ensures state { chip_state self.new ≡ chip_state self.old }
         ensures news { chip_news self.new ≡ chip_news self.old }
         ensures spare { chip_spare self.new ≡ chip_spare self.old }
+        ensures bits { chip_bits self.old ≤ chip_bits self.new }
     {
         match mem::replace(&mut self.phase, Phase::Resting) {
             Phase::Working(Task::Ended(reply)) => reply,
@@ -234,12 +259,14 @@ impl<F: Flash> Chip<F> {
     fn attach_on(&mut self, scan: Scan)
         requires rests { self.old.phase ≡ Resting }
         requires fits { ScanFits self.old.table.geometry scan }
+        requires quiet { scan.quiet_now ≡ is_quiet (F.state self.old.flash).geometry (F.state self.old.flash).pages }
         ensures state { F.state self.new.flash ≡ F.state self.old.flash }
         ensures stage { phase_stage self.new.table.geometry self.new.table.states self.new.phase
-            ≡ stage_after true (Data (marker_page (F.state self.old.flash) scan.next)) (phase_stage self.old.table.geometry self.old.table.states (Attaching scan)) }
-        ensures news { news_in self.new.phase self.new.note
-            ≡ news_after true (Data (marker_page (F.state self.old.flash) scan.next)) (phase_stage self.old.table.geometry self.old.table.states (Attaching scan)) None }
+            ≡ stage_after scan.quiet_now (Data (marker_page (F.state self.old.flash) scan.next)) (phase_stage self.old.table.geometry self.old.table.states (Attaching scan)) }
+        ensures news { news_in self.new.phase self.new.finding
+            ≡ news_after scan.quiet_now (Data (marker_page (F.state self.old.flash) scan.next)) (phase_stage self.old.table.geometry self.old.table.states (Attaching scan)) None }
         ensures spare { self.new.spare ≡ self.old.spare }
+        ensures bits { F.bit_room self.old.flash ≤ F.bit_room self.new.flash }
     {
         let mut scan = scan;
         let block = scan.next;
@@ -248,7 +275,7 @@ impl<F: Flash> Chip<F> {
         if scan.next < self.table.geometry.blocks {
             self.phase = Phase::Attaching(scan);
         } else {
-            self.note = Some(scan.into_note(&self.table));
+            self.finding = Some(scan.into_finding(&self.table));
         }
     }
 }

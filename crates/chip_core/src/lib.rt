@@ -10,5 +10,5 @@ mod whole;
 
 pub use chip::Chip;
 pub use mtd_part::Parts;
-pub use nand_iface::{Event, Fairness, Flash, Note, Op, Reply, Stats};
+pub use nand_iface::{Event, Fairness, Flash, Note, Op, PageCode, Reply, Stats};
 pub use whole::{attach, perform};

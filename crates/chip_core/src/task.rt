@@ -165,6 +165,7 @@ impl Task {
         ensures advanced { IfSome (task_event self) (λ e. Advances F.fault_model (F.state flash.old) (F.state flash.new) e self result.0 result.1) }
         ensures fits { TaskFits (F.state flash.old).geometry result.0 }
         ensures room { F.room flash.old + programs_of result.0 ≤ F.room flash.new + programs_of self }
+        ensures bits { F.bit_room flash.old ≤ F.bit_room flash.new }
     {
         match self {
             Task::Reading { page, cells } => (read(flash, page, cells), None),
@@ -204,6 +205,7 @@ fn program<F: Flash>(flash: &mut F, page: u32, image: &[u8]) -> (Task, Option<Fa
     ensures plain { IfSome result.1 (λ fairness. fairness ≡ Plain) }
     ensures risen { IfSome result.1 (λ fairness. HasRisen (F.state flash.old).faults (F.state flash.new).faults) }
     ensures room { F.room flash.old ≤ F.room flash.new + 1 }
+    ensures bits { F.bit_room flash.old ≤ F.bit_room flash.new }
 {
     match flash.program_page(page, image) {
         Ok(()) => (Task::Ended(Reply::Done), None),
@@ -221,6 +223,7 @@ fn erase<F: Flash>(flash: &mut F, block: u32) -> (Task, Option<Fairness>)
     ensures plain { IfSome result.1 (λ fairness. fairness ≡ Plain) }
     ensures risen { IfSome result.1 (λ fairness. HasRisen (F.state flash.old).faults (F.state flash.new).faults) }
     ensures room { F.room flash.old ≤ F.room flash.new }
+    ensures bits { F.bit_room flash.old ≤ F.bit_room flash.new }
 {
     match flash.erase_block(block) {
         Ok(()) => (Task::Ended(Reply::Done), None),

@@ -1,27 +1,31 @@
 // A whole attach and a whole operation of one chip, by its calls alone.
-ghost use Rattle.std.specs.Prelude.{◌≡◌, Some, true, IfSome, IfOk, OnErr};
+ghost use Rattle.std.specs.Prelude.{◌≡◌, ◌≤◌, Some, true, IfSome, IfOk, OnErr};
 ghost use Rattle.nand_model.specs.Operation.{device_of, part_of};
+ghost use Rattle.nand_model.specs.Quiet.{is_quiet};
 ghost use Rattle.chip_model.specs.Stage.{Rests, is_resting};
 ghost use Rattle.chip_core.specs.Begin.{CanBegin};
-ghost use Rattle.chip_core.specs.Calm.{HasNoFlips};
-ghost use Rattle.chip_core.specs.Chip.{chip_state, chip_stage, chip_news, chip_spare};
+ghost use Rattle.chip_core.specs.Chip.{chip_bits, chip_news, chip_spare, chip_stage, chip_state};
 ghost use Rattle.chip_core.specs.Markers.{attached_by_markers, known_by_markers};
 ghost use Rattle.chip_core.specs.Whole.{HasCause, HasPerformed, known_at_rest, marker_states, refusal_of};
 
 use crate::Chip;
 use mtd_part::Parts;
-use nand_iface::{Flash, Op, Reply};
+use nand_iface::{Flash, Op, PageCode, Reply};
 use std::alloc::{AllocError, Global};
 
-/// Attaches a chip. Its table is that of its markers, and the note of the attach is still to be handed out.
-pub fn attach<F: Flash>(alloc: Global, flash: F) -> Result<Chip<F>, AllocError>
-    requires without_tables { (F.state flash).geometry.bbt ≡ 0 }
-    requires unflipped { HasNoFlips (F.state flash) }
+/// Attaches a chip without tables. Its table is that of its markers, and the note of the attach is still to be handed out; it was quiet exactly where the flash is.
+pub fn attach<F: Flash, C: PageCode>(
+    alloc: Global,
+    flash: F,
+    code: C,
+) -> Result<Chip<F, C>, AllocError>
+    requires { (F.state flash).geometry.bbt ≡ 0 }
     ensures state { IfOk result (λ chip. chip_state chip ≡ F.state flash) }
     ensures stage { IfOk result (λ chip. chip_stage chip ≡ Rests (known_by_markers (marker_states (F.state flash)))) }
-    ensures news { IfOk result (λ chip. chip_news chip ≡ Some (true, attached_by_markers (marker_states (F.state flash)))) }
+    ensures news { IfOk result (λ chip. chip_news chip
+        ≡ Some (is_quiet (F.state flash).geometry (F.state flash).pages, attached_by_markers (marker_states (F.state flash)))) }
 {
-    let mut chip = Chip::attach_start(alloc, flash)?;
+    let mut chip = Chip::attach_start(alloc, flash, code)?;
     for _ in 0..chip.geometry().blocks {
         let _ = chip.advance();
     }
@@ -29,7 +33,11 @@ pub fn attach<F: Flash>(alloc: Global, flash: F) -> Result<Chip<F>, AllocError>
 }
 
 /// Performs an operation from its begin to its answer.
-pub fn perform<F: Flash>(chip: &mut Chip<F>, parts: &Parts, op: &Op) -> Result<Reply, AllocError>
+pub fn perform<F: Flash, C: PageCode>(
+    chip: &mut Chip<F, C>,
+    parts: &Parts,
+    op: &Op,
+) -> Result<Reply, AllocError>
     requires rests { is_resting (chip_stage chip.old) ≡ true }
     requires can { CanBegin (chip_state chip.old).geometry parts.now op.now }
     ensures performed { IfOk result (λ reply. IfSome (known_at_rest (chip_stage chip.old))
@@ -40,6 +48,7 @@ pub fn perform<F: Flash>(chip: &mut Chip<F>, parts: &Parts, op: &Op) -> Result<R
     ensures stage { chip_stage chip.new ≡ chip_stage chip.old }
     ensures news { chip_news chip.new ≡ chip_news chip.old }
     ensures spare { chip_spare chip.new ≡ chip_spare chip.old }
+    ensures bits { chip_bits chip.old ≤ chip_bits chip.new }
 {
     chip.begin(parts, op)?;
     if chip.next_event().is_none() {

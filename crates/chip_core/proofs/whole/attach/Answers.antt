@@ -6,7 +6,7 @@ use Rattle.chip_core.proofs.whole.attach.Goals as goal
 
 pub loop-init : goal.loop-init
 loop-init g c =
-    begins (g.F.Flash.state c.args.flash) c.requires.without_tables (chip_state c.in_ok-chip.chip) (chip_stage c.in_ok-chip.chip) (chip_news c.in_ok-chip.chip)
+    begins (g.F.Flash.state c.args.flash) c.requires (chip_state c.in_ok-chip.chip) (chip_stage c.in_ok-chip.chip) (chip_news c.in_ok-chip.chip)
     c.in_ok-chip.ensures.state c.in_ok-chip.ensures.stage c.in_ok-chip.ensures.news
 
 pub advance-requires : goal.advance-requires
@@ -22,7 +22,7 @@ loop-preserved g c =
     let sizes : c.geometry-end.result ≡ start.geometry = c.geometry-end.ensures ∙ ap (λ s. s.geometry) c.in_ok-chip.ensures.state in
     let there : c.loop.counter < start.geometry.blocks = rw (← sizes) c.loop-test.true in
     goes_on start c.loop.counter (chip_state c.loop.chip) (chip_stage c.loop.chip) (chip_news c.loop.chip) c.loop.invariant there
-    g.F.Flash.fault_model c.requires.without_tables c.requires.unflipped (chip_state c.advance.new.self) (chip_stage c.advance.new.self)
+    g.F.Flash.fault_model (chip_state c.advance.new.self) (chip_stage c.advance.new.self)
     (chip_news c.advance.new.self)
     c.advance.ensures.state c.advance.ensures.stage c.advance.ensures.news
 

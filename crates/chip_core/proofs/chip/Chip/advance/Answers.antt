@@ -6,13 +6,11 @@ use Rattle.nand_model.specs.Quiet.{is_quiet}
 use Rattle.nand_model.specs.declared.words.Fairness.{Fairness}
 use Rattle.nand_model.specs.declared.words.Fairness.TheVariants.{Plain}
 use Rattle.chip_model.specs.Stage.{failure_told}
-use Rattle.chip_core.specs.Calm.{HasNoFlips}
 use Rattle.chip_core.specs.Phase.{programs_left}
 use Rattle.chip_core.specs.Task.{task_event}
 use Rattle.chip_core.specs.declared.phase.Phase.{Phase}
 use Rattle.chip_core.specs.declared.phase.Phase.TheVariants.{Working}
-use Rattle.chip_core.proofs.Advancing.{working_has_event, sizes_kept, flips_kept, of_event, of_read, read_stage, read_news}
-use Rattle.chip_core.proofs.Unflipped.{quiet}
+use Rattle.chip_core.proofs.Advancing.{working_has_event, sizes_kept, knows_quiet, of_event, of_read, read_stage, read_news}
 use Rattle.chip_core.proofs.chip.Chip.advance.Goals as goal
 
 pub invariant_of-self-in-Working : goal.invariant_of-self-in-Working
@@ -34,9 +32,7 @@ invariant_of-self-in-Working g c =
     record {
       sizes = sizes ∙ chip.sizes;
       without_tables = rw sizes chip.without_tables;
-      unflipped =
-          of_event model before after task left told (task_event task) event c.advance-left.ensures.advanced (HasNoFlips after)
-          (flips_kept model before after task left told chip.unflipped);
+      quiet = tt;
       fits = rw (← chip.sizes) c.advance-left.ensures.fits;
       room = omega (arith, room, c.advance-left.ensures.room);
     }
@@ -53,14 +49,14 @@ returns-in-Attaching-clause-stage g c =
     let chip = c.args.self.now in
     let s = g.F.Flash.state chip.flash in
     read_stage g.F.Flash.fault_model s chip.table chip.sizes chip.phase chip.fits c.in-Attaching.scan (sym c.replace.ensures.value ∙ c.in-Attaching.is)
-    (is_quiet s.geometry s.pages) (quiet s chip.without_tables chip.unflipped) _ c.attach_on.ensures.stage
+    (is_quiet s.geometry s.pages) (knows_quiet s chip.phase chip.quiet c.in-Attaching.scan (sym c.replace.ensures.value ∙ c.in-Attaching.is)) _ c.attach_on.ensures.stage
 
 pub returns-in-Attaching-clause-news : goal.returns-in-Attaching-clause-news
 returns-in-Attaching-clause-news g c =
     let chip = c.args.self.now in
     let s = g.F.Flash.state chip.flash in
     read_news g.F.Flash.fault_model s chip.table chip.sizes chip.phase chip.fits c.in-Attaching.scan (sym c.replace.ensures.value ∙ c.in-Attaching.is)
-    (is_quiet s.geometry s.pages) (quiet s chip.without_tables chip.unflipped) _ _ c.attach_on.ensures.news
+    (is_quiet s.geometry s.pages) (knows_quiet s chip.phase chip.quiet c.in-Attaching.scan (sym c.replace.ensures.value ∙ c.in-Attaching.is)) _ _ c.attach_on.ensures.news
 
 pub returns-in-Attaching-clause-told : goal.returns-in-Attaching-clause-told
 returns-in-Attaching-clause-told g c =
@@ -85,3 +81,8 @@ returns-in-Working-clause-plain g c =
     let event = working_has_event chip.table chip.phase task (sym c.replace.ensures.value ∙ c.in-Working.is) c.requires in
     of_event g.F.Flash.fault_model (g.F.Flash.state chip.flash) (g.F.Flash.state c.advance-left.new.flash) task c.advance-left.result.0 told
     (task_event task) event c.advance-left.ensures.advanced (IfSome told (λ fairness. fairness ≡ Plain)) (λ e done. done.plain)
+
+pub attach_on-requires-clause-quiet : goal.attach_on-requires-clause-quiet
+attach_on-requires-clause-quiet g c =
+    let chip = c.args.self.now in
+    sym (knows_quiet (g.F.Flash.state chip.flash) chip.phase chip.quiet c.in-Attaching.scan (sym c.replace.ensures.value ∙ c.in-Attaching.is))

@@ -1,4 +1,5 @@
 use Rattle.std.proofs.Common.{◌≤◌, ◌<◌, ◌+◌, sym}
+use Rattle.std.specs.Prelude.{◌&&◌}
 use Rattle.chip_core.specs.Markers.{marker_page}
 use Rattle.chip_core.proofs.Scanning.{goes_on, no_news, comes_to_rest, news}
 use Rattle.chip_core.proofs.chip.Chip.attach_on.Goals as goal
@@ -7,16 +8,16 @@ pub returns-then-scan-self-clause-stage : goal.returns-then-scan-self-clause-sta
 returns-then-scan-self-clause-stage g c =
     let table = c.args.self.now.table in
     let more : c.args.scan.next + 1 < table.geometry.blocks = rw (← c.set.ensures.geometry, ← c.read_marker-state.ensures.next) c.if-scan-self.true in
-    rw (c.set.ensures.geometry, c.set.ensures.states, c.read_marker-state.ensures.next, c.read_marker-state.ensures.state)
+    rw (c.set.ensures.geometry, c.set.ensures.states, c.read_marker-state.ensures.next, c.read_marker-state.ensures.state, c.read_marker-state.ensures.quiet_so_far)
     (sym (goes_on table.geometry table.states c.args.scan.next (marker_page (g.F.Flash.state c.args.self.now.flash) c.args.scan.next) c.requires.fits.next
-    table.all_there more))
+    table.all_there (c.args.scan.quiet_so_far && c.args.scan.quiet_now) more))
 
 pub returns-then-scan-self-clause-news : goal.returns-then-scan-self-clause-news
 returns-then-scan-self-clause-news g c =
     let table = c.args.self.now.table in
     let more : c.args.scan.next + 1 < table.geometry.blocks = rw (← c.set.ensures.geometry, ← c.read_marker-state.ensures.next) c.if-scan-self.true in
     sym (no_news table.geometry table.states c.args.scan.next (marker_page (g.F.Flash.state c.args.self.now.flash) c.args.scan.next) c.requires.fits.next
-    table.all_there more)
+    table.all_there (c.args.scan.quiet_so_far && c.args.scan.quiet_now) more)
 
 pub returns-else-scan-self-clause-stage : goal.returns-else-scan-self-clause-stage
 returns-else-scan-self-clause-stage g c =
@@ -24,12 +25,19 @@ returns-else-scan-self-clause-stage g c =
     let last : table.geometry.blocks ≤ c.args.scan.next + 1 = rw (← c.set.ensures.geometry, ← c.read_marker-state.ensures.next) c.if-scan-self.false in
     rw (c.requires.rests, c.set.ensures.states, c.read_marker-state.ensures.state)
     (sym (comes_to_rest table.geometry table.states c.args.scan.next (marker_page (g.F.Flash.state c.args.self.now.flash) c.args.scan.next)
-    c.requires.fits.next table.all_there last))
+    c.requires.fits.next table.all_there (c.args.scan.quiet_so_far && c.args.scan.quiet_now) last))
 
 pub returns-else-scan-self-clause-news : goal.returns-else-scan-self-clause-news
 returns-else-scan-self-clause-news g c =
     let table = c.args.self.now.table in
     let last : table.geometry.blocks ≤ c.args.scan.next + 1 = rw (← c.set.ensures.geometry, ← c.read_marker-state.ensures.next) c.if-scan-self.false in
-    rw (c.requires.rests, c.into_note.ensures, c.set.ensures.states, c.read_marker-state.ensures.state)
+    rw (
+      c.requires.rests,
+      c.into_finding.ensures.quiet,
+      c.into_finding.ensures.states,
+      c.set.ensures.states,
+      c.read_marker-state.ensures.state,
+      c.read_marker-state.ensures.quiet_so_far,
+    )
     (sym (news table.geometry table.states c.args.scan.next (marker_page (g.F.Flash.state c.args.self.now.flash) c.args.scan.next) c.requires.fits.next
-    table.all_there last))
+    table.all_there (c.args.scan.quiet_so_far && c.args.scan.quiet_now) last))

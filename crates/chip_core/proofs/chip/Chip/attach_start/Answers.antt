@@ -7,5 +7,5 @@ use Rattle.chip_core.proofs.chip.Chip.attach_start.Goals as goal
 
 pub returns-clause-stage : goal.returns-clause-stage
 returns-clause-stage g c =
-    rw (c.in_ok-new.ensures.geometry, c.in_ok-scan.ensures.next, c.geometry-geometry.ensures.sizes)
-    (ap (λ (left : Path Attaching). Attaches left true) (sym (attach_path-markers (g.F.Flash.state c.args.flash).geometry c.requires.without_tables)))
+    rw (c.in_ok-new.ensures.geometry, c.in_ok-scan.ensures.next, c.in_ok-scan.ensures.quiet_so_far, c.geometry-geometry.ensures.sizes)
+    (ap (λ (left : Path Attaching). Attaches left true) (sym (attach_path-markers (g.F.Flash.state c.args.flash).geometry c.requires)))

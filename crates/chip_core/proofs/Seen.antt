@@ -1,0 +1,26 @@
+-- An attach that sees a marker anew: what else a chip is at stays.
+use Rattle.std.proofs.Common.{◌≡◌, Bool, refl}
+use Rattle.std.specs.Prelude.{◌&&◌}
+use Rattle.nand_model.specs.Chip.{ChipState}
+use Rattle.nand_model.specs.Quiet.{is_quiet}
+use Rattle.nand_model.specs.declared.geometry.Geometry.{Geometry}
+use Rattle.chip_core.specs.Phase.{KnowsQuiet, PhaseFits, programs_left, seen_marker}
+use Rattle.chip_core.specs.declared.phase.Phase.{Phase}
+use Rattle.chip_core.specs.declared.phase.Phase.TheVariants.{Attaching, Resting, Working}
+
+module _ (quiet : Bool) where
+  pub seen_programs : (phase : Phase) → programs_left (seen_marker quiet phase) ≡ programs_left phase
+  seen_programs (Attaching scan) = refl
+  seen_programs Resting = refl
+  seen_programs (Working task) = refl
+
+  pub seen_fits : (g : Geometry) (phase : Phase) → PhaseFits g phase → PhaseFits g (seen_marker quiet phase)
+  seen_fits g (Attaching scan) fits = record { next = fits.next; cells = fits.cells; states = fits.states }
+  seen_fits g Resting fits = fits
+  seen_fits g (Working task) fits = fits
+
+  pub seen_quiet : {W : Type 0} (before after : ChipState W) → is_quiet after.geometry after.pages ≡ (is_quiet before.geometry before.pages && quiet)
+      → (phase : Phase) → KnowsQuiet before phase → KnowsQuiet after (seen_marker quiet phase)
+  seen_quiet before after same (Attaching scan) knows = rw (knows, same) refl
+  seen_quiet before after same Resting knows = knows
+  seen_quiet before after same (Working task) knows = knows
