@@ -42,10 +42,6 @@ pub get_last : {A : Type 0} (xs : List A) (x : A) → slice_get (xs ++ x ∷ [])
 get_last [] x = refl
 get_last (y ∷ ys) x = get_last ys x
 
-pub some_of : {A : Type 0} (o : Option A) → IsSome o → (x : A) × (o ≡ Some x)
-some_of None h = cc
-some_of (Some x) h = (x, refl)
-
 module _ {F C : Type 0} {flash : Ghosts F} (past : Past F) (bench : Bench F C flash) (session place : ℕ) (turn : IsAtTurn past session place bench)
     (s : Session) (at : slice_get bench.sessions.items place ≡ Some s) (number : number_of s ≡ session) (k : ℕ) (slot : Slot F C flash) (slot_at : slice_get bench.slots.items k ≡ Some slot) where
   pub stands_answer : (finished : Finished) (now_slot : Slot F C flash) (now_session : Session) (now_notes : List Note) → first_held_by session (kept_chips bench) ≡ Some k

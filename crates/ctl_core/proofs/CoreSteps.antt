@@ -8,6 +8,7 @@ use Rattle.nand_iface.specs.declared.flash.Flash.{Ghosts}
 use Rattle.nand_iface.specs.NotesAndRoom.{NotesAndRoom}
 use Rattle.nand_model.specs.declared.geometry.Geometry.{Geometry}
 use Rattle.nand_model.specs.declared.words.Command.{Command}
+use Rattle.nand_model.specs.declared.words.Flip.{Flip}
 use Rattle.nand_model.specs.declared.words.Note.{Note}
 use Rattle.nand_model.specs.Chip.{ChipState, FaultModel, PageEvent}
 use Rattle.nand_model.specs.Operation.{Partitions, Known}
@@ -34,6 +35,7 @@ use Rattle.ctl_core.specs.Bench.{kept_slot, kept_chips, event_at, StandsAt, IsOn
 use Rattle.ctl_core.specs.Flips.{kept_flips_before}
 use Rattle.ctl_core.specs.Follows.{Follows}
 use Rattle.ctl_core.proofs.ChipSteps.{next_is}
+use Rattle.ctl_core.proofs.Flipped.{flipped_at}
 use Rattle.ctl_core.proofs.Positions.{mapped_at, mapped_length, position_kept}
 use Rattle.ctl_core.proofs.Known.{stays_attached}
 use Rattle.ctl_core.proofs.CourseSteps.{turn_is_idle}
@@ -117,7 +119,7 @@ module _ {F C : Type 0} {flash : Ghosts F} (past : Past F) (bench : Bench F C fl
       ∙ one_more_attach flash.fault_model past.boot (starts_of flash.state past) past.attaches
       ∙ ap (λ ts. attach_step flash.fault_model past.boot (sizes_in flash.state past) (course_after flash.fault_model past.boot (starts_of flash.state past) past.attaches ts)) (sym (no_turns k h))
 
-  pub attached_on : (k : ℕ) (x y : KeptChip flash.FaultState) (e : PageEvent) (new : Bench F C flash) → first_attaching (kept_chips bench) ≡ Some k → slice_get (kept_chips bench) k ≡ Some x
+  attached_on : (k : ℕ) (x y : KeptChip flash.FaultState) (e : PageEvent) (new : Bench F C flash) → first_attaching (kept_chips bench) ≡ Some k → slice_get (kept_chips bench) k ≡ Some x
       → stage_event x.stage ≡ Some e → slice_get (kept_flips_before flash.fault_model past.boot.flips (bench.events + 1) (kept_chips bench)) k ≡ Some y
       → DidEvent past.boot.flips k y e bench new → IsOnCourse (with_attach past) new
   attached_on k x y e new first at has flipped did = record {
@@ -142,6 +144,18 @@ module _ {F C : Type 0} {flash : Ghosts F} (past : Past F) (bench : Bench F C fl
           ∙ (attach_is_step flash.fault_model past.boot (starts_of flash.state past) (sizes_in flash.state past) past.attaches []).event_else k
           (ap (λ (d : Course flash.FaultState). d.dark) (sym here) ∙ on.stands.keeps.lit) (ap unattached (sym here) ∙ attached_there past bench on ∙ first)
           ∙ ap (λ n. n + 1) on.attach_events
+
+  -- the flips that are due are made, and the first chip that is not attached does its event
+  pub attached_now : (k : ℕ) (new : Bench F C flash) → first_attaching (kept_chips bench) ≡ Some k → (flips : List Flip) → flips ≡ past.boot.flips
+      → ((y : KeptChip flash.FaultState) (e : PageEvent) → slice_get (kept_flips_before flash.fault_model flips (bench.events + 1) (kept_chips bench)) k ≡ Some y → stage_event y.stage ≡ Some e
+      → DidEvent flips k y e bench new)
+      → IsOnCourse (with_attach past) new
+  attached_now k new first flips same did =
+      let there = attach_there k first in
+      let flipped = flipped_at flash.fault_model past.boot.flips (bench.events + 1) (kept_chips bench) k there.0 there.2 in
+      let now = subst (λ fs. (y : KeptChip flash.FaultState) (e : PageEvent) → slice_get (kept_flips_before flash.fault_model fs (bench.events + 1) (kept_chips bench)) k ≡ Some y
+      → stage_event y.stage ≡ Some e → DidEvent fs k y e bench new) same did in
+      attached_on k there.0 flipped.0 there.1 new first there.2 there.3 flipped.1 (now flipped.0 there.1 flipped.1 (ap stage_event flipped.2.stage ∙ there.3))
 
   -- one more turn
   pub next_turn : (session : ℕ) → course_of flash.fault_model flash.state (with_turn past session) ≡ next_course flash.fault_model flash.state past session

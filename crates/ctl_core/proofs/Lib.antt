@@ -6,6 +6,7 @@ pub mod Places
 pub mod Sessions
 pub mod Flipped
 pub mod Turns
+pub mod FlipSteps
 pub mod Slots
 pub mod Devices
 pub mod OnCourse

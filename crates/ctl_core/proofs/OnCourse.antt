@@ -1,6 +1,6 @@
 -- What a bench that stands on its course knows, and what a step makes of it.
 use Rattle.std.proofs.Common.{◌≡◌, ◌<◌, ◌≤◌, ◌+◌, arith, ℕ, zero, suc, Bool, true, false, not, List, [], ◌∷◌, ◌++◌, length, Option, Some, None, Result, Ok, Err, OnErr, Bor, refl, ap, sym, ◌∙◌, subst, get_or}
-use Rattle.std.specs.Prelude.{slice_get, option_copied, All, map, option_map, option_and_then, is_none, is_some, position, ⊤}
+use Rattle.std.specs.Prelude.{slice_get, option_copied, All, map, option_map, option_and_then, IsSome, is_none, is_some, position, ⊤}
 use Rattle.std.proofs.Math.ListN.{set}
 use Rattle.std.proofs.lemmas.Option.{slice_get_within, get_or_from_slice_get, slice_get-map}
 use Rattle.nand_iface.specs.Flash.{FitsBits}
@@ -42,9 +42,11 @@ use Rattle.ctl_core.specs.Answer.{next_chip, held_unless_pending, held_by, held_
 use Rattle.ctl_core.specs.Bench.{kept_slot, kept_chips, StandsAt, StandsAlike, IsOnCourse, IsAtTurn, DidEvent}
 use Rattle.ctl_core.specs.Flips.{CanFlip, kept_flips_before}
 use Rattle.ctl_core.specs.Follows.{Follows}
+use Rattle.ctl_core.proofs.Places.{item_at}
 use Rattle.ctl_core.proofs.Positions.{mapped_length, at_mapped}
 use Rattle.ctl_core.proofs.CourseSteps.{resting, holding, idle_else, turn_is_idle, busy_where_pending, busy_where_begins}
 use Rattle.ctl_core.proofs.Sessions.{Placed, placed, found}
+use Rattle.ctl_core.proofs.Flipped.{flipped_at}
 use Rattle.ctl_core.proofs.Devices.{Ready, ready, chip_stays, first_at, next_of, drop_all}
 use Rattle.ctl_core.proofs.Turns.{chip_there, unattached_there, pending_there, follows_as, follows_turn_event, held_next, found_held}
 
@@ -57,9 +59,17 @@ pub and_then_some : {A B : Type 0} (f : A → Option B) (o : Option A) (y : B) �
 and_then_some f None y h = cc
 and_then_some f (Some x) y h = (x, refl, h)
 
+-- what there is, where there is some
+pub some_of : {A : Type 0} (o : Option A) → IsSome o → (x : A) × (o ≡ Some x)
+some_of None h = cc
+some_of (Some x) h = (x, refl)
+
 -- the item that was lent from a place
 pub lent_at : {A : Type 0} (xs : List A) (k : ℕ) (x lent : A) → slice_get xs k ≡ Some x → lent ≡ get_or xs k lent → slice_get xs k ≡ Some lent
 lent_at xs k x lent h is = h ∙ ap Some (sym (is ∙ get_or_from_slice_get xs k x lent h))
+
+pub lent_within : {A : Type 0} (xs : List A) (k : ℕ) (lent : A) → k < length xs → lent ≡ get_or xs k lent → slice_get xs k ≡ Some lent
+lent_within xs k lent h is = let x = item_at xs k h in lent_at xs k x.0 lent x.1 is
 
 pub first_of_list : {A : Type 0} (xs : List A) (x : A) → slice_get xs 0 ≡ Some x → (rest : List A) × (xs ≡ x ∷ rest)
 first_of_list [] x h = cc
@@ -120,7 +130,7 @@ module _ {F C : Type 0} {flash : Ghosts F} (past : Past F) (bench : Bench F C fl
       (kept_as past.boot.partitions stays.0, there.0, subst (λ g. FitsBits g flip.page flip.bits) (sym stays.2) start.2)
 
   -- a step that does an event
-  pub stands_event : (session k : ℕ) (x y : KeptChip flash.FaultState) (e : PageEvent) (new : Bench F C flash) → first_attaching (kept_chips bench) ≡ None
+  stands_event : (session k : ℕ) (x y : KeptChip flash.FaultState) (e : PageEvent) (new : Bench F C flash) → first_attaching (kept_chips bench) ≡ None
       → first_held_by session (kept_chips bench) ≡ Some k → slice_get (kept_chips bench) k ≡ Some x → stage_event x.stage ≡ Some e
       → slice_get (kept_flips_before flash.fault_model past.boot.flips (bench.events + 1) (kept_chips bench)) k ≡ Some y → DidEvent past.boot.flips k y e bench new
       → StandsAt past (next_course flash.fault_model flash.state past session) new
@@ -131,6 +141,17 @@ module _ {F C : Type 0} {flash : Ghosts F} (past : Past F) (bench : Bench F C fl
       bench.sessions.items new.sessions.items did.chips did.events did.notes did.sessions
       (follows_turn_event flash.fault_model past.boot on.conditions.uncut (starts_of flash.state past) (course_of flash.fault_model flash.state past) (kept_chips bench) bench.events bench.notes.notes bench.sessions.items
       on.stands session k x y e attached held at has flipped)
+
+  pub stands_now : (session k : ℕ) (x : KeptChip flash.FaultState) (e : PageEvent) (new : Bench F C flash) → first_attaching (kept_chips bench) ≡ None
+      → first_held_by session (kept_chips bench) ≡ Some k → slice_get (kept_chips bench) k ≡ Some x → stage_event x.stage ≡ Some e → (flips : List Flip) → flips ≡ past.boot.flips
+      → ((y : KeptChip flash.FaultState) (e : PageEvent) → slice_get (kept_flips_before flash.fault_model flips (bench.events + 1) (kept_chips bench)) k ≡ Some y → stage_event y.stage ≡ Some e
+      → DidEvent flips k y e bench new)
+      → StandsAt past (next_course flash.fault_model flash.state past session) new
+  stands_now session k x e new attached held at has flips same did =
+      let flipped = flipped_at flash.fault_model past.boot.flips (bench.events + 1) (kept_chips bench) k x at in
+      let now = subst (λ fs. (y : KeptChip flash.FaultState) (e : PageEvent) → slice_get (kept_flips_before flash.fault_model fs (bench.events + 1) (kept_chips bench)) k ≡ Some y
+      → stage_event y.stage ≡ Some e → DidEvent fs k y e bench new) same did in
+      stands_event session k x flipped.0 e new attached held at has flipped.1 (now flipped.0 e flipped.1 (ap stage_event flipped.2.stage ∙ has))
 
   -- a bench that differs in its room stands where it stood
   pub stands_alike : (course : Course flash.FaultState) (new : Bench F C flash) → StandsAt past course bench → StandsAlike bench new → StandsAt past course new

@@ -11,4 +11,4 @@ invariant_of-result g c =
     let past : List g.row.F.Denot → List ℕ → Past g.row.F.Denot = λ flashes turns. record { boot = c.args.boot; started = flashes; attaches = 0; turns = turns } in
     subst (λ (fs : List g.row.F.Denot). IsOnCourse (past fs c.new.result.items) bench) (sym c.of-started.ensures)
     (subst (λ (ts : List ℕ). IsOnCourse (past c.args.flashes ts) bench) (sym c.new.ensures.items)
-    (start_on c.args.boot c.args.flashes bench c.requires c.in_ok-sessions.ensures.calm c.in_ok-slots.ensures c.in_ok-sessions.ensures.fresh refl c.new-2.ensures))
+    (start_on c.args.boot c.args.flashes bench c.requires c.in_ok-slots.ensures c.in_ok-sessions.ensures refl c.new-2.ensures))
