@@ -46,10 +46,10 @@ fn due_counts(faults: &Faults, event: u32) -> Option<(u32, u32)>
     let mut pages = 0u32;
     let mut bits = 0u32;
     for n in 0..faults.len() {
-        let flip = faults.flip(n);
-        if flip.before == event {
+        let one = faults.flip(n);
+        if one.before == event {
             pages = pages.checked_add(1)?;
-            bits = bits.checked_add(u32::try_from(flip.bits.len()).ok()?)?;
+            bits = bits.checked_add(u32::try_from(one.bits.len()).ok()?)?;
         }
     }
     Some((pages, bits))
