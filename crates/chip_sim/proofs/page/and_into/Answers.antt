@@ -1,6 +1,6 @@
 use Rattle.std.proofs.Common.{◌≡◌, ℕ, ◌∙◌, sym, slice_index, bit_and, add-one, zero-add}
 use Rattle.chip_sim.proofs.Programming.{map_from_step, map_from_edge, map_from_done}
-use Rattle.chip_sim.proofs.cells.and_into.Goals as goal
+use Rattle.chip_sim.proofs.page.and_into.Goals as goal
 
 pub loop-i-preserved : goal.loop-i-preserved
 loop-i-preserved c =
