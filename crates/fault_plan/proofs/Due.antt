@@ -30,8 +30,11 @@ next_after [] event start n found = absurd cc
 next_after (first ∷ flips) event start n found =
     let Given : Bool → Type 0 = λ b. is_due event first ≡ b → cond b (Some start) (position_from (is_due event) (start + 1) flips) ≡ Some n
     → (k : ℕ) × IsNext (first ∷ flips) event start n k in
+    let here_first : is_due event first ≡ true → (flip : Flip) → Some first ≡ Some flip
+    → filter (is_due event) (first ∷ flips) ≡ flip ∷ filter (is_due event) flips
+    = λ due flip same. rw due (ap (λ (f : Flip). f ∷ filter (is_due event) flips) cc) in
     let by : (b : Bool) → Given b = λ b. elim b as Given [
-      | true ↦ λ due here. (0, record { place = let start_here : n ≡ start = cc in omega arith; inside = omega arith; rest = λ flip same. rw due (ap (λ (f : Flip). f ∷ filter (is_due event) flips) cc) })
+      | true ↦ λ due here. (0, record { place = let start_here : n ≡ start = cc in omega arith; inside = omega arith; rest = here_first due })
       | false ↦ λ other later.
           let next = next_after flips event (start + 1) n later in
           (suc next.0, record { place = omega arith; inside = omega arith; rest = λ flip same. rw other (next.1.rest flip same) })

@@ -2,4 +2,4 @@ pub mod Scripts
 pub mod Steps
 pub mod Sets
 pub mod Mirrors
-pub mod RawOps
+pub mod TakenOps

@@ -7,7 +7,7 @@ ghost use Rattle.nand_model.specs.declared.words.Note.{Note};
 ghost use Rattle.nand_model.specs.declared.words.Op.{Op};
 ghost use Rattle.run_model.specs.Command.{command_device};
 ghost use Rattle.run_model.specs.Course.{SessionRun, next_op_of};
-ghost use Rattle.chip_model.specs.Raw.{IsRaw};
+ghost use Rattle.chip_model.specs.Taken.{IsTaken};
 ghost use Rattle.session_steps.specs.Mirrors.{CanAllRun, Mirrors};
 ghost use Rattle.session_steps.specs.Standing.{First};
 ghost use Rattle.session_steps.specs.declared.session.Session.{Session};
@@ -18,8 +18,8 @@ pub fn notes_leave_sessions()
         Mirrors sizes commands notes session run → Mirrors sizes commands (notes ++ more) session run }
 {}
 
-/// The next operation of commands that can be run is a raw one on the device of the first of them.
-pub fn next_operations_are_raw()
+/// The next operation of commands that can be run is one that a chip without tables takes, on the device of the first of them.
+pub fn next_operations_are_taken()
     ensures { (sizes : Command → Geometry) (run : SessionRun) (op : Op) → CanAllRun sizes run.commands → next_op_of sizes run.commands run.replies ≡ Some op →
-        First (λ c. (device_of op ≡ command_device c) × IsRaw (sizes c) op) run.commands }
+        First (λ c. (device_of op ≡ command_device c) × IsTaken (sizes c) op) run.commands }
 {}

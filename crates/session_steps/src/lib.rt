@@ -8,5 +8,5 @@ mod session;
 mod tests;
 
 pub use ended::{OutcomeList, SessionEnd, StatsList};
-pub use laws::{next_operations_are_raw, notes_leave_sessions};
+pub use laws::{next_operations_are_taken, notes_leave_sessions};
 pub use session::Session;

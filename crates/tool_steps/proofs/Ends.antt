@@ -10,12 +10,13 @@ use Rattle.nand_model.specs.declared.words.Command.{Command}
 use Rattle.nand_model.specs.declared.words.Command.TheVariants.{FlashErase, NandWrite, NandDump, NandTest, MarkBad, IsBad as AskBad, Stats as AskStats}
 use Rattle.nand_model.specs.declared.words.Reply.{Reply}
 use Rattle.nand_model.specs.declared.words.Reply.TheVariants.{BadBlock, MarkerByte, ProgramFailed}
-use Rattle.run_model.specs.Command.{Script, End, Ask, next_in, after_replies, cost_of, erase_blocks, write_blocks, says_bad}
-use Rattle.run_model.specs.Laws.{IsOver, troubles, CommandsEnd}
-use Rattle.tool_steps.specs.Work.{raw_write, unwritten, later_blocks, program_unit, page_dumped}
+use Rattle.run_model.specs.Command.{Script, End, Ask, next_in, after_replies, cost_of, erase_blocks, write_unit, write_blocks, says_bad, is_dump_bad, stats_outcome}
+use Rattle.run_model.specs.Laws.{IsOver, trouble_of, is_trouble, troubles, CommandsEnd}
+use Rattle.tool_steps.specs.declared.dumping.Dumping.{Dumping}
+use Rattle.tool_steps.specs.Work.{write_mode, unwritten, later_blocks, program_unit, page_dumped, page_passed, page_read, read_left, look_left}
 use Rattle.tool_steps.specs.Stage.{CanRun, device_size}
 use Rattle.tool_steps.specs.Steps.{EndsAtLast}
-use Rattle.tool_steps.proofs.Scripts.{write_pages-one, first_script, short_cost, script_of-first, cost_of-short}
+use Rattle.tool_steps.proofs.Scripts.{write_pages-one, dump_at, first_script, short_cost, script_of-first, cost_of-short}
 
 -- a command that is over stays over
 pub over_stays : (replies : List Reply) (outcome : Outcome) → IsOver (next_in (after_replies replies (End outcome)))
@@ -32,53 +33,81 @@ erase_ends dev (suc left) block erased bad failed (r ∷ replies) h = erase_ends
 abbrev EndsIn : Script → ℕ → ℕ → Type 0
 EndsIn script weak count = (replies : List Reply) → troubles replies script ≤ weak → count ≤ length replies → IsOver (next_in (after_replies replies script))
 
--- the pages of a block, where the later blocks end in time
-program_ends : (g : Geometry) (unit : List ℕ) (dev block rest skipped failed : ℕ)
-    → ((skipped failed weak : ℕ) → EndsIn (later_blocks g unit dev block rest skipped failed) weak (rest + 1 + 2 * weak))
-    → (weak : ℕ) → EndsIn (program_unit g unit dev block rest skipped failed) weak (rest + 1 + 2 * weak)
-program_ends g unit dev block rest skipped failed later weak [] trouble h = absurd (omega arith)
-program_ends g unit dev block rest skipped failed later weak (ProgramFailed ∷ []) trouble h = absurd (omega arith)
-program_ends g unit dev block rest skipped failed later weak (ProgramFailed ∷ (s ∷ replies)) trouble h =
-    later skipped (failed + 1) (weak - 1) replies (omega arith) (omega arith)
-program_ends g unit dev block rest skipped failed later weak (BadBlock ∷ replies) trouble h =
-    later (skipped + 1) failed (weak - 1) replies (omega arith) (omega arith)
-program_ends g unit dev block rest skipped failed later weak (MarkerByte ∷ replies) trouble h = over_stays replies _
-program_ends g unit dev block rest skipped failed later weak (_ ∷ replies) trouble h = over_stays replies _
+-- a written page that failed or was refused, with its code or without
+trouble_of-unit : (g : Geometry) (dev page : ℕ) (raw : Bool) (unit : List ℕ) (r : Reply)
+    → trouble_of (write_unit g (write_mode dev raw) page unit) r ≡ is_trouble r
+trouble_of-unit g dev page true unit r = refl
+trouble_of-unit g dev page false unit r = refl
 
-scanned_ends : (g : Geometry) (unit : List ℕ) (dev block rest skipped failed : ℕ)
-    → ((skipped failed weak : ℕ) → EndsIn (later_blocks g unit dev block rest skipped failed) weak (rest + 1 + 2 * weak))
-    → (bad : Bool) (weak : ℕ)
-    → EndsIn (if bad then later_blocks g unit dev block rest (skipped + 1) failed else program_unit g unit dev block rest skipped failed) weak (rest + 1 + 2 * weak)
-scanned_ends g unit dev block rest skipped failed later true weak = later (skipped + 1) failed weak
-scanned_ends g unit dev block rest skipped failed later false weak = program_ends g unit dev block rest skipped failed later weak
+module _ (g : Geometry) (unit : List ℕ) (dev : ℕ) (raw : Bool) where
+  abbrev later : (block rest skipped failed : ℕ) → Script
+  later = later_blocks g (write_mode dev raw) unit
 
--- nandwrite of one unit: a question for each block, and a program and an erase for each trouble
-pub write_ends : (g : Geometry) (unit : List ℕ) (dev left block skipped failed weak : ℕ)
-    → EndsIn (write_blocks g (raw_write dev) left block 0 (unit ∷ []) (unwritten skipped failed)) weak (left + 1 + 2 * weak)
-write_ends g unit dev zero block skipped failed weak replies trouble h = over_stays replies _
-write_ends g unit dev (suc left) block skipped failed weak [] trouble h = absurd (omega arith)
-write_ends g unit dev (suc left) block skipped failed weak (r ∷ replies) trouble h =
-    let Ends : Script → Type 0 = λ s. troubles replies (if says_bad r then later_blocks g unit dev block left (skipped + 1) failed else s) ≤ weak
-    → IsOver (next_in (after_replies replies (if says_bad r then later_blocks g unit dev block left (skipped + 1) failed else s))) in
-    subst Ends (sym (write_pages-one g unit dev block left skipped failed))
-    (λ t. scanned_ends g unit dev block left skipped failed (λ s f w. write_ends g unit dev left (block + 1) s f w) (says_bad r) weak replies t (omega arith))
-    (omega arith)
+  abbrev program : (block rest skipped failed : ℕ) → Script
+  program = program_unit g (write_mode dev raw) unit
+
+  abbrev from_block : (left block skipped failed : ℕ) → Script
+  from_block left block skipped failed = write_blocks g (write_mode dev raw) left block 0 (unit ∷ []) (unwritten skipped failed)
+
+  trouble_in : (block : ℕ) (r : Reply) → trouble_of (write_unit g (write_mode dev raw) (block * g.pages_per_block) unit) r ≡ is_trouble r
+  trouble_in block r = trouble_of-unit g dev (block * g.pages_per_block) raw unit r
+
+  -- the pages of a block, where the later blocks end in time
+  program_ends : (block rest skipped failed : ℕ) → ((skipped failed weak : ℕ) → EndsIn (later block rest skipped failed) weak (rest + 1 + 2 * weak))
+      → (weak : ℕ) → EndsIn (program block rest skipped failed) weak (rest + 1 + 2 * weak)
+  program_ends block rest skipped failed ends weak [] trouble h = absurd (omega arith)
+  program_ends block rest skipped failed ends weak (ProgramFailed ∷ []) trouble h = absurd (omega (arith, trouble_in block ProgramFailed))
+  program_ends block rest skipped failed ends weak (ProgramFailed ∷ (s ∷ replies)) trouble h =
+      ends skipped (failed + 1) (weak - 1) replies (omega (arith, trouble_in block ProgramFailed)) (omega (arith, trouble_in block ProgramFailed))
+  program_ends block rest skipped failed ends weak (BadBlock ∷ replies) trouble h =
+      ends (skipped + 1) failed (weak - 1) replies (omega (arith, trouble_in block BadBlock)) (omega (arith, trouble_in block BadBlock))
+  program_ends block rest skipped failed ends weak (MarkerByte ∷ replies) trouble h = over_stays replies _
+  program_ends block rest skipped failed ends weak (_ ∷ replies) trouble h = over_stays replies _
+
+  scanned_ends : (block rest skipped failed : ℕ) → ((skipped failed weak : ℕ) → EndsIn (later block rest skipped failed) weak (rest + 1 + 2 * weak))
+      → (bad : Bool) (weak : ℕ)
+      → EndsIn (if bad then later block rest (skipped + 1) failed else program block rest skipped failed) weak (rest + 1 + 2 * weak)
+  scanned_ends block rest skipped failed ends true weak = ends (skipped + 1) failed weak
+  scanned_ends block rest skipped failed ends false weak = program_ends block rest skipped failed ends weak
+
+  -- nandwrite of one unit: a question for each block, and a program and an erase for each trouble
+  write_ends : (left block skipped failed weak : ℕ) → EndsIn (from_block left block skipped failed) weak (left + 1 + 2 * weak)
+  write_ends zero block skipped failed weak replies trouble h = over_stays replies _
+  write_ends (suc left) block skipped failed weak [] trouble h = absurd (omega arith)
+  write_ends (suc left) block skipped failed weak (r ∷ replies) trouble h =
+      let Ends : Script → Type 0 = λ s. troubles replies (if says_bad r then later block left (skipped + 1) failed else s) ≤ weak
+      → IsOver (next_in (after_replies replies (if says_bad r then later block left (skipped + 1) failed else s))) in
+      subst Ends (sym (write_pages-one g (write_mode dev raw) unit block left skipped failed))
+      (λ t. scanned_ends block left skipped failed (λ s f w. write_ends left (block + 1) s f w) (says_bad r) weak replies t (omega arith))
+      (omega arith)
 
 -- a command of one operation
-ask_ends : (op : Op) (outcome : Reply → Outcome) (replies : List Reply) → 1 ≤ length replies → IsOver (next_in (after_replies replies (Ask op (λ r. End (outcome r)))))
+ask_ends : (op : Op) (outcome : Reply → Outcome) (replies : List Reply) → 1 ≤ length replies
+    → IsOver (next_in (after_replies replies (Ask op (λ r. End (outcome r)))))
 ask_ends op outcome [] h = absurd (omega arith)
 ask_ends op outcome (r ∷ replies) h = over_stays replies (outcome r)
+
+-- a dump of one page: a question for its block, and its read
+dump_ends : (g : Geometry) (d : Dumping) (all_blocks : Bool) (replies : List Reply) → 2 ≤ length replies
+    → IsOver (next_in (after_replies replies (if all_blocks then read_left g d else look_left g d)))
+dump_ends g d true replies h = ask_ends (page_read d) (page_dumped g d) replies (omega arith)
+dump_ends g d false [] h = absurd (omega arith)
+dump_ends g d false (r ∷ replies) h = looked (says_bad r)
+  where
+    looked : (bad : Bool) → IsOver (next_in (after_replies replies (if bad then End (page_passed g d) else read_left g d)))
+    looked true = over_stays replies (page_passed g d)
+    looked false = ask_ends (page_read d) (page_dumped g d) replies (omega arith)
 
 -- a first script ends in time
 first_ends : (g : Geometry) (command : Command) (weak : ℕ) → CanRun g command → EndsIn (first_script g command) weak (short_cost g command weak)
 first_ends g (FlashErase dev blocks no_scan start count) weak h replies trouble few = erase_ends dev (suc (blocks - 1)) 0 0 0 0 replies (omega (arith, h.size.0))
 first_ends g (NandWrite dev blocks mark raw oob pad off bytes) weak h replies trouble few =
-    write_ends g (bytes ++ replicate (g.page - length bytes) 0xff) dev (suc (blocks - 1)) 0 0 0 weak replies trouble (omega (arith, h.size.0))
-first_ends g (NandDump dev blocks off len raw oob bad) weak h replies trouble few = ask_ends _ (page_dumped g dev) replies (omega arith)
+    write_ends g (bytes ++ replicate (g.page - length bytes) 0xff) dev raw (suc (blocks - 1)) 0 0 0 weak replies trouble (omega (arith, h.size.0))
+first_ends g (NandDump dev blocks off len raw oob bad) weak h replies trouble few = dump_ends g (dump_at g dev off raw bad) (is_dump_bad bad) replies few
 first_ends g (NandTest dev blocks keep mark seed passes off len) weak h replies trouble few = absurd h
 first_ends g (MarkBad dev blocks block) weak h replies trouble few = absurd h
 first_ends g (AskBad dev blocks block) weak h replies trouble few = ask_ends _ AskedBad replies few
-first_ends g (AskStats dev blocks) weak h replies trouble few = absurd h
+first_ends g (AskStats dev blocks) weak h replies trouble few = ask_ends _ stats_outcome replies few
 
 -- a command that can be run ends after at most its cost
 pub command_ends : (g : Geometry) (command : Command) → CanRun g command → CommandsEnd g command
@@ -92,46 +121,50 @@ over_troubles : (replies : List Reply) (outcome : Outcome) → troubles replies 
 over_troubles [] outcome = refl
 over_troubles (r ∷ replies) outcome = refl
 
--- at most one page of a block is in trouble
-program_troubles : (g : Geometry) (unit : List ℕ) (dev block rest skipped failed : ℕ)
-    → ((skipped failed : ℕ) (replies : List Reply) → troubles replies (later_blocks g unit dev block rest skipped failed) ≤ rest)
-    → (replies : List Reply) → troubles replies (program_unit g unit dev block rest skipped failed) ≤ rest + 1
-program_troubles g unit dev block rest skipped failed later [] = omega arith
-program_troubles g unit dev block rest skipped failed later (ProgramFailed ∷ []) = omega arith
-program_troubles g unit dev block rest skipped failed later (ProgramFailed ∷ (s ∷ replies)) = omega (arith, later skipped (failed + 1) replies)
-program_troubles g unit dev block rest skipped failed later (BadBlock ∷ replies) = omega (arith, later (skipped + 1) failed replies)
-program_troubles g unit dev block rest skipped failed later (MarkerByte ∷ replies) = rw (over_troubles replies (Written 0 skipped failed AtMarkerByte)) (omega arith)
-program_troubles g unit dev block rest skipped failed later (_ ∷ replies) = rw (over_troubles replies (Written 1 skipped failed Whole)) (omega arith)
+module _ (g : Geometry) (unit : List ℕ) (dev : ℕ) (raw : Bool) where
+  -- at most one page of a block is in trouble
+  program_troubles : (block rest skipped failed : ℕ)
+      → ((skipped failed : ℕ) (replies : List Reply) → troubles replies (later g unit dev raw block rest skipped failed) ≤ rest)
+      → (replies : List Reply) → troubles replies (program g unit dev raw block rest skipped failed) ≤ rest + 1
+  program_troubles block rest skipped failed few [] = omega arith
+  program_troubles block rest skipped failed few (ProgramFailed ∷ []) = omega (arith, trouble_in g unit dev raw block ProgramFailed)
+  program_troubles block rest skipped failed few (ProgramFailed ∷ (s ∷ replies)) =
+      omega (arith, trouble_in g unit dev raw block ProgramFailed, few skipped (failed + 1) replies)
+  program_troubles block rest skipped failed few (BadBlock ∷ replies) =
+      omega (arith, trouble_in g unit dev raw block BadBlock, few (skipped + 1) failed replies)
+  program_troubles block rest skipped failed few (MarkerByte ∷ replies) =
+      rw (over_troubles replies (Written 0 skipped failed AtMarkerByte)) (omega (arith, trouble_in g unit dev raw block MarkerByte))
+  program_troubles block rest skipped failed few (r ∷ replies) =
+      rw (over_troubles replies (Written 1 skipped failed Whole)) (omega (arith, trouble_in g unit dev raw block r))
 
-scanned_troubles : (g : Geometry) (unit : List ℕ) (dev block rest skipped failed : ℕ)
-    → ((skipped failed : ℕ) (replies : List Reply) → troubles replies (later_blocks g unit dev block rest skipped failed) ≤ rest)
-    → (bad : Bool) (replies : List Reply)
-    → troubles replies (if bad then later_blocks g unit dev block rest (skipped + 1) failed else program_unit g unit dev block rest skipped failed) ≤ rest + 1
-scanned_troubles g unit dev block rest skipped failed later true replies = omega (arith, later (skipped + 1) failed replies)
-scanned_troubles g unit dev block rest skipped failed later false replies = program_troubles g unit dev block rest skipped failed later replies
+  scanned_troubles : (block rest skipped failed : ℕ)
+      → ((skipped failed : ℕ) (replies : List Reply) → troubles replies (later g unit dev raw block rest skipped failed) ≤ rest)
+      → (bad : Bool) (replies : List Reply)
+      → troubles replies (if bad then later g unit dev raw block rest (skipped + 1) failed else program g unit dev raw block rest skipped failed) ≤ rest + 1
+  scanned_troubles block rest skipped failed few true replies = omega (arith, few (skipped + 1) failed replies)
+  scanned_troubles block rest skipped failed few false replies = program_troubles block rest skipped failed few replies
 
-write_troubles : (g : Geometry) (unit : List ℕ) (dev left block skipped failed : ℕ) (replies : List Reply)
-    → troubles replies (write_blocks g (raw_write dev) left block 0 (unit ∷ []) (unwritten skipped failed)) ≤ left
-write_troubles g unit dev zero block skipped failed replies = rw (over_troubles replies (Written 0 skipped failed NoSpace)) (omega arith)
-write_troubles g unit dev (suc left) block skipped failed [] = omega arith
-write_troubles g unit dev (suc left) block skipped failed (r ∷ replies) =
-    let Few : Script → Type 0 = λ s. 0 + troubles replies (if says_bad r then later_blocks g unit dev block left (skipped + 1) failed else s) ≤ suc left in
-    let few : troubles replies (if says_bad r then later_blocks g unit dev block left (skipped + 1) failed else program_unit g unit dev block left skipped failed) ≤ left + 1
-    = scanned_troubles g unit dev block left skipped failed (λ s f. write_troubles g unit dev left (block + 1) s f) (says_bad r) replies in
-    subst Few (sym (write_pages-one g unit dev block left skipped failed)) (omega (arith, few))
+  write_troubles : (left block skipped failed : ℕ) (replies : List Reply) → troubles replies (from_block g unit dev raw left block skipped failed) ≤ left
+  write_troubles zero block skipped failed replies = rw (over_troubles replies (Written 0 skipped failed NoSpace)) (omega arith)
+  write_troubles (suc left) block skipped failed [] = omega arith
+  write_troubles (suc left) block skipped failed (r ∷ replies) =
+      let Few : Script → Type 0 = λ s. 0 + troubles replies (if says_bad r then later g unit dev raw block left (skipped + 1) failed else s) ≤ suc left in
+      let few : troubles replies (if says_bad r then later g unit dev raw block left (skipped + 1) failed else program g unit dev raw block left skipped failed)
+      ≤ left + 1 = scanned_troubles block left skipped failed (λ s f. write_troubles left (block + 1) s f) (says_bad r) replies in
+      subst Few (sym (write_pages-one g (write_mode dev raw) unit block left skipped failed)) (omega (arith, few))
 
 first_ends_at_last : (g : Geometry) (command : Command) → CanRun g command → (replies : List Reply)
     → short_cost g command (device_size command) ≤ length replies → IsOver (next_in (after_replies replies (first_script g command)))
 first_ends_at_last g (NandWrite dev blocks mark raw oob pad off bytes) h replies few =
     let unit : List ℕ = bytes ++ replicate (g.page - length bytes) 0xff in
-    let trouble = write_troubles g unit dev (suc (blocks - 1)) 0 0 0 replies in
-    write_ends g unit dev (suc (blocks - 1)) 0 0 0 (suc (blocks - 1)) replies trouble (omega (arith, h.size.0))
+    let trouble = write_troubles g unit dev raw (suc (blocks - 1)) 0 0 0 replies in
+    write_ends g unit dev raw (suc (blocks - 1)) 0 0 0 (suc (blocks - 1)) replies trouble (omega (arith, h.size.0))
 first_ends_at_last g (FlashErase dev blocks no_scan start count) h replies few = erase_ends dev (suc (blocks - 1)) 0 0 0 0 replies (omega (arith, h.size.0))
-first_ends_at_last g (NandDump dev blocks off len raw oob bad) h replies few = ask_ends _ (page_dumped g dev) replies (omega arith)
+first_ends_at_last g (NandDump dev blocks off len raw oob bad) h replies few = dump_ends g (dump_at g dev off raw bad) (is_dump_bad bad) replies few
 first_ends_at_last g (NandTest dev blocks keep mark seed passes off len) h replies few = absurd h
 first_ends_at_last g (MarkBad dev blocks block) h replies few = absurd h
 first_ends_at_last g (AskBad dev blocks block) h replies few = ask_ends _ AskedBad replies few
-first_ends_at_last g (AskStats dev blocks) h replies few = absurd h
+first_ends_at_last g (AskStats dev blocks) h replies few = ask_ends _ stats_outcome replies few
 
 -- a command that can be run ends whatever the replies are
 pub command_ends_at_last : (g : Geometry) (command : Command) → CanRun g command → EndsAtLast g command (device_size command)

@@ -20,10 +20,11 @@ one_changed : (xs : List Session) (n : ℕ) (s : Session) (after : List Command)
     → map seen (set xs n (record { number = s.number; commands = after })) ≡ change_at (map seen xs) n (with_one_more command)
 one_changed [] n s after command h same pushed = absurd (omega arith)
 one_changed (x ∷ xs) zero s after command h same pushed = rw pushed (ap (λ (y : Session). (y.number, y.commands ++ command ∷ []) ∷ map seen xs) same)
-one_changed (x ∷ xs) (suc n) s after command h same pushed = ap (λ (ys : List (ℕ × List Command)). seen x ∷ ys) (one_changed xs n s after command (omega arith) same pushed)
+one_changed (x ∷ xs) (suc n) s after command h same pushed =
+    ap (λ (ys : List (ℕ × List Command)). seen x ∷ ys) (one_changed xs n s after command (omega arith) same pushed)
 
-pub last_changed : (partitions : Partitions) (flips : List Flip) (xs : List Session) (n : ℕ) (s : Session) (after : List Command) (command : Command) → n ≡ length xs
-    → 0 < length (map seen xs) → s ≡ get_or xs (n - 1) s → after ≡ s.commands ++ command ∷ []
+pub last_changed : (partitions : Partitions) (flips : List Flip) (xs : List Session) (n : ℕ) (s : Session) (after : List Command) (command : Command)
+    → n ≡ length xs → 0 < length (map seen xs) → s ≡ get_or xs (n - 1) s → after ≡ s.commands ++ command ∷ []
     → boot_with partitions flips (map seen (set xs (n - 1) (record { number = s.number; commands = after })))
     ≡ with_command (boot_with partitions flips (map seen xs)) command
 last_changed partitions flips xs n s after command count some same pushed =

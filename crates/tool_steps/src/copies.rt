@@ -1,8 +1,7 @@
-// Bytes that a command copies: units, images, dumps and replies.
-ghost use Rattle.std.specs.Prelude.{◌≡◌, ◌≤◌, ◌-◌, ◌++◌, length, take, replicate, ℕ, IfOk};
-ghost use Rattle.tool_steps.specs.Work.{page_dumped};
+// Bytes that a command copies: units, images, bodies and replies.
+ghost use Rattle.std.specs.Prelude.{◌≡◌, ◌≤◌, ◌-◌, ◌++◌, length, take, replicate, IfOk};
 
-use nand_model::{Bytes, Geometry, Outcome, Reply};
+use nand_model::{Bytes, Reply};
 use std::alloc::{AllocError, Global};
 
 // These bytes, and then 0xFF up to so many.
@@ -24,36 +23,11 @@ pub fn with_erased(alloc: Global, bytes: &[u8], more: usize) -> Result<Bytes, Al
 }
 
 // The body of a page image, or all of a shorter one.
-fn body_of(image: &[u8], page: u32) -> &[u8]
-    ensures { result.now ≡ take page image.now }
+pub fn body_of(alloc: Global, image: &[u8], page: u32) -> Result<Bytes, AllocError>
+    ensures { IfOk result (λ b. b ≡ take page image.now) }
 {
     let len = image.len().min(page as usize);
-    &image[..len]
-}
-
-// The outcome of a dump of one page, from the reply to its read.
-pub fn dump_of(alloc: Global, g: &Geometry, reply: &Reply) -> Result<Outcome, AllocError>
-    ensures { IfOk result (λ outcome. (dev : ℕ) → outcome ≡ page_dumped g.now dev reply.now) }
-{
-    match reply {
-        Reply::Page { read, image, .. } => {
-            let dump = Bytes::from_slice(alloc, body_of(image.as_slice(), g.page))?;
-            Ok(Outcome::NandDump {
-                pages: 1,
-                bad: 0,
-                corrected: u64::from(read.corrected),
-                failed: u64::from(read.failed),
-                dump,
-            })
-        }
-        _ => Ok(Outcome::NandDump {
-            pages: 0,
-            bad: 0,
-            corrected: 0,
-            failed: 0,
-            dump: Bytes::filled(alloc, 0xff, 0)?,
-        }),
-    }
+    Bytes::from_slice(alloc, &image[..len])
 }
 
 // A copy of a reply.

@@ -4,9 +4,12 @@
 mod boot;
 mod bound;
 mod copies;
+mod dumping;
 mod erasing;
 mod replies;
 mod step;
+#[cfg(test)]
+mod tests;
 mod tool;
 mod work;
 mod writing;

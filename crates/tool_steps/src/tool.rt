@@ -10,6 +10,7 @@ ghost use Rattle.tool_steps.specs.Work.{script_left, unit_bytes};
 
 use crate::Step;
 use crate::copies::padded;
+use crate::dumping::Dumping;
 use crate::erasing::Erasing;
 use crate::work::{State, Work};
 use crate::writing::Writing;
@@ -135,24 +136,42 @@ fn first_state(command: &Command, g: &Geometry) -> State
             erased: 0,
             failed: 0,
         })),
-        Command::NandWrite { dev, blocks, .. } => State::At(Work::Scanning(Writing {
+        Command::NandWrite {
+            dev,
+            blocks,
+            raw,
+            ..
+        } => State::At(Work::Scanning(Writing {
             dev: *dev,
+            raw: *raw,
             block: 0,
             rest: *blocks - 1,
             skipped: 0,
             failed: 0,
         })),
-        Command::NandDump { dev, off, .. } => {
+        Command::NandDump {
+            dev,
+            off,
+            raw,
+            bad,
+            ..
+        } => {
             let page = (*off / u64::from(g.page)) as u32;
-            State::At(Work::Dumping { dev: *dev, page })
+            let dumping = Dumping {
+                dev: *dev,
+                page,
+                raw: *raw,
+                bad: *bad,
+            };
+            State::At(dumping.first())
         }
         Command::IsBad { dev, block, .. } => State::At(Work::Asking {
             dev: *dev,
             block: *block,
         }),
+        Command::Stats { dev, .. } => State::At(Work::Counting { dev: *dev }),
         Command::NandTest { .. } => unreachable!(),
         Command::MarkBad { .. } => unreachable!(),
-        Command::Stats { .. } => unreachable!(),
     }
 }
 
@@ -164,99 +183,5 @@ fn unit_of(alloc: Global, command: &Command, g: &Geometry) -> Result<Bytes, Allo
     match command {
         Command::NandWrite { bytes, .. } => padded(alloc, bytes.as_slice(), g.page),
         _ => Bytes::filled(alloc, 0xff, 0),
-    }
-}
-
-#[cfg(test)]
-mod tests {
-    use super::*;
-    use nand_model::{Ending, Op, PageKind, PageRead};
-    use std::test::Fail;
-
-    #[test]
-    fn writes_a_unit_to_the_second_block(rt: HostRuntime) -> Result<(), Fail> {
-        let alloc = rt.alloc();
-        let g = Geometry::new(2048, 64, 64, 8, 4, 0, 0).ok().ok_or("sizes")?;
-        let command = Command::NandWrite {
-            dev: 2,
-            blocks: 2,
-            mark: false,
-            raw: true,
-            oob: false,
-            pad: true,
-            off: 0,
-            bytes: Bytes::filled(alloc, 0x66, 1)?,
-        };
-        let mut tool = Tool::start(alloc, &command, &g)?;
-        assert!(rt; matches!(tool.next(None)?, Step::Do(Op::IsBad { dev: 2, block: 0 })));
-        assert!(rt;
-            matches!(
-                tool.next(Some(&Reply::State(1)))?,
-                Step::Do(Op::IsBad { dev: 2, block: 1 })
-            )
-        );
-        let step = tool.next(Some(&Reply::State(0)))?;
-        assert!(rt;
-            matches!(
-                &step,
-                Step::Do(Op::RawWrite {
-                    dev: 2,
-                    page: 64,
-                    ..
-                })
-            )
-        );
-        if let Step::Do(Op::RawWrite { image, .. }) = &step {
-            assert_eq!(rt; image.as_slice().len(), 2112);
-        }
-        assert!(rt; tool.ends(Some(&Reply::Done)));
-        assert!(rt; matches!(tool.next(Some(&Reply::Done))?, Step::Done));
-        assert!(rt; tool.ends(None));
-        let outcome = tool.finish();
-        assert!(rt;
-            matches!(
-                outcome,
-                Outcome::NandWrite {
-                    pages: 1,
-                    skipped: 1,
-                    failed: 0,
-                    ending: Ending::Whole
-                }
-            )
-        );
-        Ok(())
-    }
-
-    #[test]
-    fn dumps_a_page(rt: HostRuntime) -> Result<(), Fail> {
-        let alloc = rt.alloc();
-        let g = Geometry::new(2048, 64, 64, 8, 4, 0, 0).ok().ok_or("sizes")?;
-        let command = Command::NandDump {
-            dev: 0,
-            blocks: 1,
-            off: 0,
-            len: 2048,
-            raw: true,
-            oob: false,
-            bad: nand_model::BadMode::DumpBad,
-        };
-        let mut tool = Tool::start(alloc, &command, &g)?;
-        assert!(rt; matches!(tool.next(None)?, Step::Do(Op::RawRead { dev: 0, page: 0 })));
-        let reply = Reply::Page {
-            kind: PageKind::Raw,
-            read: PageRead {
-                corrected: 0,
-                greatest: 0,
-                failed: 0,
-            },
-            image: Bytes::filled(alloc, 0xff, 2112)?,
-        };
-        assert!(rt; matches!(tool.next(Some(&reply))?, Step::Done));
-        assert!(rt; tool.ends(None));
-        if let Outcome::NandDump { pages, dump, .. } = tool.outcome() {
-            assert_eq!(rt; *pages, 1);
-            assert_eq!(rt; dump.as_slice().len(), 2048);
-        }
-        Ok(())
     }
 }

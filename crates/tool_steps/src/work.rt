@@ -1,8 +1,10 @@
 // Where a command stands between two replies.
 ghost use Rattle.std.specs.Prelude.{◌≡◌, ◌<◌, ℕ, List, [], ◌∷◌, IfOk};
 
-use crate::copies::{copy_of, dump_of, with_erased};
+use crate::copies::copy_of;
+use crate::dumping::Dumping;
 use crate::erasing::Erasing;
+use crate::replies::{counted, tells_bad};
 use crate::writing::Writing;
 use nand_model::{Geometry, Op, Outcome, Reply};
 use std::alloc::{AllocError, Global};
@@ -18,10 +20,14 @@ pub enum Work {
     Programming(Writing),
     /// nandwrite: the erase of a block whose program failed.
     Clearing(Writing),
-    /// nanddump: the read of a page.
-    Dumping { dev: u32, page: u32 },
+    /// nanddump: whether the page's block is bad.
+    Looking(Dumping),
+    /// nanddump: the read of the page.
+    Reading(Dumping),
     /// isbad: the state of a block.
     Asking { dev: u32, block: u32 },
+    /// stats: the statistics of a device.
+    Counting { dev: u32 },
 }
 
 /// Where a command stands.
@@ -35,7 +41,7 @@ impl Work {
     ghost use Rattle.run_model.specs.Command.{Do, after_replies, next_in};
     ghost use Rattle.nand_model.specs.declared.geometry.Geometry.{Geometry as Sizes};
     ghost use Rattle.tool_steps.specs.Steps.{is_over};
-    ghost use Rattle.tool_steps.specs.Work.{work_left, script_left, program_unit};
+    ghost use Rattle.tool_steps.specs.Work.{work_left, script_left};
 
     /// The operation whose reply is waited for.
     pub fn op(&self, alloc: Global, g: &Geometry, unit: &[u8]) -> Result<Op, AllocError>
@@ -50,38 +56,19 @@ impl Work {
                 dev: writing.dev,
                 block: writing.block,
             }),
-            Work::Programming(writing) => Work::program(alloc, g, unit, writing),
+            Work::Programming(writing) => writing.program(alloc, g, unit),
             Work::Clearing(writing) => Ok(Op::Erase {
                 dev: writing.dev,
                 block: writing.block,
             }),
-            Work::Dumping { dev, page } => Ok(Op::RawRead {
-                dev: *dev,
-                page: *page,
-            }),
+            Work::Looking(dumping) => Ok(dumping.question(g)),
+            Work::Reading(dumping) => Ok(dumping.read()),
             Work::Asking { dev, block } => Ok(Op::IsBad {
                 dev: *dev,
                 block: *block,
             }),
+            Work::Counting { dev } => Ok(Op::Stats { dev: *dev }),
         }
-    }
-
-    // The program of the unit into the first page of a block, its spare being 0xFF.
-    fn program(
-        alloc: Global,
-        g: &Geometry,
-        unit: &[u8],
-        writing: &Writing,
-    ) -> Result<Op, AllocError>
-        ensures { IfOk result (λ op. next_in (program_unit g.now unit.now writing.now.dev writing.now.block writing.now.rest writing.now.skipped writing.now.failed) ≡ Do op) }
-    {
-        let page = writing.block * g.pages_per_block;
-        let image = with_erased(alloc, unit, g.spare as usize)?;
-        Ok(Op::RawWrite {
-            dev: writing.dev,
-            page,
-            image,
-        })
     }
 
     /// Where the command stands after the reply.
@@ -93,10 +80,12 @@ impl Work {
             Work::Scanning(writing) => Ok(writing.scanned(reply)),
             Work::Programming(writing) => Ok(writing.programmed(reply)),
             Work::Clearing(writing) => Ok(writing.cleared(reply)),
-            Work::Dumping { .. } => Ok(State::Over(dump_of(alloc, g, reply)?)),
+            Work::Looking(dumping) => dumping.looked(alloc, g, reply),
+            Work::Reading(dumping) => Ok(State::Over(dumping.outcome(alloc, g, reply)?)),
             Work::Asking { .. } => Ok(State::Over(Outcome::IsBad {
                 reply: copy_of(alloc, reply)?,
             })),
+            Work::Counting { .. } => Ok(State::Over(counted(reply))),
         }
     }
 
@@ -109,8 +98,8 @@ impl Work {
             Work::Scanning(writing) => writing.scanned(reply).is_over(),
             Work::Programming(writing) => writing.programmed(reply).is_over(),
             Work::Clearing(writing) => writing.cleared(reply).is_over(),
-            Work::Dumping { .. } => true,
-            Work::Asking { .. } => true,
+            Work::Looking(_) => tells_bad(reply),
+            Work::Reading(_) | Work::Asking { .. } | Work::Counting { .. } => true,
         }
     }
 }

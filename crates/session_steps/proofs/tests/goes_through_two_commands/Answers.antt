@@ -32,9 +32,7 @@ module _ (g : Geometry) (page : g.page ≡ 2048) where
     whole = zero-mod g.page;
     in_device = rw page (omega (arith, pages_positive g));
     one = sym page;
-    is_raw = refl;
     body_only = refl;
-    all_blocks = refl;
   }
 
   both : (k : ℕ) (d : Command) → k < 2 → CanRun g (slice_index_or (asking ∷ dumping ∷ []) k d)

@@ -27,7 +27,8 @@ returns-in-NandWrite-clause-ends_at_last c = at_last c.args.g.now c.args.command
 
 pub returns-in-NandDump-clause-bound : goal.returns-in-NandDump-clause-bound
 returns-in-NandDump-clause-bound c =
-    sym (cost_of-short c.args.g.now c.args.command.now c.args.weak c.requires.runs ∙ ap (λ (k : Command). short_cost c.args.g.now k c.args.weak) c.in-NandDump.is)
+    sym (cost_of-short c.args.g.now c.args.command.now c.args.weak c.requires.runs
+    ∙ ap (λ (k : Command). short_cost c.args.g.now k c.args.weak) c.in-NandDump.is)
 
 pub returns-in-NandDump-clause-ends : goal.returns-in-NandDump-clause-ends
 returns-in-NandDump-clause-ends c = command_ends c.args.g.now c.args.command.now c.requires.runs
@@ -40,3 +41,9 @@ returns-in-IsBad-clause-ends c = command_ends c.args.g.now c.args.command.now c.
 
 pub returns-in-IsBad-clause-ends_at_last : goal.returns-in-IsBad-clause-ends_at_last
 returns-in-IsBad-clause-ends_at_last c = at_last c.args.g.now c.args.command.now c.args.part.now.count c.requires.runs c.requires.blocks
+
+pub returns-in-IsBad-3-clause-ends : goal.returns-in-IsBad-3-clause-ends
+returns-in-IsBad-3-clause-ends c = command_ends c.args.g.now c.args.command.now c.requires.runs
+
+pub returns-in-IsBad-3-clause-ends_at_last : goal.returns-in-IsBad-3-clause-ends_at_last
+returns-in-IsBad-3-clause-ends_at_last c = at_last c.args.g.now c.args.command.now c.args.part.now.count c.requires.runs c.requires.blocks
