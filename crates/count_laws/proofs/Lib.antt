@@ -1,3 +1,6 @@
 mod Decoding
 mod Operations
-mod Courses
+mod Steps
+mod ReadCounts
+pub mod Courses
+pub mod Follows

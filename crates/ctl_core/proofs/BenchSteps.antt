@@ -23,7 +23,7 @@ use Rattle.tool_steps.specs.Boot.{commands_at}
 use Rattle.session_steps.specs.declared.session.Session.{Session}
 use Rattle.session_steps.specs.Standing.{number_of, standing, commands_by, First, IsWaiting}
 use Rattle.session_steps.specs.Mirrors.{Mirrors}
-use Rattle.chip_model.specs.Raw.{IsRaw}
+use Rattle.chip_model.specs.Taken.{IsTaken}
 use Rattle.chip_model.specs.Stage.{finished_in, is_resting, is_attached}
 use Rattle.chip_core.specs.Begin.{HasDevice, CanBegin}
 use Rattle.ctl_core.specs.declared.bench.Bench.{Bench}
@@ -36,6 +36,7 @@ use Rattle.ctl_core.specs.Follows.{Follows}
 use Rattle.ctl_core.proofs.Places.{OneChanged, set_changes, mapped_set}
 use Rattle.ctl_core.proofs.Positions.{at_mapped}
 use Rattle.ctl_core.proofs.Turns.{follows_as, follows_answer, follows_begin, follows_resumed}
+use Rattle.ctl_core.proofs.Sums.{read_fits}
 use Rattle.ctl_core.proofs.OnCourse.{holds, own_place, own_commands, run_left, run_found, FirstLeft}
 
 pub get_last : {A : Type 0} (xs : List A) (x : A) → slice_get (xs ++ x ∷ []) (length xs) ≡ Some x
@@ -101,7 +102,7 @@ module _ {F C : Type 0} {flash : Ghosts F} (past : Past F) (bench : Bench F C fl
         subst (First (CanRun (kept_slot slot).state.geometry)) (run_left past bench session place turn s at number commands given)
         (subst (First (CanRun (kept_slot slot).state.geometry)) (sym first.left) can_run_here)
 
-    pub can_begin_here : CanBegin (kept_slot slot).state.geometry past.boot.partitions first.op
+    pub can_begin_here : CanBegin (kept_slot slot).state.geometry past.boot.partitions (kept_slot slot).stage first.op
     can_begin_here =
         let is_part : part_of past.boot.partitions (device_of first.op) ≡ Some first.is_ready.part = ap (part_of past.boot.partitions) first.device ∙ first.is_ready.part_is in
         let same_blocks = sym first.is_ready.sizes_are ∙ sizes_here in
@@ -111,7 +112,8 @@ module _ {F C : Type 0} {flash : Ghosts F} (past : Past F) (bench : Bench F C fl
             within = subst (λ o. IfSome o (λ (p : Part). p.start + p.count ≤ (kept_slot slot).state.geometry.blocks)) (sym is_part)
                 (subst (λ (g : Geometry). first.is_ready.part.start + first.is_ready.part.count ≤ g.blocks) same_blocks first.is_ready.within.1);
           };
-          raw = subst (λ g. IsRaw g first.op) sizes_here first.raw;
+          taken = subst (λ g. IsTaken g first.op) sizes_here first.taken;
+          sums = read_fits past bench turn.on_course k slot first.op slot_at;
         }
 
     -- a mirror of the session's own commands

@@ -78,7 +78,7 @@ states_kept : {W : Type 0} (partitions : Partitions) (chips : List (ChipRun W)) 
 states_kept partitions [] = refl
 states_kept partitions (c ∷ chips) = ap (λ zs. c.chip ∷ zs) (states_kept partitions chips)
 
-statistics_by : {W : Type 0} (partitions : Partitions) (c : ChipRun W) (known : Option Known) (pending : Option Pending) (dev : ℕ) → stage_statistics (stage_by partitions c known pending) dev ≡ statistics_known known dev
+pub statistics_by : {W : Type 0} (partitions : Partitions) (c : ChipRun W) (known : Option Known) (pending : Option Pending) (dev : ℕ) → stage_statistics (stage_by partitions c known pending) dev ≡ statistics_known known dev
 statistics_by partitions c None pending dev = refl
 statistics_by partitions c (Some known) None dev = refl
 statistics_by partitions c (Some known) (Some pending) dev = refl

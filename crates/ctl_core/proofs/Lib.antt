@@ -17,5 +17,6 @@ pub mod Limits
 pub mod CoreSteps
 pub mod FirstAndLast
 pub mod LastStates
+pub mod Sums
 pub mod Exchanges
 pub mod LastEnds

@@ -28,8 +28,8 @@ use Rattle.tool_steps.specs.Stage.{CanRun}
 use Rattle.session_steps.specs.declared.session.Session.{Session}
 use Rattle.session_steps.specs.Standing.{number_of, standing, outcomes_by, commands_by, First}
 use Rattle.session_steps.specs.Mirrors.{Mirrors}
-use Rattle.session_steps.proofs.RawOps.{next_raw}
-use Rattle.chip_model.specs.Raw.{IsRaw}
+use Rattle.session_steps.proofs.TakenOps.{next_taken}
+use Rattle.chip_model.specs.Taken.{IsTaken}
 use Rattle.chip_model.specs.Stage.{Stage, Attaches, Rests, Works, failure_told, stage_event, finished_in, is_working, is_resting, is_attached, stage_by}
 use Rattle.chip_core.specs.Chip.{chip_stage}
 use Rattle.ctl_core.specs.declared.turn.Turn.{Turn}
@@ -206,7 +206,7 @@ module _ {F C : Type 0} {flash : Ghosts F} (past : Past F) (bench : Bench F C fl
       pub op : Op
       pub next : next_op (sizes_in flash.state past) (session_run (course_of flash.fault_model flash.state past) session) ≡ Some op
       pub device : device_of op ≡ command_device command
-      pub raw : IsRaw (sizes_in flash.state past command) op
+      pub taken : IsTaken (sizes_in flash.state past command) op
       pub chip : chip_of past.boot.partitions (device_of op) ≡ Some is_ready.part.chip
 
     pub first_left : (command : Command) → slice_get own_place.run.commands 0 ≡ Some command → FirstLeft command
@@ -218,17 +218,17 @@ module _ {F C : Type 0} {flash : Ghosts F} (past : Past F) (bench : Bench F C fl
         place (length (outcomes_by (standing bench.notes.notes s))) own_place.own command own_place.begun_at own_at in
         let o = next_of (sizes_in flash.state past) own_place.own.1 bench.notes.notes s own_place.run own_place.mirrors command f.0 f.1 r.can in
         let all = drop_all (λ c. CanRun (sizes_in flash.state past c) c) (length (outcomes_by (standing bench.notes.notes s))) own_place.own.1 own_place.mirrors.runnable in
-        let raw = subst (First (λ c. (device_of o.0 ≡ command_device c) × IsRaw (sizes_in flash.state past c) o.0)) f.1
-        (next_raw (sizes_in flash.state past) own_place.run o.0 (subst (All (λ c. CanRun (sizes_in flash.state past c) c)) (sym own_place.mirrors.shows.left) all) o.1) in
+        let taken = subst (First (λ c. (device_of o.0 ≡ command_device c) × IsTaken (sizes_in flash.state past c) o.0)) f.1
+        (next_taken (sizes_in flash.state past) own_place.run o.0 (subst (All (λ c. CanRun (sizes_in flash.state past c) c)) (sym own_place.mirrors.shows.left) all) o.1) in
         record {
           rest = f.0;
           left = f.1;
           is_ready = r;
           op = o.0;
           next = ap (next_op (sizes_in flash.state past)) run_found ∙ o.1;
-          device = raw.0;
-          raw = raw.1;
-          chip = ap (chip_of past.boot.partitions) raw.0 ∙ ap chip_of_part r.part_is;
+          device = taken.0;
+          taken = taken.1;
+          chip = ap (chip_of past.boot.partitions) taken.0 ∙ ap chip_of_part r.part_is;
         }
 
     -- the chip of the next operation, by the command that comes next

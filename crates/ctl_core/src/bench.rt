@@ -43,7 +43,7 @@ impl<F: Flash, C: PageCode> Slot<F, C> {
     // The session begins an operation on the chip. Where memory runs out, the chip is as before.
     pub fn begin(&mut self, session: u32, parts: &Parts, op: &Op) -> Result<(), AllocError>
         requires rests { is_resting (kept_slot self.old).stage ≡ true }
-        requires can { CanBegin (kept_slot self.old).state.geometry parts.now op.now }
+        requires can { CanBegin (kept_slot self.old).state.geometry parts.now (kept_slot self.old).stage op.now }
         ensures begun { OnOk result (kept_slot self.new ≡ after_begin parts.now session op.now (kept_slot self.old)) }
         ensures no_memory { OnErr result (kept_slot self.new ≡ kept_slot self.old) }
     {
