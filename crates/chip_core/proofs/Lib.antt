@@ -1,7 +1,10 @@
 pub mod Places
+pub mod Summing
+pub mod Imaging
 pub mod Scanning
 pub mod Quiet
-pub mod Beginning
+pub mod Ranges
+pub mod Answering
 pub mod Advancing
 pub mod Seen
 pub mod Performing

@@ -1,28 +1,31 @@
--- Which operations a chip without tables and without a page code takes.
-use Rattle.std.specs.Prelude.{◌≡◌, ℕ, ◌+◌, ◌≤◌, length, IsSome, IfSome, ⊤}
+-- Which operations a chip without tables takes.
+use Rattle.std.specs.Prelude.{ℕ, ◌+◌, ◌≤◌, Option, Some, None, IsSome, IfSome, ⊤}
 use Rattle.nand_model.specs.Operation.{Partitions, part_of, device_of}
-use Rattle.nand_model.specs.Sizes.{raw_len}
 use Rattle.nand_model.specs.declared.geometry.Geometry.{Geometry}
 use Rattle.nand_model.specs.declared.words.Op.{Op}
 use Rattle.nand_model.specs.declared.words.Op.TheVariants.{Read, Write, RawRead, RawWrite, Erase, IsBad, Mark, Stats}
-
--- an operation without a page code, with an image of a whole page
-abbrev pub IsRaw : Geometry → Op → Type 0
-IsRaw g (RawRead dev page) = ⊤
-IsRaw g (RawWrite dev page image) = length image ≡ raw_len g
-IsRaw g (Erase dev block) = ⊤
-IsRaw g (IsBad dev block) = ⊤
-IsRaw g (Read dev page) = ⊥
-IsRaw g (Write dev page body free) = ⊥
-IsRaw g (Mark dev block) = ⊥
-IsRaw g (Stats dev) = ⊥
+use Rattle.chip_model.specs.Stage.{Stage, stage_statistics}
+use Rattle.chip_model.specs.Taken.{IsTaken}
+use Rattle.chip_core.specs.Sums.{AreSmall}
 
 -- the device is there, and its partition ends within the chip
 pub record HasDevice (g : Geometry) (partitions : Partitions) (dev : ℕ) : Type 0 where
   pub there : IsSome (part_of partitions dev)
   pub within : IfSome (part_of partitions dev) (λ part. part.start + part.count ≤ g.blocks)
 
--- an operation that a chip of these sizes takes, on a device that is there
-pub record CanBegin (g : Geometry) (partitions : Partitions) (op : Op) : Type 0 where
+-- the device whose statistics an operation adds to
+abbrev pub read_device : Op → Option ℕ
+read_device (Read dev page) = Some dev
+read_device (Write dev page body free) = None
+read_device (RawRead dev page) = None
+read_device (RawWrite dev page image) = None
+read_device (Erase dev block) = None
+read_device (IsBad dev block) = None
+read_device (Mark dev block) = None
+read_device (Stats dev) = None
+
+-- an operation that a chip of these sizes takes at this stage: its device is there, and the statistics that a read adds to have room
+pub record CanBegin (g : Geometry) (partitions : Partitions) (stage : Stage) (op : Op) : Type 0 where
   pub device : HasDevice g partitions (device_of op)
-  pub raw : IsRaw g op
+  pub taken : IsTaken g op
+  pub sums : IfSome (read_device op) (λ dev. AreSmall (stage_statistics stage dev))

@@ -13,7 +13,7 @@ chip_state {F} {C} {flash} chip = flash.state chip.flash
 
 -- its stage
 abbrev pub chip_stage : {F C : Type 0} {flash : Ghosts F} → Chip F C flash → Stage
-chip_stage chip = phase_stage chip.table.geometry chip.table.states chip.phase
+chip_stage chip = phase_stage chip.known chip.phase
 
 -- how many pages may be programmed or flipped beyond those that its attach or its operation in flight may still program, before memory has to be asked for
 abbrev pub chip_spare : {F C : Type 0} {flash : Ghosts F} → Chip F C flash → ℕ

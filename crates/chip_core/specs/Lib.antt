@@ -1,6 +1,9 @@
 pub mod Markers
+pub mod Sums
 pub mod Begin
+pub mod Knowledge
 pub mod Task
+pub mod Beginning
 pub mod Phase
 pub mod Chip
 pub mod Whole

@@ -1,5 +1,5 @@
 -- What a chip is at, as its stage.
-use Rattle.std.specs.Prelude.{◌≡◌, ℕ, ◌<◌, ◌&&◌, List, take, length, ⊤, Option, None, option_map, Bool}
+use Rattle.std.specs.Prelude.{◌≡◌, ℕ, ◌<◌, ◌&&◌, List, take, length, ⊤, Option, Some, None, IsSome, option_map, Bool}
 use Rattle.std.specs.Coded.{Unit-prop}
 use Rattle.std.proofs.Props.{props}
 use Rattle.nand_model.specs.Chip.{ChipState}
@@ -8,18 +8,24 @@ use Rattle.nand_model.specs.Sizes.{raw_len}
 use Rattle.nand_model.specs.Attach.{Attaching}
 use Rattle.chip_model.specs.Stage.{Stage, Attaches, Rests, Works}
 use Rattle.nand_model.specs.declared.geometry.Geometry.{Geometry}
-use Rattle.chip_core.specs.Markers.{attached_by_markers, known_by_markers, markers_left, blocks_from}
-use Rattle.chip_core.specs.Task.{task_left, TaskFits, TaskFits-prop, programs_of}
+use Rattle.chip_core.specs.Knowledge.{known_in}
+use Rattle.chip_core.specs.Markers.{attached_by_markers, markers_left, blocks_from}
+use Rattle.chip_core.specs.Sums.{AreSmall, place_of, stats_in}
+use Rattle.chip_core.specs.Task.{TaskFits, TaskFits-prop, counted_by, programs_of, task_left}
+use Rattle.chip_core.specs.declared.knowledge.Knowledge.{Knowledge}
 use Rattle.chip_core.specs.declared.scan.Finding.{Finding}
 use Rattle.chip_core.specs.declared.scan.Scan.{Scan}
 use Rattle.chip_core.specs.declared.phase.Phase.{Phase}
+use Rattle.chip_core.specs.declared.sums.DeviceSums.{DeviceSums}
+use Rattle.chip_core.specs.declared.task.Task.{Task}
 use Rattle.chip_core.specs.declared.phase.Phase.TheVariants.{Attaching as IsAttaching, Resting, Working}
 
--- the stage of a chip of these sizes whose blocks have these states; an attach has filled them up to its next block
-abbrev pub phase_stage : Geometry → List ℕ → Phase → Stage
-phase_stage g states (IsAttaching scan) = Attaches (markers_left g (take scan.next states) (blocks_from g scan.next)) scan.quiet_so_far
-phase_stage g states Resting = Rests (known_by_markers states)
-phase_stage g states (Working task) = Works (known_by_markers states) (task_left (known_by_markers states) task)
+-- the stage of a chip of which this is known; an attach has filled the states up to its next block
+abbrev pub phase_stage : Knowledge → Phase → Stage
+phase_stage known (IsAttaching scan) =
+    Attaches (markers_left known.geometry (take scan.next known.states) (blocks_from known.geometry scan.next)) scan.quiet_so_far
+phase_stage known Resting = Rests (known_in known)
+phase_stage known (Working task) = Works (known_in known) (task_left known.geometry (known_in known) task)
 
 -- a block is still to be read, and there is room for a page and for the note
 pub record ScanFits (g : Geometry) (scan : Scan) : Type 0 where
@@ -27,16 +33,30 @@ pub record ScanFits (g : Geometry) (scan : Scan) : Type 0 where
   pub cells : length scan.cells ≡ raw_len g
   pub states : length scan.states ≡ g.blocks
 
--- what a phase holds fits the chip
-abbrev pub PhaseFits : Geometry → Phase → Type 0
-PhaseFits g (IsAttaching scan) = ScanFits g scan
-PhaseFits g Resting = ⊤
-PhaseFits g (Working task) = TaskFits g task
+-- an attach fits, and no device has statistics yet
+pub record AttachFits (g : Geometry) (sums : List DeviceSums) (scan : Scan) : Type 0 where
+  pub scan_fits : ScanFits g scan
+  pub fresh : length sums ≡ 0
 
-pub PhaseFits-prop : (g : Geometry) (phase : Phase) → IsProp (PhaseFits g phase)
-PhaseFits-prop g (IsAttaching scan) = hlevel props
-PhaseFits-prop g Resting = Unit-prop
-PhaseFits-prop g (Working task) = TaskFits-prop g task
+-- a task fits, and the statistics that it adds to have an entry and room
+pub record WorkFits (g : Geometry) (sums : List DeviceSums) (task : Task) : Type 0 where
+  pub task_fits : TaskFits g task
+  pub there : (dev : ℕ) → counted_by task ≡ Some dev → IsSome (place_of sums dev)
+  pub small : (dev : ℕ) → counted_by task ≡ Some dev → AreSmall (stats_in sums dev)
+
+pub WorkFits-prop : (g : Geometry) (sums : List DeviceSums) (task : Task) → IsProp (WorkFits g sums task)
+WorkFits-prop g sums task = let fits = TaskFits-prop g task in hlevel (props, fits)
+
+-- what a phase holds fits the chip
+abbrev pub PhaseFits : Geometry → List DeviceSums → Phase → Type 0
+PhaseFits g sums (IsAttaching scan) = AttachFits g sums scan
+PhaseFits g sums Resting = ⊤
+PhaseFits g sums (Working task) = WorkFits g sums task
+
+pub PhaseFits-prop : (g : Geometry) (sums : List DeviceSums) (phase : Phase) → IsProp (PhaseFits g sums phase)
+PhaseFits-prop g sums (IsAttaching scan) = hlevel props
+PhaseFits-prop g sums Resting = Unit-prop
+PhaseFits-prop g sums (Working task) = WorkFits-prop g sums task
 
 -- the pages that may still be programmed
 abbrev pub programs_left : Phase → ℕ

@@ -1,76 +1,105 @@
 -- What is left of an operation, as a path.
-use Rattle.std.specs.Prelude.{◌≡◌, ℕ, ◌<◌, ◌/◌, ◌==◌, List, slice_index, ⊤, Option, Some, None, IfSome}
+use Rattle.std.specs.Prelude.{◌≡◌, ℕ, ◌<◌, List, ⊤, Option, Some, None, IfSome}
 use Rattle.std.specs.Coded.{Unit-prop}
 use Rattle.std.proofs.Props.{props}
 use Rattle.nand_model.specs.Chip.{ChipState, FaultModel, PageEvent, ReadEvent, ProgramEvent, EraseEvent, Complete, happens}
 use Rattle.nand_model.specs.Counts.{HasRisen}
-use Rattle.nand_model.specs.Path.{Path, Then, cells_of, answer_to}
-use Rattle.nand_model.specs.Operation.{Partitions, Known, Finished, answer, done_or, is_good_block, only_if, raw_reply, operation_path}
+use Rattle.nand_model.specs.Page.{Decoding, decoded}
+use Rattle.nand_model.specs.Path.{Path, Over, Then, cells_of, answer_to}
+use Rattle.nand_model.specs.Operation.{Known, Finished, after_read, answer, done_or, raw_reply, with_statistics}
 use Rattle.chip_model.specs.Stage.{failure_told, path_after}
 use Rattle.nand_iface.specs.Flash.{FitsPage}
 use Rattle.nand_model.specs.declared.geometry.Geometry.{Geometry}
 use Rattle.nand_model.specs.declared.words.Fairness.{Fairness}
 use Rattle.nand_model.specs.declared.words.Fairness.TheVariants.{Plain}
-use Rattle.nand_model.specs.declared.words.Reply.TheVariants.{BadBlock, MarkerByte, ProgramFailed, EraseFailed}
-use Rattle.nand_model.specs.declared.words.Op.{Op}
-use Rattle.chip_core.specs.declared.table.Table.{Table}
+use Rattle.nand_model.specs.declared.words.PageKind.{PageKind}
+use Rattle.nand_model.specs.declared.words.PageRead.{PageRead}
+use Rattle.nand_model.specs.declared.words.Reply.TheVariants.{ProgramFailed, EraseFailed, Page}
 use Rattle.chip_core.specs.declared.task.Task.{Task}
-use Rattle.chip_core.specs.declared.task.Task.TheVariants.{Reading, Programming, Erasing, Ended}
+use Rattle.chip_core.specs.declared.task.Task.TheVariants.{Reading, Decoding as IsDecoding, Programming, Erasing, Decoded, Ended}
+
+-- the event of a raw read and what follows it
+abbrev pub raw_read_from : Known → ℕ → Path Finished
+raw_read_from k page = Then (ReadEvent page) (λ seen. answer k (raw_reply (cells_of seen)))
+
+-- the event of a read of a device's page through its code and what follows it
+abbrev pub read_from : Geometry → Known → ℕ → ℕ → Path Finished
+read_from g k dev page = Then (ReadEvent page) (λ seen. Over (after_read g k dev (decoded g (cells_of seen))))
+
+-- the program of an image and what follows it
+abbrev pub program_from : Known → List ℕ → ℕ → Path Finished
+program_from k image page = Then (ProgramEvent page image) (λ outcome. answer k (done_or ProgramFailed outcome))
+
+-- the erase of a good block and what follows it
+abbrev pub erased_from : Known → ℕ → Path Finished
+erased_from k block = Then (EraseEvent block) (λ outcome. answer k (done_or EraseFailed outcome))
+
+-- a page that was decoded, by its counts and its image
+abbrev pub decoding_of : PageRead → List ℕ → Decoding
+decoding_of read image = record { image = image; corrected = read.corrected; greatest = read.greatest; failed = read.failed }
+
+-- a read whose reply this is, and whose counts are added to those of a device
+abbrev pub counted_read : Known → ℕ → PageKind → PageRead → List ℕ → Path Finished
+counted_read k dev kind read image =
+    Over (record { reply = Page kind read image; known = record k { statistics = with_statistics k.statistics dev (decoding_of read image) } })
 
 -- the path that a task stands for, where this is known of the chip
-abbrev pub task_left : Known → Task → Path Finished
-task_left k (Reading page cells) = Then (ReadEvent page) (λ seen. answer k (raw_reply (cells_of seen)))
-task_left k (Programming page image) = Then (ProgramEvent page image) (λ outcome. answer k (done_or ProgramFailed outcome))
-task_left k (Erasing block) = Then (EraseEvent block) (λ outcome. answer k (done_or EraseFailed outcome))
-task_left k (Ended reply) = answer k reply
+abbrev pub task_left : Geometry → Known → Task → Path Finished
+task_left g k (Reading page cells) = raw_read_from k page
+task_left g k (IsDecoding dev page cells) = read_from g k dev page
+task_left g k (Programming page image) = program_from k image page
+task_left g k (Erasing block) = erased_from k block
+task_left g k (Decoded dev kind read image) = counted_read k dev kind read image
+task_left g k (Ended reply) = answer k reply
 
 -- the next event of a task
 abbrev pub task_event : Task → Option PageEvent
 task_event (Reading page cells) = Some (ReadEvent page)
+task_event (IsDecoding dev page cells) = Some (ReadEvent page)
 task_event (Programming page image) = Some (ProgramEvent page image)
 task_event (Erasing block) = Some (EraseEvent block)
+task_event (Decoded dev kind read image) = None
 task_event (Ended reply) = None
 
 -- pages and blocks of a task are there, and its bytes are those of a whole page
 abbrev pub TaskFits : Geometry → Task → Type 0
 TaskFits g (Reading page cells) = FitsPage g page cells
+TaskFits g (IsDecoding dev page cells) = FitsPage g page cells
 TaskFits g (Programming page image) = FitsPage g page image
 TaskFits g (Erasing block) = block < g.blocks
+TaskFits g (Decoded dev kind read image) = ⊤
 TaskFits g (Ended reply) = ⊤
 
 pub TaskFits-prop : (g : Geometry) (task : Task) → IsProp (TaskFits g task)
 TaskFits-prop g (Reading page cells) = hlevel props
+TaskFits-prop g (IsDecoding dev page cells) = hlevel props
 TaskFits-prop g (Programming page image) = hlevel props
 TaskFits-prop g (Erasing block) = hlevel props
+TaskFits-prop g (Decoded dev kind read image) = Unit-prop
 TaskFits-prop g (Ended reply) = Unit-prop
 
 -- the pages that a task may still program
 abbrev pub programs_of : Task → ℕ
 programs_of (Reading page cells) = 0
+programs_of (IsDecoding dev page cells) = 0
 programs_of (Programming page image) = 1
 programs_of (Erasing block) = 0
+programs_of (Decoded dev kind read image) = 0
 programs_of (Ended reply) = 0
 
--- a task stands for this path on a chip with this table, and fits the chip
-pub record Follows (table : Table) (path : Known → Path Finished) (task : Task) : Type 0 where
-  pub follows : (k : Known) → k.table ≡ table.states → task_left k task ≡ path k
-  pub fits : TaskFits table.geometry task
-
--- a task stands for the whole path of an operation
-abbrev pub Begins : Table → Partitions → Op → Task → Type 0
-Begins table partitions op task = Follows table (λ k. operation_path table.geometry partitions k op) task
-
--- a raw write into a page of the chip: a bad block is refused before a marker byte in the image
-abbrev pub program_path : Geometry → Known → ℕ → List ℕ → Path Finished
-program_path g k page image =
-    only_if (is_good_block k (page / g.pages_per_block)) k BadBlock (λ u.
-    only_if (slice_index image g.page == 0xff) k MarkerByte (λ u.
-    Then (ProgramEvent page image) (λ outcome. answer k (done_or ProgramFailed outcome))))
+-- the device to whose statistics a task adds
+abbrev pub counted_by : Task → Option ℕ
+counted_by (Reading page cells) = None
+counted_by (IsDecoding dev page cells) = Some dev
+counted_by (Programming page image) = None
+counted_by (Erasing block) = None
+counted_by (Decoded dev kind read image) = Some dev
+counted_by (Ended reply) = None
 
 -- an event of a task is done: the chip is as after it, the task goes on by its answer, and a failure is told and counted
 pub record Advances {W : Type 0} (model : FaultModel W) (before after : ChipState W) (e : PageEvent) (old new : Task) (failure : Option Fairness) : Type 0 where
   pub state : after ≡ happens model before (Complete e)
-  pub left : (k : Known) → task_left k new ≡ path_after (answer_to model before e) (task_left k old)
+  pub left : (k : Known) → task_left before.geometry k new ≡ path_after (answer_to model before e) (task_left before.geometry k old)
   pub told : failure ≡ failure_told model before e
   pub plain : IfSome failure (λ fairness. fairness ≡ Plain)
   pub risen : IfSome failure (λ fairness. HasRisen before.faults after.faults)

@@ -12,6 +12,7 @@ use Rattle.nand_model.specs.declared.words.Part.{Part}
 use Rattle.nand_model.specs.declared.words.Reply.{Reply}
 use Rattle.nand_model.specs.declared.words.Reply.TheVariants.{OutOfRange, BadBlock, MarkerByte, ProgramFailed, EraseFailed}
 use Rattle.chip_model.specs.Stage.{Stage, Attaches, Rests, Works}
+use Rattle.chip_core.specs.Begin.{read_device}
 use Rattle.chip_core.specs.Markers.{marker_page}
 
 -- the states of a chip's blocks by their markers
@@ -24,19 +25,22 @@ known_at_rest (Attaches left quiet) = None
 known_at_rest (Rests known) = Some known
 known_at_rest (Works known left) = None
 
--- from this chip and what is known of it to this chip with the same known, by a whole operation with this reply
+-- from this chip and what is known of it to this chip at this stage, by a whole operation with this reply; only a read changes what is known
 pub record HasPerformed {W : Type 0} (model : FaultModel W) (partitions : Partitions) (k : Known) (op : Op) (before after : ChipState W)
-    (reply : Reply) : Type 0 where
+    (stage : Stage) (reply : Reply) : Type 0 where
+  pub known : Known
+  pub rests : stage ≡ Rests known
   pub trace : List ChipEvent
   pub leads : after ≡ after_trace model before trace
-  pub performs : Performs model partitions before k op trace reply k
+  pub performs : Performs model partitions before k op trace reply known
+  pub kept : read_device op ≡ None → known ≡ k
 
 -- a refusal where the test fails, else a later one
 abbrev pub refused_unless : Bool → Reply → Option Reply → Option Reply
 refused_unless true refusal later = later
 refused_unless false refusal later = Some refusal
 
--- why a raw operation on a partition is refused
+-- why an operation on a partition is refused
 abbrev pub refusal_in : Geometry → Known → Part → Op → Option Reply
 refusal_in g k part (RawRead dev page) = refused_unless (has_page g part page) OutOfRange None
 refusal_in g k part (RawWrite dev page image) =
@@ -46,8 +50,10 @@ refusal_in g k part (RawWrite dev page image) =
 refusal_in g k part (Erase dev block) =
     refused_unless (has_block part block) OutOfRange (refused_unless (is_good_block k (chip_block part block)) BadBlock None)
 refusal_in g k part (IsBad dev block) = refused_unless (has_block part block) OutOfRange None
-refusal_in g k part (Read dev page) = None
-refusal_in g k part (Write dev page body free) = None
+refusal_in g k part (Read dev page) = refused_unless (has_page g part page) OutOfRange None
+refusal_in g k part (Write dev page body free) =
+    refused_unless (has_page g part page) OutOfRange
+    (refused_unless (is_good_block k (chip_block part (page / g.pages_per_block))) BadBlock None)
 refusal_in g k part (Mark dev block) = None
 refusal_in g k part (Stats dev) = None
 
@@ -56,7 +62,7 @@ abbrev pub refusal_of : Geometry → Known → Option Part → Op → Option Rep
 refusal_of g k None op = Some OutOfRange
 refusal_of g k (Some part) op = refusal_in g k part op
 
--- a reply that refuses a raw operation
+-- a reply that refuses an operation
 abbrev pub is_refusal : Reply → Bool
 is_refusal OutOfRange = true
 is_refusal BadBlock = true

@@ -9,13 +9,14 @@ ghost use Rattle.nand_model.specs.declared.words.Fairness.TheVariants.{Plain};
 ghost use Rattle.nand_iface.specs.Flash.{FitsBits};
 ghost use Rattle.chip_model.specs.Stage.{Rests, failure_told, finished_in, first_stage, is_attached, is_resting, is_working, news_after, note_of_news, stage_after, stage_begun, stage_event, stage_statistics, stage_table};
 ghost use Rattle.chip_core.specs.Begin.{CanBegin};
-ghost use Rattle.chip_core.specs.Phase.{KnowsQuiet, KnowsQuiet-prop, PhaseFits, PhaseFits-prop, ScanFits, news_in, phase_stage, programs_left};
+ghost use Rattle.chip_core.specs.Phase.{AttachFits, KnowsQuiet, KnowsQuiet-prop, PhaseFits, PhaseFits-prop, news_in, phase_stage, programs_left};
 ghost use Rattle.chip_core.specs.Markers.{marker_page};
 ghost use Rattle.chip_core.specs.declared.phase.Phase.TheVariants.{Attaching, Resting};
 
+use crate::beginning::begin;
+use crate::knowledge::Knowledge;
 use crate::phase::Phase;
 use crate::scan::{Finding, Scan, marker_is_quiet};
-use crate::table::Table;
 use crate::task::Task;
 use mtd_part::Parts;
 use nand_iface::{Event, Fairness, Flash, Note, Op, Origin, PageCode, Reply, Stats};
@@ -33,14 +34,14 @@ pub struct Chip<F: Flash, C: PageCode> {
     alloc: Global,
     flash: F,
     code: C,
-    table: Table,
+    known: Knowledge,
     finding: Option<Finding>,
     phase: Phase,
     spare: u32,
-    ghost sizes: { (F.state flash).geometry ≡ table.geometry },
+    ghost sizes: { (F.state flash).geometry ≡ known.geometry },
     ghost without_tables: { (F.state flash).geometry.bbt ≡ 0 },
     ghost quiet: { KnowsQuiet (F.state flash) phase } by { KnowsQuiet-prop (F.state flash) phase },
-    ghost fits: { PhaseFits table.geometry phase } by { PhaseFits-prop table.geometry phase },
+    ghost fits: { PhaseFits known.geometry known.sums phase } by { PhaseFits-prop known.geometry known.sums phase },
     ghost room: { spare + programs_left phase ≤ F.room flash },
 }
 
@@ -62,7 +63,7 @@ impl<F: Flash, C: PageCode> Chip<F, C> {
             alloc,
             flash,
             code,
-            table: Table::new(alloc, geometry)?,
+            known: Knowledge::new(alloc, geometry)?,
             finding: None,
             phase: Phase::Attaching(scan),
             spare: 0,
@@ -73,7 +74,7 @@ impl<F: Flash, C: PageCode> Chip<F, C> {
     pub fn geometry(&self) -> Geometry
         ensures { result ≡ (chip_state self.now).geometry }
     {
-        self.table.geometry
+        self.known.geometry
     }
 
     /// The next event of the attach or of the operation in flight. None comes exactly where neither has an event left.
@@ -81,7 +82,7 @@ impl<F: Flash, C: PageCode> Chip<F, C> {
         ensures { result ≡ option_map name_of (stage_event (chip_stage self.now)) }
     {
         match &self.phase {
-            Phase::Attaching(scan) => Some(scan.event(&self.table.geometry)),
+            Phase::Attaching(scan) => Some(scan.event(&self.known.geometry)),
             Phase::Resting => None,
             Phase::Working(task) => task.event(),
         }
@@ -117,7 +118,7 @@ impl<F: Flash, C: PageCode> Chip<F, C> {
     {
         self.flash.flip(page, bits);
         self.spare -= 1;
-        let g = &self.table.geometry;
+        let g = &self.known.geometry;
         let quiet = marker_is_quiet(&self.flash, g, page / g.pages_per_block);
         self.phase.see_marker(quiet);
     }
@@ -159,15 +160,11 @@ impl<F: Flash, C: PageCode> Chip<F, C> {
         matches!(self.phase, Phase::Working(_))
     }
 
-    /// The statistics of a device since the start of the boot. They are 0, as no operation of these decodes a page.
+    /// The statistics of a device since the start of the boot, over its answered reads.
     pub fn stats(&self, dev: u32) -> Stats
         ensures { result ≡ stage_statistics (chip_stage self.now) dev }
     {
-        let _ = dev;
-        Stats {
-            corrected: 0,
-            failed: 0,
-        }
+        self.known.sums.get(dev)
     }
 
     /// The number of blocks that are worn or factory bad; 0 while attaching is not over.
@@ -177,14 +174,14 @@ impl<F: Flash, C: PageCode> Chip<F, C> {
     {
         match &self.phase {
             Phase::Attaching(_) => 0,
-            _ => self.table.bad(),
+            _ => self.known.bad(),
         }
     }
 
     /// Begins an operation, and takes all the memory that it needs. Nothing is in flight before. Where memory runs out, all is as before.
     pub fn begin(&mut self, parts: &Parts, op: &Op) -> Result<(), AllocError>
         requires rests { is_resting (chip_stage self.old) ≡ true }
-        requires can { CanBegin (chip_state self.old).geometry parts.now op.now }
+        requires can { CanBegin (chip_state self.old).geometry parts.now (chip_stage self.old) op.now }
         ensures begun { OnOk result (chip_stage self.new ≡ stage_begun (chip_state self.old).geometry parts.now op.now (chip_stage self.old)) }
         ensures no_memory { OnErr result (chip_stage self.new ≡ chip_stage self.old) }
         ensures state { chip_state self.new ≡ chip_state self.old }
@@ -192,7 +189,8 @@ impl<F: Flash, C: PageCode> Chip<F, C> {
         ensures spare { chip_spare self.new ≡ chip_spare self.old }
         ensures bits { chip_bits self.old ≤ chip_bits self.new }
     {
-        let task = Task::begin(self.alloc, &self.table, parts, op)?;
+        self.known.expect(op)?;
+        let task = begin(self.alloc, &self.code, &self.known, parts, op)?;
         let room = self.spare.checked_add(task.programs()).ok_or(AllocError)?;
         self.flash.reserve(room, 0)?;
         self.phase = Phase::Working(task);
@@ -224,7 +222,7 @@ impl<F: Flash, C: PageCode> Chip<F, C> {
             }
             Phase::Resting => unreachable!(),
             Phase::Working(task) => {
-                let (left, told) = task.advance(&mut self.flash);
+                let (left, told) = task.advance(&mut self.flash, &self.code);
                 self.phase = Phase::Working(left);
                 told
             }
@@ -243,6 +241,17 @@ impl<F: Flash, C: PageCode> Chip<F, C> {
     {
         match mem::replace(&mut self.phase, Phase::Resting) {
             Phase::Working(Task::Ended(reply)) => reply,
+            Phase::Working(
+                Task::Decoded {
+                    dev,
+                    kind,
+                    read,
+                    image,
+                },
+            ) => {
+                self.known.sums.add(dev, read.corrected, read.failed);
+                Reply::Page { kind, read, image }
+            }
             _ => unreachable!(),
         }
     }
@@ -258,24 +267,24 @@ impl<F: Flash, C: PageCode> Chip<F, C> {
     // Reads the marker of the next block; after the last one the chip is attached, and there is a note to be handed out.
     fn attach_on(&mut self, scan: Scan)
         requires rests { self.old.phase ≡ Resting }
-        requires fits { ScanFits self.old.table.geometry scan }
+        requires fits { AttachFits self.old.known.geometry self.old.known.sums scan }
         requires quiet { scan.quiet_now ≡ is_quiet (F.state self.old.flash).geometry (F.state self.old.flash).pages }
         ensures state { F.state self.new.flash ≡ F.state self.old.flash }
-        ensures stage { phase_stage self.new.table.geometry self.new.table.states self.new.phase
-            ≡ stage_after scan.quiet_now (Data (marker_page (F.state self.old.flash) scan.next)) (phase_stage self.old.table.geometry self.old.table.states (Attaching scan)) }
+        ensures stage { phase_stage self.new.known self.new.phase
+            ≡ stage_after scan.quiet_now (Data (marker_page (F.state self.old.flash) scan.next)) (phase_stage self.old.known (Attaching scan)) }
         ensures news { news_in self.new.phase self.new.finding
-            ≡ news_after scan.quiet_now (Data (marker_page (F.state self.old.flash) scan.next)) (phase_stage self.old.table.geometry self.old.table.states (Attaching scan)) None }
+            ≡ news_after scan.quiet_now (Data (marker_page (F.state self.old.flash) scan.next)) (phase_stage self.old.known (Attaching scan)) None }
         ensures spare { self.new.spare ≡ self.old.spare }
         ensures bits { F.bit_room self.old.flash ≤ F.bit_room self.new.flash }
     {
         let mut scan = scan;
         let block = scan.next;
-        let state = scan.read_marker(&self.flash, &self.table.geometry);
-        self.table.set(block, state);
-        if scan.next < self.table.geometry.blocks {
+        let state = scan.read_marker(&self.flash, &self.known.geometry);
+        self.known.set(block, state);
+        if scan.next < self.known.geometry.blocks {
             self.phase = Phase::Attaching(scan);
         } else {
-            self.finding = Some(scan.into_finding(&self.table));
+            self.finding = Some(scan.into_finding(&self.known));
         }
     }
 }

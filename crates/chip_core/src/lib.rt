@@ -1,10 +1,12 @@
 //! One chip, whose attach or operation is held from its begin to its end.
 #![tactic(auto)]
 
+mod beginning;
 mod chip;
+mod knowledge;
 mod phase;
 mod scan;
-mod table;
+mod sums;
 mod task;
 mod whole;
 

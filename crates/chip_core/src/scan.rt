@@ -5,7 +5,7 @@ ghost use Rattle.nand_model.specs.Sizes.{first_page, raw_len};
 ghost use Rattle.nand_model.specs.declared.words.Event.TheVariants.{Read};
 ghost use Rattle.chip_core.specs.Markers.{marker_page, marker_state};
 
-use crate::table::Table;
+use crate::knowledge::Knowledge;
 use nand_iface::{Event, Flash};
 use nand_model::{Bytes, Geometry};
 use std::alloc::{AllocError, Global};
@@ -77,17 +77,17 @@ impl Scan {
         marker_state_in(g, self.cells.as_slice())
     }
 
-    /// What the attach found, with the states of the table.
-    pub fn into_finding(self, table: &Table) -> Finding
-        requires { length self.states ≡ table.now.geometry.blocks }
+    /// What the attach found, with the states that are known.
+    pub fn into_finding(self, known: &Knowledge) -> Finding
+        requires { length self.states ≡ known.now.geometry.blocks }
         ensures quiet { result.quiet ≡ self.quiet_so_far }
-        ensures states { result.states ≡ table.now.states }
+        ensures states { result.states ≡ known.now.states }
     {
         let quiet = self.quiet_so_far;
         let mut states = self.states;
         states
             .as_mut_slice()
-            .copy_from_slice(table.states.as_slice());
+            .copy_from_slice(known.states.as_slice());
         Finding { quiet, states }
     }
 }

@@ -1,148 +1,65 @@
 // What is left of an operation.
-ghost use Rattle.std.specs.Prelude.{◌≡◌, ◌≤◌, ◌<◌, ◌+◌, ◌/◌, ◌==◌, length, option_map, slice_index, IsSome, IfSome, IfOk};
+ghost use Rattle.std.specs.Prelude.{◌≡◌, ◌≤◌, ◌<◌, ◌+◌, Some, option_map, IsSome, IfSome};
 ghost use Rattle.nand_iface.specs.Flash.{FitsPage};
 ghost use Rattle.nand_model.specs.Chip.{Complete, EraseEvent, ProgramEvent, happens};
 ghost use Rattle.nand_model.specs.ChipRun.{name_of};
 ghost use Rattle.nand_model.specs.Counts.{HasRisen};
-ghost use Rattle.nand_model.specs.Operation.{done_or, raw_reply};
-ghost use Rattle.nand_model.specs.Path.{answer_to};
-ghost use Rattle.nand_model.specs.Sizes.{raw_len};
+ghost use Rattle.nand_model.specs.Operation.{Known, after_read, done_or, raw_reply};
+ghost use Rattle.nand_model.specs.Page.{decoded};
+ghost use Rattle.nand_model.specs.Path.{Over, answer_to};
 ghost use Rattle.nand_model.specs.declared.words.Fairness.TheVariants.{Plain};
-ghost use Rattle.nand_model.specs.declared.words.Op.TheVariants.{RawRead, RawWrite, Erase, IsBad};
 ghost use Rattle.nand_model.specs.declared.words.Reply.TheVariants.{ProgramFailed as RepliesProgramFailed, EraseFailed as RepliesEraseFailed};
 ghost use Rattle.chip_model.specs.Stage.{failure_told};
-ghost use Rattle.chip_core.specs.Begin.{CanBegin, HasDevice};
-ghost use Rattle.chip_core.specs.Task.{Advances, Begins, Follows, TaskFits, program_path, programs_of, task_event};
+ghost use Rattle.chip_core.specs.Task.{Advances, TaskFits, counted_by, programs_of, task_event, task_left};
 ghost use Rattle.chip_core.specs.declared.task.Task.TheVariants.{Ended};
 
-use crate::table::Table;
-use mtd_part::Parts;
-use nand_iface::{EraseFailed, Event, Fairness, Flash, Op, ProgramFailed, Reply};
-use nand_model::{Bytes, Geometry, PageKind, PageRead};
-use std::alloc::{AllocError, Global};
+use nand_iface::{EraseFailed, Event, Fairness, Flash, PageCode, ProgramFailed, Reply};
+use nand_model::{Bytes, PageKind, PageRead};
 
 /// What is left of an operation: its next event with all that it needs, or its reply.
 #[derive(Drop)]
 pub enum Task {
-    /// A page is to be read into these bytes.
-    Reading { page: u32, cells: Bytes },
+    /// A page is to be read as it stands into these bytes.
+    Reading {
+        page: u32,
+        cells: Bytes,
+    },
+    /// A page of a device is to be read into these bytes and decoded.
+    Decoding {
+        dev: u32,
+        page: u32,
+        cells: Bytes,
+    },
     /// This image is to be programmed into a page.
-    Programming { page: u32, image: Bytes },
+    Programming {
+        page: u32,
+        image: Bytes,
+    },
     /// A block is to be erased.
-    Erasing { block: u32 },
+    Erasing {
+        block: u32,
+    },
+    /// A page of a device was decoded. No event is left, and its counts are still to be added to the device's statistics.
+    Decoded {
+        dev: u32,
+        kind: PageKind,
+        read: PageRead,
+        image: Bytes,
+    },
     /// No event is left.
     Ended(Reply),
 }
 
 impl Task {
-    /// An operation on a chip with this table, with all the memory that it needs.
-    pub fn begin(alloc: Global, table: &Table, parts: &Parts, op: &Op) -> Result<Task, AllocError>
-        requires { CanBegin table.now.geometry parts.now op.now }
-        ensures { IfOk result (λ task. Begins table.now parts.now op.now task) }
-    {
-        match op {
-            Op::RawRead { dev, page } => Task::raw_read(alloc, table, parts, *dev, *page),
-            Op::RawWrite { dev, page, image } => {
-                Task::raw_write(alloc, table, parts, *dev, *page, image.as_slice())
-            }
-            Op::Erase { dev, block } => Ok(Task::erase(table, parts, *dev, *block)),
-            Op::IsBad { dev, block } => Ok(Task::is_bad(table, parts, *dev, *block)),
-            Op::Read { .. } => unreachable!(),
-            Op::Write { .. } => unreachable!(),
-            Op::Mark { .. } => unreachable!(),
-            Op::Stats { .. } => unreachable!(),
-        }
-    }
-
-    // A raw read of a page of a device.
-    fn raw_read(
-        alloc: Global,
-        table: &Table,
-        parts: &Parts,
-        dev: u32,
-        page: u32,
-    ) -> Result<Task, AllocError>
-        requires { HasDevice table.now.geometry parts.now dev }
-        ensures { IfOk result (λ task. Begins table.now parts.now (RawRead dev page) task) }
-    {
-        let g = &table.geometry;
-        match parts.page(dev, page, g.pages_per_block) {
-            None => Ok(Task::Ended(Reply::OutOfRange)),
-            Some(page) => {
-                let cells = Bytes::filled(alloc, 0, g.raw_len() as usize)?;
-                Ok(Task::Reading { page, cells })
-            }
-        }
-    }
-
-    // A raw write of a page of a device.
-    fn raw_write(
-        alloc: Global,
-        table: &Table,
-        parts: &Parts,
-        dev: u32,
-        page: u32,
-        image: &[u8],
-    ) -> Result<Task, AllocError>
-        requires device { HasDevice table.now.geometry parts.now dev }
-        requires whole { length image.now ≡ raw_len table.now.geometry }
-        ensures { IfOk result (λ task. Begins table.now parts.now (RawWrite dev page image.now) task) }
-    {
-        let g = &table.geometry;
-        match parts.page(dev, page, g.pages_per_block) {
-            None => Ok(Task::Ended(Reply::OutOfRange)),
-            Some(page) => Task::program(alloc, table, page, image),
-        }
-    }
-
-    // The program of an image into a page of the chip. A bad block is refused before a marker byte in the image.
-    fn program(alloc: Global, table: &Table, page: u32, image: &[u8]) -> Result<Task, AllocError>
-        requires { FitsPage table.now.geometry page image.now }
-        ensures { IfOk result (λ task. Follows table.now (λ k. program_path table.now.geometry k page image.now) task) }
-    {
-        let g = &table.geometry;
-        if !table.is_good(page / g.pages_per_block) {
-            return Ok(Task::Ended(Reply::BadBlock));
-        }
-        if image[g.page as usize] != 0xff {
-            return Ok(Task::Ended(Reply::MarkerByte));
-        }
-        let image = Bytes::from_slice(alloc, image)?;
-        Ok(Task::Programming { page, image })
-    }
-
-    // An erase of a block of a device.
-    fn erase(table: &Table, parts: &Parts, dev: u32, block: u32) -> Task
-        requires { HasDevice table.now.geometry parts.now dev }
-        ensures { Begins table.now parts.now (Erase dev block) result }
-    {
-        match parts.block(dev, block) {
-            None => Task::Ended(Reply::OutOfRange),
-            Some(block) if table.is_good(block) => Task::Erasing { block },
-            Some(_) => Task::Ended(Reply::BadBlock),
-        }
-    }
-
-    // A question for the state of a block of a device.
-    fn is_bad(table: &Table, parts: &Parts, dev: u32, block: u32) -> Task
-        requires { HasDevice table.now.geometry parts.now dev }
-        ensures { Begins table.now parts.now (IsBad dev block) result }
-    {
-        match parts.block(dev, block) {
-            None => Task::Ended(Reply::OutOfRange),
-            Some(block) => Task::Ended(Reply::State(u32::from(table.state(block)))),
-        }
-    }
-
     /// The next event. None comes exactly where no event is left.
     pub fn event(&self) -> Option<Event>
         ensures { result ≡ option_map name_of (task_event self.now) }
     {
         match self {
-            Task::Reading { page, .. } => Some(Event::Read(*page)),
+            Task::Reading { page, .. } | Task::Decoding { page, .. } => Some(Event::Read(*page)),
             Task::Programming { page, .. } => Some(Event::Program(*page)),
             Task::Erasing { block } => Some(Event::Erase(*block)),
-            Task::Ended(_) => None,
+            Task::Decoded { .. } | Task::Ended(_) => None,
         }
     }
 
@@ -157,21 +74,23 @@ impl Task {
     }
 
     /// Does the next event, which is there. What is left is a reply, beside what is told of an event that failed.
-    pub fn advance<F: Flash>(self, flash: &mut F) -> (Task, Option<Fairness>)
+    pub fn advance<F: Flash, C: PageCode>(self, flash: &mut F, code: &C) -> (Task, Option<Fairness>)
         requires without_tables { (F.state flash.old).geometry.bbt ≡ 0 }
         requires fits { TaskFits (F.state flash.old).geometry self }
         requires room { programs_of self ≤ F.room flash.old }
         requires event { IsSome (task_event self) }
         ensures advanced { IfSome (task_event self) (λ e. Advances F.fault_model (F.state flash.old) (F.state flash.new) e self result.0 result.1) }
         ensures fits { TaskFits (F.state flash.old).geometry result.0 }
+        ensures counted { counted_by result.0 ≡ counted_by self }
         ensures room { F.room flash.old + programs_of result.0 ≤ F.room flash.new + programs_of self }
         ensures bits { F.bit_room flash.old ≤ F.bit_room flash.new }
     {
         match self {
             Task::Reading { page, cells } => (read(flash, page, cells), None),
+            Task::Decoding { dev, page, cells } => (decode(flash, code, dev, page, cells), None),
             Task::Programming { page, image } => program(flash, page, image.as_slice()),
             Task::Erasing { block } => erase(flash, block),
-            Task::Ended(_) => unreachable!(),
+            Task::Decoded { .. } | Task::Ended(_) => unreachable!(),
         }
     }
 }
@@ -192,6 +111,25 @@ fn read<F: Flash>(flash: &F, page: u32, cells: Bytes) -> Task
         },
         image,
     })
+}
+
+// Reads a page of a device, and decodes what the read saw.
+fn decode<F: Flash, C: PageCode>(flash: &F, code: &C, dev: u32, page: u32, cells: Bytes) -> Task
+    requires { FitsPage (F.state flash.now).geometry page cells }
+    ensures left { (k : Known) → task_left (F.state flash.now).geometry k result
+        ≡ Over (after_read (F.state flash.now).geometry k dev (decoded (F.state flash.now).geometry ((F.state flash.now).pages page).cells)) }
+    ensures fits { TaskFits (F.state flash.now).geometry result }
+    ensures counted { counted_by result ≡ Some dev }
+    ensures programs { programs_of result ≡ 0 }
+{
+    let mut image = cells;
+    let (kind, read) = page_ops::read(flash, code, page, image.as_mut_slice());
+    Task::Decoded {
+        dev,
+        kind,
+        read,
+        image,
+    }
 }
 
 // Programs a page, and replies whether it failed.

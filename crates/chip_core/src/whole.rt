@@ -39,13 +39,14 @@ pub fn perform<F: Flash, C: PageCode>(
     op: &Op,
 ) -> Result<Reply, AllocError>
     requires rests { is_resting (chip_stage chip.old) ≡ true }
-    requires can { CanBegin (chip_state chip.old).geometry parts.now op.now }
+    requires can { CanBegin (chip_state chip.old).geometry parts.now (chip_stage chip.old) op.now }
     ensures performed { IfOk result (λ reply. IfSome (known_at_rest (chip_stage chip.old))
-        (λ k. HasPerformed F.fault_model parts.now k op.now (chip_state chip.old) (chip_state chip.new) reply)) }
+        (λ k. HasPerformed F.fault_model parts.now k op.now (chip_state chip.old) (chip_state chip.new) (chip_stage chip.new) reply)) }
     ensures causes { IfOk result (λ reply. IfSome (known_at_rest (chip_stage chip.old))
         (λ k. HasCause (refusal_of (chip_state chip.old).geometry k (part_of parts.now (device_of op.now)) op.now) (chip_state chip.old) (chip_state chip.new) reply)) }
     ensures no_memory { OnErr result (chip_state chip.new ≡ chip_state chip.old) }
-    ensures stage { chip_stage chip.new ≡ chip_stage chip.old }
+    ensures no_memory_stage { OnErr result (chip_stage chip.new ≡ chip_stage chip.old) }
+    ensures rests { is_resting (chip_stage chip.new) ≡ true }
     ensures news { chip_news chip.new ≡ chip_news chip.old }
     ensures spare { chip_spare chip.new ≡ chip_spare chip.old }
     ensures bits { chip_bits chip.old ≤ chip_bits chip.new }

@@ -6,11 +6,11 @@ use Rattle.nand_model.specs.Quiet.{is_quiet}
 use Rattle.nand_model.specs.declared.words.Fairness.{Fairness}
 use Rattle.nand_model.specs.declared.words.Fairness.TheVariants.{Plain}
 use Rattle.chip_model.specs.Stage.{failure_told}
-use Rattle.chip_core.specs.Phase.{programs_left}
+use Rattle.chip_core.specs.Phase.{PhaseFits, WorkFits, programs_left}
 use Rattle.chip_core.specs.Task.{task_event}
 use Rattle.chip_core.specs.declared.phase.Phase.{Phase}
 use Rattle.chip_core.specs.declared.phase.Phase.TheVariants.{Working}
-use Rattle.chip_core.proofs.Advancing.{working_has_event, sizes_kept, knows_quiet, of_event, of_read, read_stage, read_news}
+use Rattle.chip_core.proofs.Advancing.{working_has_event, sizes_kept, knows_quiet, of_event, of_read, read_stage, read_news, tells, works_on}
 use Rattle.chip_core.proofs.chip.Chip.advance.Goals as goal
 
 pub invariant_of-self-in-Working : goal.invariant_of-self-in-Working
@@ -23,17 +23,24 @@ invariant_of-self-in-Working g c =
     let before = g.F.Flash.state chip.flash in
     let after = g.F.Flash.state c.advance-left.new.flash in
     let phase : chip.phase ≡ Working task = sym c.replace.ensures.value ∙ c.in-Working.is in
-    let event : IsSome (task_event task) = working_has_event chip.table chip.phase task phase c.requires in
+    let event : IsSome (task_event task) = working_has_event chip.known chip.phase task phase c.requires in
     let sizes : after.geometry ≡ before.geometry =
     of_event model before after task left told (task_event task) event c.advance-left.ensures.advanced (after.geometry ≡ before.geometry)
     (sizes_kept model before after task left told) in
     let Room : Phase → Type 0 = λ p. chip.spare + programs_left p ≤ g.F.Flash.room chip.flash in
     let room = subst Room phase chip.room in
+    let Fits : Phase → Type 0 = λ p. PhaseFits chip.known.geometry chip.known.sums p in
+    let work : WorkFits chip.known.geometry chip.known.sums task = subst Fits phase chip.fits in
     record {
       sizes = sizes ∙ chip.sizes;
       without_tables = rw sizes chip.without_tables;
       quiet = tt;
-      fits = rw (← chip.sizes) c.advance-left.ensures.fits;
+      fits =
+          record {
+            task_fits = rw (← chip.sizes) c.advance-left.ensures.fits;
+            there = λ dev counted. work.there dev (sym c.advance-left.ensures.counted ∙ counted);
+            small = λ dev counted. work.small dev (sym c.advance-left.ensures.counted ∙ counted);
+          };
       room = omega (arith, room, c.advance-left.ensures.room);
     }
 
@@ -41,21 +48,21 @@ pub returns-in-Attaching-clause-state : goal.returns-in-Attaching-clause-state
 returns-in-Attaching-clause-state g c =
     let chip = c.args.self.now in
     let s = g.F.Flash.state chip.flash in
-    of_read g.F.Flash.fault_model s chip.table chip.sizes chip.phase chip.fits c.in-Attaching.scan (sym c.replace.ensures.value ∙ c.in-Attaching.is)
+    of_read g.F.Flash.fault_model s chip.known chip.sizes chip.phase chip.fits c.in-Attaching.scan (sym c.replace.ensures.value ∙ c.in-Attaching.is)
     (λ e. g.F.Flash.state c.attach_on.new.self.flash ≡ happens g.F.Flash.fault_model s (Complete e)) c.attach_on.ensures.state
 
 pub returns-in-Attaching-clause-stage : goal.returns-in-Attaching-clause-stage
 returns-in-Attaching-clause-stage g c =
     let chip = c.args.self.now in
     let s = g.F.Flash.state chip.flash in
-    read_stage g.F.Flash.fault_model s chip.table chip.sizes chip.phase chip.fits c.in-Attaching.scan (sym c.replace.ensures.value ∙ c.in-Attaching.is)
+    read_stage g.F.Flash.fault_model s chip.known chip.sizes chip.phase chip.fits c.in-Attaching.scan (sym c.replace.ensures.value ∙ c.in-Attaching.is)
     (is_quiet s.geometry s.pages) (knows_quiet s chip.phase chip.quiet c.in-Attaching.scan (sym c.replace.ensures.value ∙ c.in-Attaching.is)) _ c.attach_on.ensures.stage
 
 pub returns-in-Attaching-clause-news : goal.returns-in-Attaching-clause-news
 returns-in-Attaching-clause-news g c =
     let chip = c.args.self.now in
     let s = g.F.Flash.state chip.flash in
-    read_news g.F.Flash.fault_model s chip.table chip.sizes chip.phase chip.fits c.in-Attaching.scan (sym c.replace.ensures.value ∙ c.in-Attaching.is)
+    read_news g.F.Flash.fault_model s chip.known chip.sizes chip.phase chip.fits c.in-Attaching.scan (sym c.replace.ensures.value ∙ c.in-Attaching.is)
     (is_quiet s.geometry s.pages) (knows_quiet s chip.phase chip.quiet c.in-Attaching.scan (sym c.replace.ensures.value ∙ c.in-Attaching.is)) _ _ c.attach_on.ensures.news
 
 pub returns-in-Attaching-clause-told : goal.returns-in-Attaching-clause-told
@@ -63,14 +70,14 @@ returns-in-Attaching-clause-told g c =
     let chip = c.args.self.now in
     let s = g.F.Flash.state chip.flash in
     let told : Option Fairness = None in
-    of_read g.F.Flash.fault_model s chip.table chip.sizes chip.phase chip.fits c.in-Attaching.scan (sym c.replace.ensures.value ∙ c.in-Attaching.is)
+    of_read g.F.Flash.fault_model s chip.known chip.sizes chip.phase chip.fits c.in-Attaching.scan (sym c.replace.ensures.value ∙ c.in-Attaching.is)
     (λ e. told ≡ failure_told g.F.Flash.fault_model s e) refl
 
 pub returns-in-Attaching-clause-failed : goal.returns-in-Attaching-clause-failed
 returns-in-Attaching-clause-failed g c =
     let chip = c.args.self.now in
     let s = g.F.Flash.state chip.flash in
-    of_read g.F.Flash.fault_model s chip.table chip.sizes chip.phase chip.fits c.in-Attaching.scan (sym c.replace.ensures.value ∙ c.in-Attaching.is)
+    of_read g.F.Flash.fault_model s chip.known chip.sizes chip.phase chip.fits c.in-Attaching.scan (sym c.replace.ensures.value ∙ c.in-Attaching.is)
     (λ e. false ≡ is_failure (answer_to g.F.Flash.fault_model s e)) refl
 
 pub returns-in-Working-clause-plain : goal.returns-in-Working-clause-plain
@@ -78,7 +85,7 @@ returns-in-Working-clause-plain g c =
     let chip = c.args.self.now in
     let task = c.in-Working.task in
     let told = c.advance-left.result.1 in
-    let event = working_has_event chip.table chip.phase task (sym c.replace.ensures.value ∙ c.in-Working.is) c.requires in
+    let event = working_has_event chip.known chip.phase task (sym c.replace.ensures.value ∙ c.in-Working.is) c.requires in
     of_event g.F.Flash.fault_model (g.F.Flash.state chip.flash) (g.F.Flash.state c.advance-left.new.flash) task c.advance-left.result.0 told
     (task_event task) event c.advance-left.ensures.advanced (IfSome told (λ fairness. fairness ≡ Plain)) (λ e done. done.plain)
 
@@ -86,3 +93,16 @@ pub attach_on-requires-clause-quiet : goal.attach_on-requires-clause-quiet
 attach_on-requires-clause-quiet g c =
     let chip = c.args.self.now in
     sym (knows_quiet (g.F.Flash.state chip.flash) chip.phase chip.quiet c.in-Attaching.scan (sym c.replace.ensures.value ∙ c.in-Attaching.is))
+
+pub returns-in-Working-clause-stage : goal.returns-in-Working-clause-stage
+returns-in-Working-clause-stage g c =
+    let chip = c.args.self.now in
+    let s = g.F.Flash.state chip.flash in
+    works_on g.F.Flash.fault_model s (g.F.Flash.state c.advance-left.new.flash) c.in-Working.task c.advance-left.result.0 c.advance-left.result.1 chip.known
+    chip.sizes chip.phase (sym c.replace.ensures.value ∙ c.in-Working.is) c.advance-left.ensures.advanced (is_quiet s.geometry s.pages)
+
+pub returns-in-Working-clause-failed : goal.returns-in-Working-clause-failed
+returns-in-Working-clause-failed g c =
+    let chip = c.args.self.now in
+    tells g.F.Flash.fault_model (g.F.Flash.state chip.flash) (g.F.Flash.state c.advance-left.new.flash) c.in-Working.task c.advance-left.result.0
+    c.advance-left.result.1 chip.known chip.sizes chip.phase (sym c.replace.ensures.value ∙ c.in-Working.is) c.advance-left.ensures.advanced

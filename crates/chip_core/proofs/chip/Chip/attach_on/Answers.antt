@@ -1,36 +1,39 @@
-use Rattle.std.proofs.Common.{◌≤◌, ◌<◌, ◌+◌, sym}
+use Rattle.std.proofs.Common.{◌≤◌, ◌<◌, ◌+◌, ap, length, sym, ◌∙◌}
 use Rattle.std.specs.Prelude.{◌&&◌}
 use Rattle.chip_core.specs.Markers.{marker_page}
+use Rattle.chip_model.specs.Stage.{Rests}
+use Rattle.chip_core.proofs.Answering.{known_fresh}
 use Rattle.chip_core.proofs.Scanning.{goes_on, no_news, comes_to_rest, news}
 use Rattle.chip_core.proofs.chip.Chip.attach_on.Goals as goal
 
 pub returns-then-scan-self-clause-stage : goal.returns-then-scan-self-clause-stage
 returns-then-scan-self-clause-stage g c =
-    let table = c.args.self.now.table in
-    let more : c.args.scan.next + 1 < table.geometry.blocks = rw (← c.set.ensures.geometry, ← c.read_marker-state.ensures.next) c.if-scan-self.true in
+    let known = c.args.self.now.known in
+    let more : c.args.scan.next + 1 < known.geometry.blocks = rw (← c.set.ensures.geometry, ← c.read_marker-state.ensures.next) c.if-scan-self.true in
     rw (c.set.ensures.geometry, c.set.ensures.states, c.read_marker-state.ensures.next, c.read_marker-state.ensures.state, c.read_marker-state.ensures.quiet_so_far)
-    (sym (goes_on table.geometry table.states c.args.scan.next (marker_page (g.F.Flash.state c.args.self.now.flash) c.args.scan.next) c.requires.fits.next
-    table.all_there (c.args.scan.quiet_so_far && c.args.scan.quiet_now) more))
+    (sym (goes_on known.geometry known.states c.args.scan.next (marker_page (g.F.Flash.state c.args.self.now.flash) c.args.scan.next) c.requires.fits.scan_fits.next
+    known.all_there (c.args.scan.quiet_so_far && c.args.scan.quiet_now) more))
 
 pub returns-then-scan-self-clause-news : goal.returns-then-scan-self-clause-news
 returns-then-scan-self-clause-news g c =
-    let table = c.args.self.now.table in
-    let more : c.args.scan.next + 1 < table.geometry.blocks = rw (← c.set.ensures.geometry, ← c.read_marker-state.ensures.next) c.if-scan-self.true in
-    sym (no_news table.geometry table.states c.args.scan.next (marker_page (g.F.Flash.state c.args.self.now.flash) c.args.scan.next) c.requires.fits.next
-    table.all_there (c.args.scan.quiet_so_far && c.args.scan.quiet_now) more)
+    let known = c.args.self.now.known in
+    let more : c.args.scan.next + 1 < known.geometry.blocks = rw (← c.set.ensures.geometry, ← c.read_marker-state.ensures.next) c.if-scan-self.true in
+    sym (no_news known.geometry known.states c.args.scan.next (marker_page (g.F.Flash.state c.args.self.now.flash) c.args.scan.next) c.requires.fits.scan_fits.next
+    known.all_there (c.args.scan.quiet_so_far && c.args.scan.quiet_now) more)
 
 pub returns-else-scan-self-clause-stage : goal.returns-else-scan-self-clause-stage
 returns-else-scan-self-clause-stage g c =
-    let table = c.args.self.now.table in
-    let last : table.geometry.blocks ≤ c.args.scan.next + 1 = rw (← c.set.ensures.geometry, ← c.read_marker-state.ensures.next) c.if-scan-self.false in
-    rw (c.requires.rests, c.set.ensures.states, c.read_marker-state.ensures.state)
-    (sym (comes_to_rest table.geometry table.states c.args.scan.next (marker_page (g.F.Flash.state c.args.self.now.flash) c.args.scan.next)
-    c.requires.fits.next table.all_there (c.args.scan.quiet_so_far && c.args.scan.quiet_now) last))
+    let known = c.args.self.now.known in
+    let last : known.geometry.blocks ≤ c.args.scan.next + 1 = rw (← c.set.ensures.geometry, ← c.read_marker-state.ensures.next) c.if-scan-self.false in
+    rw c.requires.rests
+    (ap Rests (known_fresh c.set.new.self (ap length c.set.ensures.sums ∙ c.requires.fits.fresh))
+    ∙ rw (c.set.ensures.states, c.read_marker-state.ensures.state) (sym (comes_to_rest known.geometry known.states c.args.scan.next (marker_page (g.F.Flash.state c.args.self.now.flash) c.args.scan.next)
+    c.requires.fits.scan_fits.next known.all_there (c.args.scan.quiet_so_far && c.args.scan.quiet_now) last)))
 
 pub returns-else-scan-self-clause-news : goal.returns-else-scan-self-clause-news
 returns-else-scan-self-clause-news g c =
-    let table = c.args.self.now.table in
-    let last : table.geometry.blocks ≤ c.args.scan.next + 1 = rw (← c.set.ensures.geometry, ← c.read_marker-state.ensures.next) c.if-scan-self.false in
+    let known = c.args.self.now.known in
+    let last : known.geometry.blocks ≤ c.args.scan.next + 1 = rw (← c.set.ensures.geometry, ← c.read_marker-state.ensures.next) c.if-scan-self.false in
     rw (
       c.requires.rests,
       c.into_finding.ensures.quiet,
@@ -39,5 +42,5 @@ returns-else-scan-self-clause-news g c =
       c.read_marker-state.ensures.state,
       c.read_marker-state.ensures.quiet_so_far,
     )
-    (sym (news table.geometry table.states c.args.scan.next (marker_page (g.F.Flash.state c.args.self.now.flash) c.args.scan.next) c.requires.fits.next
-    table.all_there (c.args.scan.quiet_so_far && c.args.scan.quiet_now) last))
+    (sym (news known.geometry known.states c.args.scan.next (marker_page (g.F.Flash.state c.args.self.now.flash) c.args.scan.next) c.requires.fits.scan_fits.next
+    known.all_there (c.args.scan.quiet_so_far && c.args.scan.quiet_now) last))

@@ -22,12 +22,12 @@ invariant_of-self-2 g c =
     ap (λ s. s.geometry) c.flip.ensures.state ∙ after_trace-geometry g.F.Flash.fault_model before (flip_events c.args.page c.args.bits.now) in
     let still_quiet : is_quiet after.geometry after.pages ≡ (is_quiet before.geometry before.pages && c.marker_is_quiet-quiet.result) =
     quiet_where_flipped g.F.Flash.fault_model before chip.without_tables c.args.page c.requires.place.page_there c.args.bits.now after c.flip.ensures.state
-    chip.table.geometry chip.sizes c.marker_is_quiet-quiet.result c.marker_is_quiet-quiet.ensures in
+    chip.known.geometry chip.sizes c.marker_is_quiet-quiet.result c.marker_is_quiet-quiet.ensures in
     let programs : programs_left c.see_marker.new.self ≡ programs_left chip.phase = ap programs_left c.see_marker.ensures ∙ seen_programs c.marker_is_quiet-quiet.result chip.phase in
     record {
       sizes = sizes ∙ chip.sizes;
       without_tables = rw sizes chip.without_tables;
       quiet = rw c.see_marker.ensures (seen_quiet c.marker_is_quiet-quiet.result before after still_quiet chip.phase chip.quiet);
-      fits = rw c.see_marker.ensures (seen_fits c.marker_is_quiet-quiet.result chip.table.geometry chip.phase chip.fits);
+      fits = rw c.see_marker.ensures (seen_fits c.marker_is_quiet-quiet.result chip.known.geometry chip.known.sums chip.phase chip.fits);
       room = omega (arith, chip.room, c.flip.ensures.room, programs);
     }
