@@ -23,7 +23,7 @@ use Rattle.tool_steps.specs.Boot.{commands_at}
 use Rattle.session_steps.specs.declared.session.Session.{Session}
 use Rattle.session_steps.specs.Standing.{number_of, standing, commands_by, First, IsWaiting}
 use Rattle.session_steps.specs.Mirrors.{Mirrors}
-use Rattle.chip_model.specs.Raw.{IsRaw}
+use Rattle.chip_model.specs.Taken.{IsTaken}
 use Rattle.chip_model.specs.Stage.{finished_in, is_resting, is_attached}
 use Rattle.chip_core.specs.Begin.{HasDevice, CanBegin}
 use Rattle.ctl_core.specs.declared.bench.Bench.{Bench}
@@ -36,26 +36,23 @@ use Rattle.ctl_core.specs.Follows.{Follows}
 use Rattle.ctl_core.proofs.Places.{OneChanged, set_changes, mapped_set}
 use Rattle.ctl_core.proofs.Positions.{at_mapped}
 use Rattle.ctl_core.proofs.Turns.{follows_as, follows_answer, follows_begin, follows_resumed}
+use Rattle.ctl_core.proofs.Sums.{read_fits}
 use Rattle.ctl_core.proofs.OnCourse.{holds, own_place, own_commands, run_left, run_found, FirstLeft}
 
 pub get_last : {A : Type 0} (xs : List A) (x : A) → slice_get (xs ++ x ∷ []) (length xs) ≡ Some x
 get_last [] x = refl
 get_last (y ∷ ys) x = get_last ys x
 
-pub some_of : {A : Type 0} (o : Option A) → IsSome o → (x : A) × (o ≡ Some x)
-some_of None h = cc
-some_of (Some x) h = (x, refl)
-
-module _ {F : Type 0} {flash : Ghosts F} (past : Past F) (bench : Bench F flash) (session place : ℕ) (turn : IsAtTurn past session place bench)
-    (s : Session) (at : slice_get bench.sessions.items place ≡ Some s) (number : number_of s ≡ session) (k : ℕ) (slot : Slot F flash) (slot_at : slice_get bench.slots.items k ≡ Some slot) where
-  pub stands_answer : (finished : Finished) (now_slot : Slot F flash) (now_session : Session) (now_notes : List Note) → first_held_by session (kept_chips bench) ≡ Some k
+module _ {F C : Type 0} {flash : Ghosts F} (past : Past F) (bench : Bench F C flash) (session place : ℕ) (turn : IsAtTurn past session place bench)
+    (s : Session) (at : slice_get bench.sessions.items place ≡ Some s) (number : number_of s ≡ session) (k : ℕ) (slot : Slot F C flash) (slot_at : slice_get bench.slots.items k ≡ Some slot) where
+  pub stands_answer : (finished : Finished) (now_slot : Slot F C flash) (now_session : Session) (now_notes : List Note) → first_held_by session (kept_chips bench) ≡ Some k
       → finished_in (kept_slot slot).stage ≡ Some finished → kept_slot now_slot ≡ after_answer finished.known (kept_slot slot)
       → now_notes ≡ bench.notes.notes ++ Answered session finished.reply ∷ []
       → ((sizes : Command → Geometry) (commands : List Command) (notes later : List Note) (run : SessionRun) (n : ℕ) (reply : Reply) → Mirrors sizes commands notes s run → IsWaiting s
       → slice_get later (length bench.notes.notes) ≡ Some (Answered n reply) → Mirrors sizes commands later now_session (with_reply sizes reply run))
       → Follows past.boot (starts_of flash.state past) (next_course flash.fault_model flash.state past session) (map kept_slot (set bench.slots.items k now_slot)) bench.events now_notes (set bench.sessions.items place now_session)
   stands_answer finished now_slot now_session now_notes held over is_slot is_notes replied_so =
-      let after = follows_answer flash.fault_model past.boot turn.on_course.calm (starts_of flash.state past) (course_of flash.fault_model flash.state past) (kept_chips bench) bench.events bench.notes.notes bench.sessions.items
+      let after = follows_answer flash.fault_model past.boot turn.on_course.conditions.uncut (starts_of flash.state past) (course_of flash.fault_model flash.state past) (kept_chips bench) bench.events bench.notes.notes bench.sessions.items
       turn.on_course.stands turn.on_course.conditions.ascending (holds past bench turn.on_course) place k s now_session (set bench.sessions.items place now_session) (kept_slot slot) finished turn.attached at
       (ap (λ n. first_held_by n (kept_chips bench)) number ∙ held) (at_mapped kept_slot bench.slots.items k slot slot_at) over
       (set_changes bench.sessions.items place now_session (slice_get_within bench.sessions.items place s at))
@@ -105,7 +102,7 @@ module _ {F : Type 0} {flash : Ghosts F} (past : Past F) (bench : Bench F flash)
         subst (First (CanRun (kept_slot slot).state.geometry)) (run_left past bench session place turn s at number commands given)
         (subst (First (CanRun (kept_slot slot).state.geometry)) (sym first.left) can_run_here)
 
-    pub can_begin_here : CanBegin (kept_slot slot).state.geometry past.boot.partitions first.op
+    pub can_begin_here : CanBegin (kept_slot slot).state.geometry past.boot.partitions (kept_slot slot).stage first.op
     can_begin_here =
         let is_part : part_of past.boot.partitions (device_of first.op) ≡ Some first.is_ready.part = ap (part_of past.boot.partitions) first.device ∙ first.is_ready.part_is in
         let same_blocks = sym first.is_ready.sizes_are ∙ sizes_here in
@@ -115,7 +112,8 @@ module _ {F : Type 0} {flash : Ghosts F} (past : Past F) (bench : Bench F flash)
             within = subst (λ o. IfSome o (λ (p : Part). p.start + p.count ≤ (kept_slot slot).state.geometry.blocks)) (sym is_part)
                 (subst (λ (g : Geometry). first.is_ready.part.start + first.is_ready.part.count ≤ g.blocks) same_blocks first.is_ready.within.1);
           };
-          raw = subst (λ g. IsRaw g first.op) sizes_here first.raw;
+          taken = subst (λ g. IsTaken g first.op) sizes_here first.taken;
+          sums = read_fits past bench turn.on_course k slot first.op slot_at;
         }
 
     -- a mirror of the session's own commands
@@ -137,19 +135,19 @@ module _ {F : Type 0} {flash : Ghosts F} (past : Past F) (bench : Bench F flash)
         → ((sizes : Command → Geometry) (run : SessionRun) → Mirrors sizes commands bench.notes.notes s run → First (λ c. sizes c ≡ (kept_slot slot).state.geometry) run.commands → Mirrors sizes commands bench.notes.notes now_session run)
         → Follows past.boot (starts_of flash.state past) (course_of flash.fault_model flash.state past) (kept_chips bench) bench.events bench.notes.notes (set bench.sessions.items place now_session)
     stands_resumed now_session commands given free resumed =
-        follows_resumed flash.fault_model past.boot turn.on_course.calm (starts_of flash.state past) (course_of flash.fault_model flash.state past) (kept_chips bench) bench.events bench.notes.notes bench.sessions.items
+        follows_resumed flash.fault_model past.boot turn.on_course.conditions.uncut (starts_of flash.state past) (course_of flash.fault_model flash.state past) (kept_chips bench) bench.events bench.notes.notes bench.sessions.items
         turn.on_course.stands turn.on_course.conditions.ascending (holds past bench turn.on_course) place s now_session (set bench.sessions.items place now_session) at
         (ap (λ n. first_held_by n (kept_chips bench)) number ∙ free)
         (set_changes bench.sessions.items place now_session (slice_get_within bench.sessions.items place s at))
         (resumed_so now_session commands given resumed)
 
-    pub stands_begun : (now_slot : Slot F flash) (now_session : Session) (now_notes : List Note) (commands : List Command) → commands_at past.boot place ≡ Some commands
+    pub stands_begun : (now_slot : Slot F C flash) (now_session : Session) (now_notes : List Note) (commands : List Command) → commands_at past.boot place ≡ Some commands
         → first_held_by session (kept_chips bench) ≡ None → slot.holder ≡ None → kept_slot now_slot ≡ after_begin past.boot.partitions session first.op (kept_slot slot)
         → now_notes ≡ bench.notes.notes ++ Began session first.op ∷ [] → IsWaiting now_session
         → ((sizes : Command → Geometry) (run : SessionRun) → Mirrors sizes commands bench.notes.notes s run → First (λ c. sizes c ≡ (kept_slot slot).state.geometry) run.commands → Mirrors sizes commands bench.notes.notes now_session run)
         → Follows past.boot (starts_of flash.state past) (next_course flash.fault_model flash.state past session) (map kept_slot (set bench.slots.items k now_slot)) bench.events now_notes (set bench.sessions.items place now_session)
     stands_begun now_slot now_session now_notes commands given free no_holder is_slot is_notes waits resumed =
-        let after = follows_begin flash.fault_model past.boot turn.on_course.calm (starts_of flash.state past) (course_of flash.fault_model flash.state past) (kept_chips bench) bench.events bench.notes.notes bench.sessions.items
+        let after = follows_begin flash.fault_model past.boot turn.on_course.conditions.uncut (starts_of flash.state past) (course_of flash.fault_model flash.state past) (kept_chips bench) bench.events bench.notes.notes bench.sessions.items
         turn.on_course.stands turn.on_course.conditions.ascending (holds past bench turn.on_course) place k s now_session (set bench.sessions.items place now_session) (kept_slot slot) first.op turn.attached at
         (ap (λ n. first_held_by n (kept_chips bench)) number ∙ free) (at_mapped kept_slot bench.slots.items k slot slot_at) no_holder
         (set_changes bench.sessions.items place now_session (slice_get_within bench.sessions.items place s at)) waits

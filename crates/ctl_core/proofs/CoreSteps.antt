@@ -8,12 +8,12 @@ use Rattle.nand_iface.specs.declared.flash.Flash.{Ghosts}
 use Rattle.nand_iface.specs.NotesAndRoom.{NotesAndRoom}
 use Rattle.nand_model.specs.declared.geometry.Geometry.{Geometry}
 use Rattle.nand_model.specs.declared.words.Command.{Command}
+use Rattle.nand_model.specs.declared.words.Flip.{Flip}
 use Rattle.nand_model.specs.declared.words.Note.{Note}
 use Rattle.nand_model.specs.Chip.{ChipState, FaultModel, PageEvent}
 use Rattle.nand_model.specs.Operation.{Partitions, Known}
 use Rattle.nand_model.specs.ChipRun.{ChipRun, Pending, chip_at_start, next_chip_event}
 use Rattle.run_model.specs.Course.{Boot, Course, SessionRun, attach_step, attach_first, turn_step, chip_step, event_or_answer, with_answer, course_after, start_of_boot, sizes_of, is_idle, is_over, is_finished, unattached, without_finished, change_at}
-use Rattle.run_model.specs.Laws.{IsCalm}
 use Rattle.run_laws.specs.Turns.{busy_turns, AttachIsStep}
 use Rattle.run_laws.proofs.AttachTurns.{attach_is_step}
 use Rattle.run_laws.proofs.Places.{position_is, position_none}
@@ -32,8 +32,10 @@ use Rattle.ctl_core.specs.Past.{Past, at_start, with_attach, with_turn, starts_o
 use Rattle.ctl_core.specs.Sessions.{SessionsMirror, HoldersWait, AreFresh, AreAllDone}
 use Rattle.ctl_core.specs.Start.{CanStart, HasSession}
 use Rattle.ctl_core.specs.Bench.{kept_slot, kept_chips, event_at, StandsAt, IsOnCourse, DidEvent}
+use Rattle.ctl_core.specs.Flips.{kept_flips_before}
 use Rattle.ctl_core.specs.Follows.{Follows}
 use Rattle.ctl_core.proofs.ChipSteps.{next_is}
+use Rattle.ctl_core.proofs.Flipped.{flipped_at}
 use Rattle.ctl_core.proofs.Positions.{mapped_at, mapped_length, position_kept}
 use Rattle.ctl_core.proofs.Known.{stays_attached}
 use Rattle.ctl_core.proofs.CourseSteps.{turn_is_idle}
@@ -44,15 +46,14 @@ use Rattle.ctl_core.proofs.PastSteps.{one_more_turn, one_more_attach, one_more_b
 use Rattle.ctl_core.proofs.Limits.{attached_there, place_there}
 
 -- a search in the slots is one in what is kept of them
-pub attaching_in_slots : {F : Type 0} {flash : Ghosts F} (bench : Bench F flash) → position (λ slot. not (is_attached (kept_slot slot).stage)) bench.slots.items ≡ first_attaching (kept_chips bench)
+pub attaching_in_slots : {F C : Type 0} {flash : Ghosts F} (bench : Bench F C flash) → position (λ slot. not (is_attached (kept_slot slot).stage)) bench.slots.items ≡ first_attaching (kept_chips bench)
 attaching_in_slots bench = position_kept _ _ kept_slot bench.slots.items (λ k slot h. refl)
 
-module _ {F : Type 0} {flash : Ghosts F} (past : Past F) (bench : Bench F flash) (on : IsOnCourse past bench) where
+module _ {F C : Type 0} {flash : Ghosts F} (past : Past F) (bench : Bench F C flash) (on : IsOnCourse past bench) where
   -- with another room for notes
   pub renoted : (notes : NotesAndRoom) → notes.notes ≡ bench.notes.notes → IsOnCourse past (record bench { notes = notes })
   renoted notes same = record {
     conditions = on.conditions;
-    calm = on.calm;
     attached_first = on.attached_first;
     attach_events = on.attach_events;
     all_busy = on.all_busy;
@@ -65,10 +66,9 @@ module _ {F : Type 0} {flash : Ghosts F} (past : Past F) (bench : Bench F flash)
   relisted turns notes same_turns same_notes = subst (λ ts. IsOnCourse (record past { turns = ts }) (record bench { notes = notes })) (sym same_turns) (renoted notes same_notes)
 
   -- at the same course with other chips, notes or sessions
-  pub stayed_on : (new : Bench F flash) → StandsAt past (course_of flash.fault_model flash.state past) new → IsOnCourse past new
+  pub stayed_on : (new : Bench F C flash) → StandsAt past (course_of flash.fault_model flash.state past) new → IsOnCourse past new
   stayed_on new stands = record {
     conditions = on.conditions;
-    calm = on.calm;
     attached_first = on.attached_first;
     attach_events = on.attach_events;
     all_busy = on.all_busy;
@@ -80,7 +80,7 @@ module _ {F : Type 0} {flash : Ghosts F} (past : Past F) (bench : Bench F flash)
       → (x : KeptChip flash.FaultState) × (e : PageEvent) × (slice_get (kept_chips bench) k ≡ Some x) × (stage_event x.stage ≡ Some e)
   attach_there k h =
       let x = position_is (λ (y : KeptChip flash.FaultState). not (is_attached y.stage)) (kept_chips bench) k h in
-      let c = chip_there flash.fault_model past.boot on.calm (starts_of flash.state past) (course_of flash.fault_model flash.state past) (kept_chips bench) bench.events bench.notes.notes bench.sessions.items on.stands k x.0 x.1 in
+      let c = chip_there flash.fault_model past.boot on.conditions.uncut (starts_of flash.state past) (course_of flash.fault_model flash.state past) (kept_chips bench) bench.events bench.notes.notes bench.sessions.items on.stands k x.0 x.1 in
       let first : unattached (course_of flash.fault_model flash.state past) ≡ Some k = attached_there past bench on ∙ h in
       let unknown = position_is (λ (d : ChipRun flash.FaultState). is_none d.known) (course_of flash.fault_model flash.state past).chips k first in
       let same : unknown.0 ≡ c.0 = cc (unknown.1, c.1) in
@@ -119,18 +119,18 @@ module _ {F : Type 0} {flash : Ghosts F} (past : Past F) (bench : Bench F flash)
       ∙ one_more_attach flash.fault_model past.boot (starts_of flash.state past) past.attaches
       ∙ ap (λ ts. attach_step flash.fault_model past.boot (sizes_in flash.state past) (course_after flash.fault_model past.boot (starts_of flash.state past) past.attaches ts)) (sym (no_turns k h))
 
-  pub attached_on : (k : ℕ) (x : KeptChip flash.FaultState) (e : PageEvent) (new : Bench F flash) → first_attaching (kept_chips bench) ≡ Some k → slice_get (kept_chips bench) k ≡ Some x → stage_event x.stage ≡ Some e
-      → DidEvent k x e bench new → IsOnCourse (with_attach past) new
-  attached_on k x e new first at has did = record {
+  attached_on : (k : ℕ) (x y : KeptChip flash.FaultState) (e : PageEvent) (new : Bench F C flash) → first_attaching (kept_chips bench) ≡ Some k → slice_get (kept_chips bench) k ≡ Some x
+      → stage_event x.stage ≡ Some e → slice_get (kept_flips_before flash.fault_model past.boot.flips (bench.events + 1) (kept_chips bench)) k ≡ Some y
+      → DidEvent past.boot.flips k y e bench new → IsOnCourse (with_attach past) new
+  attached_on k x y e new first at has flipped did = record {
     conditions = on.conditions;
-    calm = on.calm;
     stands = subst (λ course. StandsAt past course new) (sym (next_attach k first))
         (follows_as past.boot (starts_of flash.state past) (attach_step flash.fault_model past.boot (sizes_in flash.state past) (course_of flash.fault_model flash.state past))
-        (change_at (kept_chips bench) k (λ y. with_news_told (after_event flash.fault_model e y))) (kept_chips new) (bench.events + 1) new.events
-        (bench.notes.notes ++ failure_notes k (bench.events + 1) e (failure_told flash.fault_model x.state e) ++ news_notes k (after_event flash.fault_model e x).news) new.notes.notes
+        (change_at (kept_flips_before flash.fault_model past.boot.flips (bench.events + 1) (kept_chips bench)) k (λ z. with_news_told (after_event flash.fault_model e z))) (kept_chips new) (bench.events + 1) new.events
+        (bench.notes.notes ++ failure_notes k (bench.events + 1) e (failure_told flash.fault_model y.state e) ++ news_notes k (after_event flash.fault_model e y).news) new.notes.notes
         bench.sessions.items new.sessions.items did.chips did.events did.notes did.sessions
-        (follows_attach flash.fault_model past.boot on.calm (starts_of flash.state past) (course_of flash.fault_model flash.state past) (kept_chips bench) bench.events bench.notes.notes bench.sessions.items
-        on.stands k x e first at has));
+        (follows_attach flash.fault_model past.boot on.conditions.uncut (starts_of flash.state past) (course_of flash.fault_model flash.state past) (kept_chips bench) bench.events bench.notes.notes bench.sessions.items
+        on.stands k x y e first at has flipped));
     attached_first = λ j h. no_turns k first;
     attach_events = counted;
     all_busy = subst (λ ts. busy_turns flash.fault_model past.boot (starts_of flash.state past) ts (course_after flash.fault_model past.boot (starts_of flash.state past) (past.attaches + 1) []) ≡ ts) (sym (no_turns k first)) refl;
@@ -145,19 +145,30 @@ module _ {F : Type 0} {flash : Ghosts F} (past : Past F) (bench : Bench F flash)
           (ap (λ (d : Course flash.FaultState). d.dark) (sym here) ∙ on.stands.keeps.lit) (ap unattached (sym here) ∙ attached_there past bench on ∙ first)
           ∙ ap (λ n. n + 1) on.attach_events
 
+  -- the flips that are due are made, and the first chip that is not attached does its event
+  pub attached_now : (k : ℕ) (new : Bench F C flash) → first_attaching (kept_chips bench) ≡ Some k → (flips : List Flip) → flips ≡ past.boot.flips
+      → ((y : KeptChip flash.FaultState) (e : PageEvent) → slice_get (kept_flips_before flash.fault_model flips (bench.events + 1) (kept_chips bench)) k ≡ Some y → stage_event y.stage ≡ Some e
+      → DidEvent flips k y e bench new)
+      → IsOnCourse (with_attach past) new
+  attached_now k new first flips same did =
+      let there = attach_there k first in
+      let flipped = flipped_at flash.fault_model past.boot.flips (bench.events + 1) (kept_chips bench) k there.0 there.2 in
+      let now = subst (λ fs. (y : KeptChip flash.FaultState) (e : PageEvent) → slice_get (kept_flips_before flash.fault_model fs (bench.events + 1) (kept_chips bench)) k ≡ Some y
+      → stage_event y.stage ≡ Some e → DidEvent fs k y e bench new) same did in
+      attached_on k there.0 flipped.0 there.1 new first there.2 there.3 flipped.1 (now flipped.0 there.1 flipped.1 (ap stage_event flipped.2.stage ∙ there.3))
+
   -- one more turn
   pub next_turn : (session : ℕ) → course_of flash.fault_model flash.state (with_turn past session) ≡ next_course flash.fault_model flash.state past session
   next_turn session = one_more_turn flash.fault_model past.boot (starts_of flash.state past) past.attaches past.turns session
 
   pub next_attached : (session : ℕ) → unattached (course_of flash.fault_model flash.state past) ≡ None → unattached (course_of flash.fault_model flash.state (with_turn past session)) ≡ None
-  next_attached session h = ap unattached (next_turn session) ∙ stays_attached flash.fault_model past.boot on.calm (sizes_in flash.state past) (course_of flash.fault_model flash.state past) session h
+  next_attached session h = ap unattached (next_turn session) ∙ stays_attached flash.fault_model past.boot on.conditions.uncut (sizes_in flash.state past) (course_of flash.fault_model flash.state past) session h
 
-  pub turned_on : (session : ℕ) (new : Bench F flash) → unattached (course_of flash.fault_model flash.state past) ≡ None
+  pub turned_on : (session : ℕ) (new : Bench F C flash) → unattached (course_of flash.fault_model flash.state past) ≡ None
       → is_idle past.boot.partitions (sizes_in flash.state past) (course_of flash.fault_model flash.state past) session ≡ false
       → StandsAt past (next_course flash.fault_model flash.state past session) new → IsOnCourse (with_turn past session) new
   turned_on session new attached busy stands = record {
     conditions = on.conditions;
-    calm = on.calm;
     stands = subst (λ course. StandsAt past course new) (sym (next_turn session)) stands;
     attached_first = λ k h. let none : None ≡ Some k = sym (next_attached session attached) ∙ h in cc;
     attach_events = on.attach_events;

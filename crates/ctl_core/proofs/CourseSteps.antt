@@ -1,22 +1,22 @@
--- The steps of a course without flips and cut, and what its controller keeps after each.
+-- The steps of a course that is not cut, and what its controller keeps after each.
 use Rattle.std.proofs.Common.{◌≡◌, ℕ, ◌+◌, Bool, true, false, not, ◌&&◌, List, [], ◌∷◌, ◌++◌, Option, Some, None, refl, ap, sym, ◌∙◌, subst}
-use Rattle.std.specs.Prelude.{slice_get, fold, filter, map, is_none, is_some, if◌then◌else◌, ◌==◌, ◌||◌}
+use Rattle.std.specs.Prelude.{slice_get, map, is_none, is_some, if◌then◌else◌, ◌==◌, ◌||◌}
 use Rattle.nand_model.specs.declared.geometry.Geometry.{Geometry}
 use Rattle.nand_model.specs.declared.words.Command.{Command}
-use Rattle.nand_model.specs.declared.words.Flip.{Flip}
 use Rattle.nand_model.specs.declared.words.Note.{Note}
 use Rattle.nand_model.specs.declared.words.Note.TheVariants.{Began, Answered}
 use Rattle.nand_model.specs.declared.words.Op.{Op}
 use Rattle.nand_model.specs.Chip.{ChipState, FaultModel, PageEvent}
 use Rattle.nand_model.specs.Operation.{Partitions, Known, Finished, device_of}
 use Rattle.nand_model.specs.ChipRun.{ChipRun, Pending, next_chip_event, advanced, attach_notes, notes_of_advance, with_pending, with_finished, finished_by}
-use Rattle.run_model.specs.Laws.{IsCalm}
-use Rattle.run_model.specs.Course.{Boot, Course, SessionRun, change_at, chip_of, next_op, session_run, pending_chip, unattached, is_pending_of, began, finish, with_answer, is_free, is_free_at, can_begin, is_idle, tear_at, with_flip, with_flips_before, event_done, event_on, event_step, event_or_answer, chip_step, begin_on, begin_at, begin_step, session_step, turn_unless, turn_step, attach_first, attach_step, replied}
+use Rattle.run_model.specs.Course.{Boot, Course, SessionRun, change_at, chip_of, next_op, session_run, pending_chip, unattached, is_pending_of, began, finish, with_answer, is_free, is_free_at, can_begin, is_idle, tear_at, with_flips_before, event_done, event_on, event_step, event_or_answer, chip_step, begin_on, begin_at, begin_step, session_step, turn_unless, turn_step, attach_first, attach_step, replied}
 use Rattle.chip_model.specs.Stage.{stage_event, stage_of, stage_by, failure_told, finished_in, is_resting, is_attached}
 use Rattle.run_laws.proofs.Places.{position_none}
 use Rattle.ctl_core.specs.KeptChip.{KeptChip, kept_as, all_kept, is_held_by, first_attaching, first_held_by, after_event, after_begin, after_answer, with_news_told, failure_notes, news_notes, holder_by}
+use Rattle.ctl_core.specs.Flips.{kept_flips_before}
 use Rattle.ctl_core.specs.Keeps.{Keeps}
 use Rattle.ctl_core.proofs.ChipSteps.{works, next_is, begun, answered, kept_advanced, failure_is, news_is}
+use Rattle.ctl_core.proofs.Flipped.{flips_kept}
 use Rattle.ctl_core.proofs.Positions.{position_kept, mapped_change, mapped_at}
 
 held_by_session : (session : ℕ) (k : Option Known) (p : Option Pending) → is_none k ≡ false → is_pending_of session p ≡ is_held_by session (holder_by k p)
@@ -94,39 +94,40 @@ module _ {W : Type 0} (model : FaultModel W) (boot : Boot) (sizes : Command → 
   pub turn_is_idle : is_idle boot.partitions sizes course session ≡ true → turn_step model boot sizes course session ≡ course
   turn_is_idle h = ap (λ b. turn_unless model boot b sizes course session) h
 
-module _ {W : Type 0} (model : FaultModel W) (boot : Boot) (calm : IsCalm boot) (sizes : Command → Geometry) (course : Course W) where
-  -- a course after the next event of a chip
+module _ {W : Type 0} (model : FaultModel W) (boot : Boot) (uncut : boot.cut ≡ None) (sizes : Command → Geometry) (course : Course W) where
+  -- the chips after the flips that are due before the next event
+  abbrev pub after_flips : List (ChipRun W)
+  after_flips = with_flips_before model boot (course.events + 1) course.chips
+
+  -- a course after these flips and the next event of a chip, which stood so after them
   abbrev pub after_chip_event : ℕ → ChipRun W → PageEvent → Course W
   after_chip_event k c e = record {
-    chips = change_at course.chips k (λ old. advanced model c e);
+    chips = change_at after_flips k (λ old. advanced model c e);
     sessions = course.sessions;
     events = course.events + 1;
     dark = false;
     notes = course.notes ++ notes_of_advance model k (course.events + 1) c e ++ attach_notes k c (advanced model c e);
   }
 
-  no_flips : (n : ℕ) (chips : List (ChipRun W)) → with_flips_before model boot n chips ≡ chips
-  no_flips n chips = ap (λ flips. fold (with_flip model boot) chips (filter (λ (flip : Flip). flip.before == n) flips)) calm.no_flip
-
-  pub event_is : (k : ℕ) (c : ChipRun W) (e : PageEvent) → slice_get course.chips k ≡ Some c → event_step model boot course k e ≡ after_chip_event k c e
+  pub event_is : (k : ℕ) (c : ChipRun W) (e : PageEvent) → slice_get after_flips k ≡ Some c → event_step model boot course k e ≡ after_chip_event k c e
   event_is k c e at =
-      ap (λ chips. event_on model boot course chips k (slice_get chips k) e) (no_flips (course.events + 1) course.chips)
-      ∙ ap (λ o. event_on model boot course course.chips k o e) at
-      ∙ ap (λ cut. event_done model boot course course.chips k (course.events + 1) c e (tear_at cut (course.events + 1))) calm.no_cut
+      ap (λ o. event_on model boot course after_flips k o e) at
+      ∙ ap (λ cut. event_done model boot course after_flips k (course.events + 1) c e (tear_at cut (course.events + 1))) uncut
 
   -- the first chip that is not attached has an event
-  pub attach_step_is : (k : ℕ) (c : ChipRun W) (e : PageEvent) → course.dark ≡ false → unattached course ≡ Some k → slice_get course.chips k ≡ Some c → next_chip_event boot.partitions c ≡ Some e
-      → attach_step model boot sizes course ≡ after_chip_event k c e
-  attach_step_is k c e lit first at next =
+  pub attach_step_is : (k : ℕ) (c now : ChipRun W) (e : PageEvent) → course.dark ≡ false → unattached course ≡ Some k → slice_get course.chips k ≡ Some c
+      → next_chip_event boot.partitions c ≡ Some e → slice_get after_flips k ≡ Some now → attach_step model boot sizes course ≡ after_chip_event k now e
+  attach_step_is k c now e lit first at next flipped =
       ap (λ b. if b then course else attach_first model boot sizes course (unattached course)) lit
       ∙ ap (attach_first model boot sizes course) first ∙ ap (chip_step model boot sizes course k) at
-      ∙ ap (event_or_answer model boot sizes course k c) next ∙ event_is k c e at
+      ∙ ap (event_or_answer model boot sizes course k c) next ∙ event_is k now e flipped
 
   -- a pending operation has an event
-  pub turn_event_is : (session k : ℕ) (c : ChipRun W) (e : PageEvent) → course.dark ≡ false → unattached course ≡ None → pending_chip course session ≡ Some k
-      → slice_get course.chips k ≡ Some c → next_chip_event boot.partitions c ≡ Some e → turn_step model boot sizes course session ≡ after_chip_event k c e
-  turn_event_is session k c e lit attached h at next =
-      turn_goes_on model boot sizes course session lit attached k c h at ∙ ap (event_or_answer model boot sizes course k c) next ∙ event_is k c e at
+  pub turn_event_is : (session k : ℕ) (c now : ChipRun W) (e : PageEvent) → course.dark ≡ false → unattached course ≡ None → pending_chip course session ≡ Some k
+      → slice_get course.chips k ≡ Some c → next_chip_event boot.partitions c ≡ Some e → slice_get after_flips k ≡ Some now
+      → turn_step model boot sizes course session ≡ after_chip_event k now e
+  turn_event_is session k c now e lit attached h at next flipped =
+      turn_goes_on model boot sizes course session lit attached k c h at ∙ ap (event_or_answer model boot sizes course k c) next ∙ event_is k now e flipped
 
   -- a pending operation is answered
   pub turn_answer_is : (session k : ℕ) (c : ChipRun W) (known : Known) (pending : Pending) (finished : Finished) → course.dark ≡ false → unattached course ≡ None → pending_chip course session ≡ Some k
@@ -136,15 +137,19 @@ module _ {W : Type 0} (model : FaultModel W) (boot : Boot) (calm : IsCalm boot) 
       turn_goes_on model boot sizes course session lit attached k c h at ∙ ap (event_or_answer model boot sizes course k c) next
       ∙ (λ j. with_answer boot.partitions sizes course k c (is_known j) (is_pending j)) ∙ ap (finish sizes course k c pending.session) over
 
-  -- what is kept after an event
+  -- what is kept after an event, of a chip that stood so after the flips
   pub event_kept : (kept : List (KeptChip W)) (events : ℕ) (notes : List Note) (k : ℕ) (c : ChipRun W) (e : PageEvent)
-      → Keeps boot.partitions course kept events notes → slice_get course.chips k ≡ Some c
-      → Keeps boot.partitions (after_chip_event k c e) (change_at kept k (λ x. with_news_told (after_event model e x))) (events + 1)
+      → Keeps boot.partitions course kept events notes → slice_get after_flips k ≡ Some c
+      → Keeps boot.partitions (after_chip_event k c e)
+      (change_at (kept_flips_before model boot.flips (events + 1) kept) k (λ x. with_news_told (after_event model e x))) (events + 1)
       (notes ++ failure_notes k (events + 1) e (failure_told model c.chip e) ++ news_notes k (after_event model e (kept_as boot.partitions c)).news)
   event_kept kept events notes k c e keeps at = record {
     lit = refl;
-    of_chips = ap (λ xs. change_at xs k (λ x. with_news_told (after_event model e x))) keeps.of_chips
-        ∙ sym (mapped_change (kept_as boot.partitions) (λ old. advanced model c e) (λ x. with_news_told (after_event model e x)) course.chips k c at (kept_advanced boot.partitions model c e));
+    of_chips =
+        let flipped : kept_flips_before model boot.flips (events + 1) kept ≡ all_kept boot.partitions after_flips =
+        (λ j. kept_flips_before model boot.flips (keeps.of_events j + 1) (keeps.of_chips j)) ∙ sym (flips_kept model boot.partitions boot (course.events + 1) course.chips) in
+        ap (λ xs. change_at xs k (λ x. with_news_told (after_event model e x))) flipped
+        ∙ sym (mapped_change (kept_as boot.partitions) (λ old. advanced model c e) (λ x. with_news_told (after_event model e x)) after_flips k c at (kept_advanced boot.partitions model c e));
     of_events = ap (λ n. n + 1) keeps.of_events;
     of_notes = let failed : failure_notes k (events + 1) e (failure_told model c.chip e) ≡ notes_of_advance model k (course.events + 1) c e =
         ap (λ n. failure_notes k (n + 1) e (failure_told model c.chip e)) keeps.of_events ∙ sym (failure_is boot.partitions model k (course.events + 1) c e) in

@@ -28,8 +28,6 @@ use Rattle.session_steps.specs.declared.session.Session.{Session}
 use Rattle.session_steps.specs.Standing.{Standing, standing, outcomes_by, commands_by, First}
 use Rattle.session_steps.specs.Mirrors.{CanAllRun, GoesOn, Shows, Mirrors}
 use Rattle.session_steps.proofs.Scripts.{an_op}
-use Rattle.session_steps.proofs.RawOps.{next_raw}
-use Rattle.chip_model.specs.Raw.{IsRaw}
 use Rattle.chip_core.specs.Begin.{HasDevice, CanBegin}
 use Rattle.ctl_core.specs.Start.{CanStart, IsOnChip, IsOfDevice}
 

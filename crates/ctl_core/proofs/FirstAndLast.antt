@@ -11,7 +11,6 @@ use Rattle.nand_model.specs.declared.words.Note.{Note}
 use Rattle.nand_model.specs.Chip.{ChipState, FaultModel}
 use Rattle.nand_model.specs.Operation.{Partitions}
 use Rattle.nand_model.specs.ChipRun.{ChipRun, chip_at_start}
-use Rattle.run_model.specs.Laws.{IsCalm}
 use Rattle.run_model.specs.Course.{Boot, Course, SessionRun, course_after, start_of_boot, sizes_of, is_over, is_finished, unattached, without_finished}
 use Rattle.run_laws.proofs.Places.{position_is, position_none}
 use Rattle.run_laws.proofs.Sessions.{number_stays}
@@ -92,7 +91,7 @@ same_none None false h = cc
 same_none (Some k) true h = cc
 same_none (Some k) false h = ((λ e. cc), (λ e. (k, refl)))
 
-module _ {F : Type 0} {flash : Ghosts F} (past : Past F) (bench : Bench F flash) (on : IsOnCourse past bench) where
+module _ {F C : Type 0} {flash : Ghosts F} (past : Past F) (bench : Bench F C flash) (on : IsOnCourse past bench) where
   over_by : (dark known done : Bool) → dark ≡ false → known ≡ true → done ≡ (dark || (known && done))
   over_by true known done d k = cc
   over_by false true done d k = refl
@@ -163,12 +162,11 @@ kept_at_start partitions [] = refl
 kept_at_start partitions (s ∷ starts) = ap (λ zs. kept_first s ∷ zs) (kept_at_start partitions starts)
 
 -- a controller at its start
-pub start_on : {F : Type 0} {flash : Ghosts F} (boot : Boot) (flashes : List F) (bench : Bench F flash) → CanStart boot (map flash.state flashes) → IsCalm boot
+pub start_on : {F C : Type 0} {flash : Ghosts F} (boot : Boot) (flashes : List F) (bench : Bench F C flash) → CanStart boot (map flash.state flashes)
     → map kept_slot bench.slots.items ≡ map kept_first (map flash.state flashes) → AreFresh boot.sessions bench.sessions.items → bench.events ≡ 0 → bench.notes.notes ≡ []
     → IsOnCourse (at_start boot flashes) bench
-start_on {F} {flash} boot flashes bench start calm slots fresh events notes = record {
+start_on {F} {C} {flash} boot flashes bench start slots fresh events notes = record {
   conditions = start;
-  calm = calm;
   stands = record {
     keeps = record {
       lit = refl;

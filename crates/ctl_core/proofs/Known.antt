@@ -1,16 +1,17 @@
 -- Chips that are attached stay so, whatever the turns.
-use Rattle.std.proofs.Common.{◌≡◌, ◌⊎◌, inl, inr, ℕ, ◌+◌, Bool, true, false, List, [], ◌∷◌, ◌++◌, Option, Some, None, refl, ap, sym, ◌∙◌, subst}
+use Rattle.std.proofs.Common.{◌≡◌, ◌⊎◌, inl, inr, ℕ, zero, suc, ◌+◌, Bool, true, false, List, [], ◌∷◌, ◌++◌, Option, Some, None, refl, ap, sym, ◌∙◌, subst}
 use Rattle.std.specs.Prelude.{slice_get, position, is_none, is_some, if◌then◌else◌, fold}
 use Rattle.nand_model.specs.declared.geometry.Geometry.{Geometry}
 use Rattle.nand_model.specs.declared.words.Command.{Command}
+use Rattle.nand_model.specs.declared.words.Flip.{Flip}
 use Rattle.nand_model.specs.declared.words.Op.{Op}
 use Rattle.nand_model.specs.Chip.{ChipState, FaultModel, PageEvent, Complete, happens}
 use Rattle.nand_model.specs.Path.{answer_to}
 use Rattle.nand_model.specs.Operation.{Known, Finished, device_of}
-use Rattle.nand_model.specs.ChipRun.{ChipRun, Pending, next_chip_event, finished_by, answered_by, advanced}
-use Rattle.run_model.specs.Laws.{IsCalm}
-use Rattle.run_model.specs.Course.{Boot, Course, change_at, chip_of, next_op, session_run, pending_chip, unattached, is_idle, with_answer, finish, event_or_answer, chip_step, began, begin_on, begin_at, begin_step, session_step, turn_unless, turn_step}
+use Rattle.nand_model.specs.ChipRun.{ChipRun, Pending, next_chip_event, finished_by, answered_by, advanced, with_flips}
+use Rattle.run_model.specs.Course.{Boot, Course, change_at, with_flip, with_flips_before, chip_of, next_op, session_run, pending_chip, unattached, is_idle, with_answer, finish, event_or_answer, chip_step, began, begin_on, begin_at, begin_step, session_step, turn_unless, turn_step}
 use Rattle.run_laws.proofs.Places.{position_none}
+use Rattle.ctl_core.specs.Flips.{due_flips}
 use Rattle.ctl_core.proofs.Positions.{nowhere}
 use Rattle.ctl_core.proofs.Places.{changed_at}
 use Rattle.ctl_core.proofs.CourseSteps.{event_is}
@@ -33,13 +34,40 @@ known_change {W} chips k f h new j c at = by_case (changed_at chips k j f c at)
     by_case (inl (x, e, old, is)) = ap (λ (y : ChipRun W). is_none y.known) is ∙ new x old
     by_case (inr (n, old)) = h j c old
 
-module _ {W : Type 0} (model : FaultModel W) (boot : Boot) (calm : IsCalm boot) (sizes : Command → Geometry) (course : Course W) (known : AllKnown course.chips) where
+-- a chip that is there is there after a change of one
+changed_there : {A : Type 0} (xs : List A) (k j : ℕ) (f : A → A) (x : A) → slice_get xs k ≡ Some x → (y : A) × (slice_get (change_at xs j f) k ≡ Some y)
+changed_there [] k j f x h = cc
+changed_there (z ∷ zs) zero zero f x h = (f z, refl)
+changed_there (z ∷ zs) zero (suc j) f x h = (z, refl)
+changed_there (z ∷ zs) (suc k) zero f x h = (x, h)
+changed_there (z ∷ zs) (suc k) (suc j) f x h = changed_there zs k j f x h
+
+module _ {W : Type 0} (model : FaultModel W) (boot : Boot) where
+  flips_known : (flips : List Flip) (chips : List (ChipRun W)) → AllKnown chips → AllKnown (fold (with_flip model boot) chips flips)
+  flips_known [] chips h = h
+  flips_known (flip ∷ flips) chips h =
+      flips_known flips (with_flip model boot chips flip) (known_change chips flip.chip (λ c. with_flips model c flip.page flip.bits) h (λ c at. h flip.chip c at))
+
+  there_after : (flips : List Flip) (chips : List (ChipRun W)) (k : ℕ) (c : ChipRun W) → slice_get chips k ≡ Some c → (d : ChipRun W) × (slice_get (fold (with_flip model boot) chips flips) k ≡ Some d)
+  there_after [] chips k c at = (c, at)
+  there_after (flip ∷ flips) chips k c at =
+      let now = changed_there chips k flip.chip (λ d. with_flips model d flip.page flip.bits) c at in
+      there_after flips (with_flip model boot chips flip) k now.0 now.1
+
+module _ {W : Type 0} (model : FaultModel W) (boot : Boot) (uncut : boot.cut ≡ None) (sizes : Command → Geometry) (course : Course W) (known : AllKnown course.chips) where
   advanced_known : (c : ChipRun W) (e : PageEvent) → is_none c.known ≡ false → is_none (advanced model c e).known ≡ false
   advanced_known c e h = by_known c.known h
     where
       by_known : (k : Option Known) → is_none k ≡ false → is_none (answered_by (record c { known = k }) (happens model c.chip (Complete e)) (answer_to model c.chip e) k).known ≡ false
       by_known None i = cc
       by_known (Some x) i = refl
+
+  -- the flips that are due leave each chip attached
+  flipped_known : AllKnown (with_flips_before model boot (course.events + 1) course.chips)
+  flipped_known = flips_known model boot (due_flips boot.flips (course.events + 1)) course.chips known
+
+  flipped_there : (k : ℕ) (c : ChipRun W) → slice_get course.chips k ≡ Some c → (d : ChipRun W) × (slice_get (with_flips_before model boot (course.events + 1) course.chips) k ≡ Some d)
+  flipped_there k c at = there_after model boot (due_flips boot.flips (course.events + 1)) course.chips k c at
 
   finish_known : (k : ℕ) (c : ChipRun W) (session : ℕ) (o : Option Finished) → AllKnown (finish sizes course k c session o).chips
   finish_known k c session None = known
@@ -52,8 +80,11 @@ module _ {W : Type 0} (model : FaultModel W) (boot : Boot) (calm : IsCalm boot) 
 
   next_known : (k : ℕ) (c : ChipRun W) (o : Option PageEvent) → slice_get course.chips k ≡ Some c → AllKnown (event_or_answer model boot sizes course k c o).chips
   next_known k c None at = answer_known k c c.known c.pending
-  next_known k c (Some e) at = subst (λ (d : Course W). AllKnown d.chips) (sym (event_is model boot calm sizes course k c e at))
-      (known_change course.chips k (λ old. advanced model c e) known (λ d there. advanced_known c e (known k c at)))
+  next_known k c (Some e) at =
+      let now = flipped_there k c at in
+      subst (λ (d : Course W). AllKnown d.chips) (sym (event_is model boot uncut sizes course k now.0 e now.1))
+      (known_change (with_flips_before model boot (course.events + 1) course.chips) k (λ old. advanced model now.0 e) flipped_known
+      (λ d there. advanced_known now.0 e (flipped_known k now.0 now.1)))
 
   chip_known : (k : ℕ) (o : Option (ChipRun W)) → slice_get course.chips k ≡ o → AllKnown (chip_step model boot sizes course k o).chips
   chip_known k None at = known
@@ -87,6 +118,6 @@ module _ {W : Type 0} (model : FaultModel W) (boot : Boot) (calm : IsCalm boot) 
       by_idle false = step_known session (pending_chip course session)
 
 -- a turn leaves all chips attached
-pub stays_attached : {W : Type 0} (model : FaultModel W) (boot : Boot) (calm : IsCalm boot) (sizes : Command → Geometry) (course : Course W) (session : ℕ)
+pub stays_attached : {W : Type 0} (model : FaultModel W) (boot : Boot) (uncut : boot.cut ≡ None) (sizes : Command → Geometry) (course : Course W) (session : ℕ)
     → unattached course ≡ None → unattached (turn_step model boot sizes course session) ≡ None
-stays_attached model boot calm sizes course session h = none_unattached (turn_step model boot sizes course session) (turn_known model boot calm sizes course (all_known course h) session)
+stays_attached model boot uncut sizes course session h = none_unattached (turn_step model boot sizes course session) (turn_known model boot uncut sizes course (all_known course h) session)

@@ -19,7 +19,7 @@ use Rattle.ctl_core.proofs.LastStates.{same_mapped}
 contains_at : {A : Type 0} (xs : List A) (k : ℕ) (x : A) → slice_get xs k ≡ Some x → Contains xs x
 contains_at xs k x at = (k, slice_get_within xs k x at, get_or_from_slice_get xs k x x at)
 
-module _ {F : Type 0} {flash : Ghosts F} (past : Past F) (bench : Bench F flash) (on : IsOnCourse past bench) where
+module _ {F C : Type 0} {flash : Ghosts F} (past : Past F) (bench : Bench F C flash) (on : IsOnCourse past bench) where
   -- the outcomes of the course are those that its notes make of the boot's sessions
   pub last_ends : map end_of_run (course_of flash.fault_model flash.state past).sessions
       ≡ ends_by_notes past.boot (starts_of flash.state past) (course_of flash.fault_model flash.state past).notes

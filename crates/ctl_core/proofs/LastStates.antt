@@ -78,7 +78,7 @@ states_kept : {W : Type 0} (partitions : Partitions) (chips : List (ChipRun W)) 
 states_kept partitions [] = refl
 states_kept partitions (c ∷ chips) = ap (λ zs. c.chip ∷ zs) (states_kept partitions chips)
 
-statistics_by : {W : Type 0} (partitions : Partitions) (c : ChipRun W) (known : Option Known) (pending : Option Pending) (dev : ℕ) → stage_statistics (stage_by partitions c known pending) dev ≡ statistics_known known dev
+pub statistics_by : {W : Type 0} (partitions : Partitions) (c : ChipRun W) (known : Option Known) (pending : Option Pending) (dev : ℕ) → stage_statistics (stage_by partitions c known pending) dev ≡ statistics_known known dev
 statistics_by partitions c None pending dev = refl
 statistics_by partitions c (Some known) None dev = refl
 statistics_by partitions c (Some known) (Some pending) dev = refl
@@ -110,7 +110,7 @@ found_passes test is_it (y ∷ ys) x h g = by_test (is_it y) g (found_passes tes
     by_test true e later = let same : y ≡ x = cc in ap test (sym same) ∙ (and_parts _ _ h).0
     by_test false e later = later e
 
-module _ {F : Type 0} {flash : Ghosts F} (past : Past F) (bench : Bench F flash) (on : IsOnCourse past bench) where
+module _ {F C : Type 0} {flash : Ghosts F} (past : Past F) (bench : Bench F C flash) (on : IsOnCourse past bench) where
   -- the parts lie on chips that are there
   pub parts_there : All (λ (part : Part). part.chip < length bench.slots.items) past.boot.partitions.parts
   parts_there k d h =

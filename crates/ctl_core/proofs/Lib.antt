@@ -4,7 +4,9 @@ pub mod CourseSteps
 pub mod Pending
 pub mod Places
 pub mod Sessions
+pub mod Flipped
 pub mod Turns
+pub mod FlipSteps
 pub mod Slots
 pub mod Devices
 pub mod OnCourse
@@ -15,5 +17,6 @@ pub mod Limits
 pub mod CoreSteps
 pub mod FirstAndLast
 pub mod LastStates
+pub mod Sums
 pub mod Exchanges
 pub mod LastEnds

@@ -19,7 +19,7 @@ use Rattle.run_laws.proofs.Courses.{ChipsHold, EndOf, by_log, Holds, place_start
 use Rattle.run_laws.proofs.Faithful.{log_of}
 use Rattle.run_laws.proofs.Places.{position_is, position_none}
 use Rattle.cost_laws.specs.Cost.{boot_cost}
-use Rattle.cost_laws.specs.Laws.{blocks_of, HaveNoTables}
+use Rattle.cost_laws.specs.Laws.{blocks_of}
 use Rattle.cost_laws.proofs.Bounds.{busy_few, events_few}
 use Rattle.cost_laws.proofs.Attaches.{attaches_few}
 use Rattle.tool_steps.specs.Boot.{session_number}
@@ -27,13 +27,15 @@ use Rattle.session_steps.specs.declared.session.Session.{Session}
 use Rattle.session_steps.specs.Standing.{number_of}
 use Rattle.chip_model.specs.Stage.{is_working, stage_by}
 use Rattle.ctl_core.specs.declared.bench.Bench.{Bench}
+use Rattle.ctl_core.specs.declared.bench.Slot.{Slot}
 use Rattle.ctl_core.specs.KeptChip.{KeptChip, kept_as, holder_by, first_attaching, first_held_by, is_held_by}
 use Rattle.ctl_core.specs.Past.{Past, starts_of, sizes_in, course_of}
-use Rattle.ctl_core.specs.Start.{CanStart, IsPlain, HasSession}
+use Rattle.ctl_core.specs.Start.{CanStart, HasSession}
 use Rattle.ctl_core.specs.Bench.{kept_slot, kept_chips, IsOnCourse, IsAtTurn}
 use Rattle.ctl_core.proofs.Places.{item_at}
 use Rattle.ctl_core.proofs.Positions.{mapped_length, position_kept}
 use Rattle.ctl_core.proofs.Sessions.{one_number_each}
+use Rattle.ctl_core.proofs.Slots.{kept_at}
 use Rattle.ctl_core.proofs.Turns.{chip_there, unattached_there, found_held}
 use Rattle.ctl_core.proofs.OnCourse.{holds, mapped_some}
 
@@ -52,13 +54,6 @@ no_more_chips {W} model boot starts course holds = by_order (cases_lt (length st
     by_order (inl l) = let c = item_at course.chips (length starts) l in absurd (let below = chips_began model boot starts course holds (length starts) c.0 c.1 in omega (arith, below))
     by_order (inr h) = h
 
--- what follows from a property of all items
-all_map : {A : Type 0} (P Q : A → Type 0) (xs : List A) → ((x : A) → P x → Q x) → All P xs → All Q xs
-all_map P Q xs f all k d h = f _ (all k d h)
-
-pub without_tables : {W : Type 0} (starts : List (ChipState W)) → All IsPlain starts → HaveNoTables starts
-without_tables starts all = all_map IsPlain (λ s. s.geometry.bbt ≡ 0) starts (λ s plain. plain.without_tables) all
-
 blocks_few : {W : Type 0} (starts : List (ChipState W)) → blocks_of starts ≤ length starts * 4096
 blocks_few {W} starts = sum_by-le (λ (s : ChipState W). s.geometry.blocks) 4096 starts
     (λ k d h. small (get_or starts k d).geometry)
@@ -72,7 +67,7 @@ working_by partitions c None p by h = cc
 working_by partitions c (Some known) None by h = cc
 working_by partitions c (Some known) (Some pending) by h = refl
 
-module _ {F : Type 0} {flash : Ghosts F} (past : Past F) (bench : Bench F flash) (on : IsOnCourse past bench) where
+module _ {F C : Type 0} {flash : Ghosts F} (past : Past F) (bench : Bench F C flash) (on : IsOnCourse past bench) where
   pub few_slots : length bench.slots.items ≤ 8
   few_slots =
       let kept : length (kept_chips bench) ≡ length (course_of flash.fault_model flash.state past).chips = ap length on.stands.keeps.of_chips ∙ mapped_length (kept_as past.boot.partitions) (course_of flash.fault_model flash.state past).chips in
@@ -92,7 +87,7 @@ module _ {F : Type 0} {flash : Ghosts F} (past : Past F) (bench : Bench F flash)
   -- the attach steps
   pub few_attaches : past.attaches ≤ blocks_of (starts_of flash.state past)
   few_attaches = subst (λ n. n ≤ blocks_of (starts_of flash.state past)) on.attach_events
-      (attaches_few flash.fault_model past.boot (starts_of flash.state past) past.attaches (without_tables (starts_of flash.state past) on.conditions.plain))
+      (attaches_few flash.fault_model past.boot (starts_of flash.state past) past.attaches on.conditions.plain)
 
   pub few_blocks : blocks_of (starts_of flash.state past) ≤ 32768
   few_blocks = let blocks = blocks_few (starts_of flash.state past) in omega (arith, blocks, on.conditions.few)
@@ -107,7 +102,7 @@ module _ {F : Type 0} {flash : Ghosts F} (past : Past F) (bench : Bench F flash)
       omega (arith, events, same, starts, on.attach_events, few_attaches, few_blocks, few_turns, on.conditions.cheap, on.conditions.few, on.stands.keeps.of_events)
 
   pub attached_there : unattached (course_of flash.fault_model flash.state past) ≡ first_attaching (kept_chips bench)
-  attached_there = unattached_there flash.fault_model past.boot on.calm (starts_of flash.state past) (course_of flash.fault_model flash.state past) (kept_chips bench) bench.events bench.notes.notes bench.sessions.items on.stands
+  attached_there = unattached_there flash.fault_model past.boot on.conditions.uncut (starts_of flash.state past) (course_of flash.fault_model flash.state past) (kept_chips bench) bench.events bench.notes.notes bench.sessions.items on.stands
 
   -- a session of the boot is found
   pub place_there : (session : ℕ) → HasSession past.boot session → position (λ (s : Session). number_of s == session) bench.sessions.items ≡ None → ⊥
@@ -138,13 +133,21 @@ module _ {F : Type 0} {flash : Ghosts F} (past : Past F) (bench : Bench F flash)
       → option_map (λ (c : KeptChip flash.FaultState). is_working c.stage) (slice_get (kept_chips bench) k) ≡ Some true
   held_works session k h =
       let x = position_is (λ (y : KeptChip flash.FaultState). is_held_by session y.holder) (kept_chips bench) k h in
-      let holder = found_held flash.fault_model past.boot on.calm (starts_of flash.state past) (course_of flash.fault_model flash.state past) (kept_chips bench) bench.events bench.notes.notes bench.sessions.items on.stands
+      let holder = found_held flash.fault_model past.boot on.conditions.uncut (starts_of flash.state past) (course_of flash.fault_model flash.state past) (kept_chips bench) bench.events bench.notes.notes bench.sessions.items on.stands
       on.conditions.ascending (holds past bench on) session k x.0 h x.1 in
-      let c = chip_there flash.fault_model past.boot on.calm (starts_of flash.state past) (course_of flash.fault_model flash.state past) (kept_chips bench) bench.events bench.notes.notes bench.sessions.items on.stands k x.0 x.1 in
+      let c = chip_there flash.fault_model past.boot on.conditions.uncut (starts_of flash.state past) (course_of flash.fault_model flash.state past) (kept_chips bench) bench.events bench.notes.notes bench.sessions.items on.stands k x.0 x.1 in
       ap (option_map (λ (y : KeptChip flash.FaultState). is_working y.stage)) x.1
       ∙ ap Some (ap (λ (y : KeptChip flash.FaultState). is_working y.stage) (sym c.2)
       ∙ working_by past.boot.partitions c.0 c.0.known c.0.pending session (ap (λ (y : KeptChip flash.FaultState). y.holder) c.2 ∙ holder))
 
+  -- in its slot
+  pub held_slot : (session k : ℕ) (slot : Slot F C flash) → first_held_by session (kept_chips bench) ≡ Some k → slot ≡ get_or bench.slots.items k slot
+      → (x : KeptChip flash.FaultState) × (slice_get (kept_chips bench) k ≡ Some x) × (kept_slot slot ≡ x) × (is_working x.stage ≡ true)
+  held_slot session k slot h is =
+      let x = mapped_some (λ (y : KeptChip flash.FaultState). is_working y.stage) (slice_get (kept_chips bench) k) true (held_works session k h) in
+      let here = kept_at kept_slot bench.slots.items k slot x.0 is x.1 in
+      (x.0, x.1, here.1, x.2)
+
 -- a search in the slots is one in what is kept of them
-pub held_in_slots : {F : Type 0} {flash : Ghosts F} (bench : Bench F flash) (session : ℕ) → position (λ slot. is_held_by session slot.holder) bench.slots.items ≡ first_held_by session (kept_chips bench)
+pub held_in_slots : {F C : Type 0} {flash : Ghosts F} (bench : Bench F C flash) (session : ℕ) → position (λ slot. is_held_by session slot.holder) bench.slots.items ≡ first_held_by session (kept_chips bench)
 held_in_slots bench session = position_kept _ _ kept_slot bench.slots.items (λ k slot h. refl)

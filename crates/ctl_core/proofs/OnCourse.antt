@@ -1,13 +1,15 @@
 -- What a bench that stands on its course knows, and what a step makes of it.
 use Rattle.std.proofs.Common.{◌≡◌, ◌<◌, ◌≤◌, ◌+◌, arith, ℕ, zero, suc, Bool, true, false, not, List, [], ◌∷◌, ◌++◌, length, Option, Some, None, Result, Ok, Err, OnErr, Bor, refl, ap, sym, ◌∙◌, subst, get_or}
-use Rattle.std.specs.Prelude.{slice_get, option_copied, All, map, option_map, option_and_then, is_none, is_some, position, ⊤}
+use Rattle.std.specs.Prelude.{slice_get, option_copied, All, map, option_map, option_and_then, IsSome, is_none, is_some, position, ⊤}
 use Rattle.std.proofs.Math.ListN.{set}
 use Rattle.std.proofs.lemmas.Option.{slice_get_within, get_or_from_slice_get, slice_get-map}
+use Rattle.nand_iface.specs.Flash.{FitsBits}
 use Rattle.nand_iface.specs.declared.flash.Flash.{Ghosts}
 use Rattle.nand_model.specs.declared.geometry.Geometry.{Geometry}
 use Rattle.nand_model.specs.declared.words.Command.{Command}
 use Rattle.nand_model.specs.declared.words.Op.{Op}
 use Rattle.nand_model.specs.declared.words.Part.{Part}
+use Rattle.nand_model.specs.declared.words.Flip.{Flip}
 use Rattle.nand_model.specs.declared.words.Reply.{Reply}
 use Rattle.nand_model.specs.declared.words.Note.{Note}
 use Rattle.nand_model.specs.declared.words.Note.TheVariants.{Began, Answered}
@@ -26,8 +28,8 @@ use Rattle.tool_steps.specs.Stage.{CanRun}
 use Rattle.session_steps.specs.declared.session.Session.{Session}
 use Rattle.session_steps.specs.Standing.{number_of, standing, outcomes_by, commands_by, First}
 use Rattle.session_steps.specs.Mirrors.{Mirrors}
-use Rattle.session_steps.proofs.RawOps.{next_raw}
-use Rattle.chip_model.specs.Raw.{IsRaw}
+use Rattle.session_steps.proofs.TakenOps.{next_taken}
+use Rattle.chip_model.specs.Taken.{IsTaken}
 use Rattle.chip_model.specs.Stage.{Stage, Attaches, Rests, Works, failure_told, stage_event, finished_in, is_working, is_resting, is_attached, stage_by}
 use Rattle.chip_core.specs.Chip.{chip_stage}
 use Rattle.ctl_core.specs.declared.turn.Turn.{Turn}
@@ -37,12 +39,15 @@ use Rattle.ctl_core.specs.declared.bench.Slot.{Slot}
 use Rattle.ctl_core.specs.KeptChip.{KeptChip, kept_as, first_attaching, first_held_by, is_held_by, after_event, with_news_told, failure_notes, news_notes}
 use Rattle.ctl_core.specs.Past.{Past, starts_of, sizes_in, course_of, next_course, is_done, has_no_command, session_of, session_on, session_at}
 use Rattle.ctl_core.specs.Answer.{next_chip, held_unless_pending, held_by, held_or_did, done_or, turn_answer}
-use Rattle.ctl_core.specs.Bench.{kept_slot, kept_chips, StandsAt, IsOnCourse, IsAtTurn, DidEvent}
+use Rattle.ctl_core.specs.Bench.{kept_slot, kept_chips, StandsAt, StandsAlike, IsOnCourse, IsAtTurn, DidEvent}
+use Rattle.ctl_core.specs.Flips.{CanFlip, kept_flips_before}
 use Rattle.ctl_core.specs.Follows.{Follows}
+use Rattle.ctl_core.proofs.Places.{item_at}
 use Rattle.ctl_core.proofs.Positions.{mapped_length, at_mapped}
 use Rattle.ctl_core.proofs.CourseSteps.{resting, holding, idle_else, turn_is_idle, busy_where_pending, busy_where_begins}
 use Rattle.ctl_core.proofs.Sessions.{Placed, placed, found}
-use Rattle.ctl_core.proofs.Devices.{Ready, ready, first_at, next_of, drop_all}
+use Rattle.ctl_core.proofs.Flipped.{flipped_at}
+use Rattle.ctl_core.proofs.Devices.{Ready, ready, chip_stays, first_at, next_of, drop_all}
 use Rattle.ctl_core.proofs.Turns.{chip_there, unattached_there, pending_there, follows_as, follows_turn_event, held_next, found_held}
 
 -- an option that a function makes some of
@@ -54,9 +59,17 @@ pub and_then_some : {A B : Type 0} (f : A → Option B) (o : Option A) (y : B) �
 and_then_some f None y h = cc
 and_then_some f (Some x) y h = (x, refl, h)
 
+-- what there is, where there is some
+pub some_of : {A : Type 0} (o : Option A) → IsSome o → (x : A) × (o ≡ Some x)
+some_of None h = cc
+some_of (Some x) h = (x, refl)
+
 -- the item that was lent from a place
 pub lent_at : {A : Type 0} (xs : List A) (k : ℕ) (x lent : A) → slice_get xs k ≡ Some x → lent ≡ get_or xs k lent → slice_get xs k ≡ Some lent
 lent_at xs k x lent h is = h ∙ ap Some (sym (is ∙ get_or_from_slice_get xs k x lent h))
+
+pub lent_within : {A : Type 0} (xs : List A) (k : ℕ) (lent : A) → k < length xs → lent ≡ get_or xs k lent → slice_get xs k ≡ Some lent
+lent_within xs k lent h is = let x = item_at xs k h in lent_at xs k x.0 lent x.1 is
 
 pub first_of_list : {A : Type 0} (xs : List A) (x : A) → slice_get xs 0 ≡ Some x → (rest : List A) × (xs ≡ x ∷ rest)
 first_of_list [] x h = cc
@@ -95,7 +108,7 @@ works_on (Attaches left quiet) h i = cc
 works_on (Rests known) h i = cc
 works_on (Works known left) h i = over_or_event left i
 
-module _ {F : Type 0} {flash : Ghosts F} (past : Past F) (bench : Bench F flash) (on : IsOnCourse past bench) where
+module _ {F C : Type 0} {flash : Ghosts F} (past : Past F) (bench : Bench F C flash) (on : IsOnCourse past bench) where
   pub holds : Holds flash.fault_model past.boot (starts_of flash.state past) (course_of flash.fault_model flash.state past)
   holds = course_holds flash.fault_model past.boot (starts_of flash.state past) past.attaches past.turns
 
@@ -107,25 +120,52 @@ module _ {F : Type 0} {flash : Ghosts F} (past : Past F) (bench : Bench F flash)
       ap (λ xs. slice_get xs k) on.stands.keeps.of_chips ∙ at_mapped (kept_as past.boot.partitions) (course_of flash.fault_model flash.state past).chips k c h in
       (there, (let within : k < length (kept_chips bench) = slice_get_within (kept_chips bench) k (kept_as past.boot.partitions c) there in omega (arith, mapped_length kept_slot bench.slots.items)))
 
+  -- a flip of the boot is one of a chip in a slot
+  pub can_flip : All (CanFlip (kept_chips bench)) past.boot.flips
+  can_flip k d h =
+      let flip : Flip = get_or past.boot.flips k d in
+      let start = on.conditions.flips k d h in
+      let stays = chip_stays flash.fault_model past.boot (starts_of flash.state past) (course_of flash.fault_model flash.state past) holds flip.chip start.0 start.1 in
+      let there = slot_there flip.chip stays.0 stays.1 in
+      (kept_as past.boot.partitions stays.0, there.0, subst (λ g. FitsBits g flip.page flip.bits) (sym stays.2) start.2)
+
   -- a step that does an event
-  pub stands_event : (session k : ℕ) (x : KeptChip flash.FaultState) (e : PageEvent) (new : Bench F flash) → first_attaching (kept_chips bench) ≡ None
-      → first_held_by session (kept_chips bench) ≡ Some k → slice_get (kept_chips bench) k ≡ Some x → stage_event x.stage ≡ Some e → DidEvent k x e bench new
+  stands_event : (session k : ℕ) (x y : KeptChip flash.FaultState) (e : PageEvent) (new : Bench F C flash) → first_attaching (kept_chips bench) ≡ None
+      → first_held_by session (kept_chips bench) ≡ Some k → slice_get (kept_chips bench) k ≡ Some x → stage_event x.stage ≡ Some e
+      → slice_get (kept_flips_before flash.fault_model past.boot.flips (bench.events + 1) (kept_chips bench)) k ≡ Some y → DidEvent past.boot.flips k y e bench new
       → StandsAt past (next_course flash.fault_model flash.state past session) new
-  stands_event session k x e new attached held at has did =
+  stands_event session k x y e new attached held at has flipped did =
       follows_as past.boot (starts_of flash.state past) (next_course flash.fault_model flash.state past session)
-      (change_at (kept_chips bench) k (λ y. with_news_told (after_event flash.fault_model e y))) (kept_chips new) (bench.events + 1) new.events
-      (bench.notes.notes ++ failure_notes k (bench.events + 1) e (failure_told flash.fault_model x.state e) ++ news_notes k (after_event flash.fault_model e x).news) new.notes.notes
+      (change_at (kept_flips_before flash.fault_model past.boot.flips (bench.events + 1) (kept_chips bench)) k (λ z. with_news_told (after_event flash.fault_model e z))) (kept_chips new) (bench.events + 1) new.events
+      (bench.notes.notes ++ failure_notes k (bench.events + 1) e (failure_told flash.fault_model y.state e) ++ news_notes k (after_event flash.fault_model e y).news) new.notes.notes
       bench.sessions.items new.sessions.items did.chips did.events did.notes did.sessions
-      (follows_turn_event flash.fault_model past.boot on.calm (starts_of flash.state past) (course_of flash.fault_model flash.state past) (kept_chips bench) bench.events bench.notes.notes bench.sessions.items
-      on.stands session k x e attached held at has)
+      (follows_turn_event flash.fault_model past.boot on.conditions.uncut (starts_of flash.state past) (course_of flash.fault_model flash.state past) (kept_chips bench) bench.events bench.notes.notes bench.sessions.items
+      on.stands session k x y e attached held at has flipped)
+
+  pub stands_now : (session k : ℕ) (x : KeptChip flash.FaultState) (e : PageEvent) (new : Bench F C flash) → first_attaching (kept_chips bench) ≡ None
+      → first_held_by session (kept_chips bench) ≡ Some k → slice_get (kept_chips bench) k ≡ Some x → stage_event x.stage ≡ Some e → (flips : List Flip) → flips ≡ past.boot.flips
+      → ((y : KeptChip flash.FaultState) (e : PageEvent) → slice_get (kept_flips_before flash.fault_model flips (bench.events + 1) (kept_chips bench)) k ≡ Some y → stage_event y.stage ≡ Some e
+      → DidEvent flips k y e bench new)
+      → StandsAt past (next_course flash.fault_model flash.state past session) new
+  stands_now session k x e new attached held at has flips same did =
+      let flipped = flipped_at flash.fault_model past.boot.flips (bench.events + 1) (kept_chips bench) k x at in
+      let now = subst (λ fs. (y : KeptChip flash.FaultState) (e : PageEvent) → slice_get (kept_flips_before flash.fault_model fs (bench.events + 1) (kept_chips bench)) k ≡ Some y
+      → stage_event y.stage ≡ Some e → DidEvent fs k y e bench new) same did in
+      stands_event session k x flipped.0 e new attached held at has flipped.1 (now flipped.0 e flipped.1 (ap stage_event flipped.2.stage ∙ has))
+
+  -- a bench that differs in its room stands where it stood
+  pub stands_alike : (course : Course flash.FaultState) (new : Bench F C flash) → StandsAt past course bench → StandsAlike bench new → StandsAt past course new
+  stands_alike course new stands alike =
+      follows_as past.boot (starts_of flash.state past) course (kept_chips bench) (kept_chips new) bench.events new.events bench.notes.notes new.notes.notes bench.sessions.items new.sessions.items
+      alike.chips alike.events alike.notes alike.sessions stands
 
   -- a session that holds a chip has commands left
   pub held_not_done : (session k : ℕ) → first_held_by session (kept_chips bench) ≡ Some k → is_done (course_of flash.fault_model flash.state past) session ≡ false
   held_not_done session k h =
       let x = position_is (λ (y : KeptChip flash.FaultState). is_held_by session y.holder) (kept_chips bench) k h in
-      let holder = found_held flash.fault_model past.boot on.calm (starts_of flash.state past) (course_of flash.fault_model flash.state past) (kept_chips bench) bench.events bench.notes.notes bench.sessions.items on.stands
+      let holder = found_held flash.fault_model past.boot on.conditions.uncut (starts_of flash.state past) (course_of flash.fault_model flash.state past) (kept_chips bench) bench.events bench.notes.notes bench.sessions.items on.stands
       on.conditions.ascending holds session k x.0 h x.1 in
-      let n = held_next flash.fault_model past.boot on.calm (starts_of flash.state past) (course_of flash.fault_model flash.state past) (kept_chips bench) bench.events bench.notes.notes bench.sessions.items on.stands
+      let n = held_next flash.fault_model past.boot on.conditions.uncut (starts_of flash.state past) (course_of flash.fault_model flash.state past) (kept_chips bench) bench.events bench.notes.notes bench.sessions.items on.stands
       on.conditions.ascending holds k session x.0 x.1 holder in
       ap has_no_command n.2 ∙ asks_on n.0.replies n.1 n.0.commands n.3
     where
@@ -133,7 +173,7 @@ module _ {F : Type 0} {flash : Ghosts F} (past : Past F) (bench : Bench F flash)
       asks_on replies op [] e = cc
       asks_on replies op (command ∷ rest) e = refl
 
-module _ {F : Type 0} {flash : Ghosts F} (past : Past F) (bench : Bench F flash) (session place : ℕ) (turn : IsAtTurn past session place bench) where
+module _ {F C : Type 0} {flash : Ghosts F} (past : Past F) (bench : Bench F C flash) (session place : ℕ) (turn : IsAtTurn past session place bench) where
   -- the session whose turn it is
   pub own_session : (s : Session) → s ≡ get_or bench.sessions.items place s → (slice_get bench.sessions.items place ≡ Some s) × (number_of s ≡ session)
   own_session s is =
@@ -166,7 +206,7 @@ module _ {F : Type 0} {flash : Ghosts F} (past : Past F) (bench : Bench F flash)
       pub op : Op
       pub next : next_op (sizes_in flash.state past) (session_run (course_of flash.fault_model flash.state past) session) ≡ Some op
       pub device : device_of op ≡ command_device command
-      pub raw : IsRaw (sizes_in flash.state past command) op
+      pub taken : IsTaken (sizes_in flash.state past command) op
       pub chip : chip_of past.boot.partitions (device_of op) ≡ Some is_ready.part.chip
 
     pub first_left : (command : Command) → slice_get own_place.run.commands 0 ≡ Some command → FirstLeft command
@@ -178,17 +218,17 @@ module _ {F : Type 0} {flash : Ghosts F} (past : Past F) (bench : Bench F flash)
         place (length (outcomes_by (standing bench.notes.notes s))) own_place.own command own_place.begun_at own_at in
         let o = next_of (sizes_in flash.state past) own_place.own.1 bench.notes.notes s own_place.run own_place.mirrors command f.0 f.1 r.can in
         let all = drop_all (λ c. CanRun (sizes_in flash.state past c) c) (length (outcomes_by (standing bench.notes.notes s))) own_place.own.1 own_place.mirrors.runnable in
-        let raw = subst (First (λ c. (device_of o.0 ≡ command_device c) × IsRaw (sizes_in flash.state past c) o.0)) f.1
-        (next_raw (sizes_in flash.state past) own_place.run o.0 (subst (All (λ c. CanRun (sizes_in flash.state past c) c)) (sym own_place.mirrors.shows.left) all) o.1) in
+        let taken = subst (First (λ c. (device_of o.0 ≡ command_device c) × IsTaken (sizes_in flash.state past c) o.0)) f.1
+        (next_taken (sizes_in flash.state past) own_place.run o.0 (subst (All (λ c. CanRun (sizes_in flash.state past c) c)) (sym own_place.mirrors.shows.left) all) o.1) in
         record {
           rest = f.0;
           left = f.1;
           is_ready = r;
           op = o.0;
           next = ap (next_op (sizes_in flash.state past)) run_found ∙ o.1;
-          device = raw.0;
-          raw = raw.1;
-          chip = ap (chip_of past.boot.partitions) raw.0 ∙ ap chip_of_part r.part_is;
+          device = taken.0;
+          taken = taken.1;
+          chip = ap (chip_of past.boot.partitions) taken.0 ∙ ap chip_of_part r.part_is;
         }
 
     -- the chip of the next operation, by the command that comes next
@@ -246,35 +286,35 @@ module _ {F : Type 0} {flash : Ghosts F} (past : Past F) (bench : Bench F flash)
   answers_else p k h i j = sym ((λ d. done_or (h d) (held_or_did (held_unless_pending (course_of flash.fault_model flash.state past) (i d) (j d)))))
 
   pending_is_none : first_held_by session (kept_chips bench) ≡ None → pending_chip (course_of flash.fault_model flash.state past) session ≡ None
-  pending_is_none h = pending_there flash.fault_model past.boot turn.on_course.calm (starts_of flash.state past) (course_of flash.fault_model flash.state past) (kept_chips bench) bench.events bench.notes.notes bench.sessions.items
+  pending_is_none h = pending_there flash.fault_model past.boot turn.on_course.conditions.uncut (starts_of flash.state past) (course_of flash.fault_model flash.state past) (kept_chips bench) bench.events bench.notes.notes bench.sessions.items
       turn.on_course.stands session turn.attached ∙ h
 
   pub answers_did_pending : (k : ℕ) → is_done (course_of flash.fault_model flash.state past) session ≡ false → first_held_by session (kept_chips bench) ≡ Some k
       → Did ≡ turn_answer past.boot.partitions (sizes_in flash.state past) (course_of flash.fault_model flash.state past) session
   answers_did_pending k h i = answers_else (Some k) (next_chip past.boot.partitions (sizes_in flash.state past) (course_of flash.fault_model flash.state past) session) h
-      (pending_there flash.fault_model past.boot turn.on_course.calm (starts_of flash.state past) (course_of flash.fault_model flash.state past) (kept_chips bench) bench.events bench.notes.notes bench.sessions.items
+      (pending_there flash.fault_model past.boot turn.on_course.conditions.uncut (starts_of flash.state past) (course_of flash.fault_model flash.state past) (kept_chips bench) bench.events bench.notes.notes bench.sessions.items
       turn.on_course.stands session turn.attached ∙ i) refl
 
   -- a chip in a slot, as the course has it
-  chip_of_slot : (k : ℕ) (slot : Slot F flash) → slice_get bench.slots.items k ≡ Some slot
+  chip_of_slot : (k : ℕ) (slot : Slot F C flash) → slice_get bench.slots.items k ≡ Some slot
       → (c : ChipRun flash.FaultState) × (slice_get (course_of flash.fault_model flash.state past).chips k ≡ Some c) × (kept_as past.boot.partitions c ≡ kept_slot slot)
-  chip_of_slot k slot h = chip_there flash.fault_model past.boot turn.on_course.calm (starts_of flash.state past) (course_of flash.fault_model flash.state past) (kept_chips bench) bench.events bench.notes.notes bench.sessions.items
+  chip_of_slot k slot h = chip_there flash.fault_model past.boot turn.on_course.conditions.uncut (starts_of flash.state past) (course_of flash.fault_model flash.state past) (kept_chips bench) bench.events bench.notes.notes bench.sessions.items
       turn.on_course.stands k (kept_slot slot) (at_mapped kept_slot bench.slots.items k slot h)
 
   idle_where_blocked : first_held_by session (kept_chips bench) ≡ None
       → can_begin past.boot.partitions (course_of flash.fault_model flash.state past) (next_op (sizes_in flash.state past) (session_run (course_of flash.fault_model flash.state past) session)) ≡ false
       → is_idle past.boot.partitions (sizes_in flash.state past) (course_of flash.fault_model flash.state past) session ≡ true
   idle_where_blocked i blocked =
-      let attached = unattached_there flash.fault_model past.boot turn.on_course.calm (starts_of flash.state past) (course_of flash.fault_model flash.state past) (kept_chips bench) bench.events bench.notes.notes bench.sessions.items
+      let attached = unattached_there flash.fault_model past.boot turn.on_course.conditions.uncut (starts_of flash.state past) (course_of flash.fault_model flash.state past) (kept_chips bench) bench.events bench.notes.notes bench.sessions.items
       turn.on_course.stands ∙ turn.attached in
       idle_else flash.fault_model past.boot (sizes_in flash.state past) (course_of flash.fault_model flash.state past) session turn.on_course.stands.keeps.lit attached (pending_is_none i) blocked
 
   pub busy_pending : (k : ℕ) → first_held_by session (kept_chips bench) ≡ Some k → is_idle past.boot.partitions (sizes_in flash.state past) (course_of flash.fault_model flash.state past) session ≡ false
   busy_pending k h =
-      let attached = unattached_there flash.fault_model past.boot turn.on_course.calm (starts_of flash.state past) (course_of flash.fault_model flash.state past) (kept_chips bench) bench.events bench.notes.notes bench.sessions.items
+      let attached = unattached_there flash.fault_model past.boot turn.on_course.conditions.uncut (starts_of flash.state past) (course_of flash.fault_model flash.state past) (kept_chips bench) bench.events bench.notes.notes bench.sessions.items
       turn.on_course.stands ∙ turn.attached in
       busy_where_pending flash.fault_model past.boot (sizes_in flash.state past) (course_of flash.fault_model flash.state past) session turn.on_course.stands.keeps.lit attached k
-      (pending_there flash.fault_model past.boot turn.on_course.calm (starts_of flash.state past) (course_of flash.fault_model flash.state past) (kept_chips bench) bench.events bench.notes.notes bench.sessions.items
+      (pending_there flash.fault_model past.boot turn.on_course.conditions.uncut (starts_of flash.state past) (course_of flash.fault_model flash.state past) (kept_chips bench) bench.events bench.notes.notes bench.sessions.items
       turn.on_course.stands session turn.attached ∙ h)
 
   -- nothing is done where the next operation cannot begin
@@ -286,21 +326,21 @@ module _ {F : Type 0} {flash : Ghosts F} (past : Past F) (bench : Bench F flash)
       turn_is_idle_by : is_idle past.boot.partitions (sizes_in flash.state past) (course_of flash.fault_model flash.state past) session ≡ true
           → next_course flash.fault_model flash.state past session ≡ course_of flash.fault_model flash.state past
       turn_is_idle_by h =
-          let attached = unattached_there flash.fault_model past.boot turn.on_course.calm (starts_of flash.state past) (course_of flash.fault_model flash.state past) (kept_chips bench) bench.events bench.notes.notes bench.sessions.items
+          let attached = unattached_there flash.fault_model past.boot turn.on_course.conditions.uncut (starts_of flash.state past) (course_of flash.fault_model flash.state past) (kept_chips bench) bench.events bench.notes.notes bench.sessions.items
           turn.on_course.stands ∙ turn.attached in
           turn_is_idle flash.fault_model past.boot (sizes_in flash.state past) (course_of flash.fault_model flash.state past) session turn.on_course.stands.keeps.lit attached h
 
   -- a chip that no session holds is at rest
-  pub rests_here : (k : ℕ) (slot : Slot F flash) → slice_get bench.slots.items k ≡ Some slot → slot.holder ≡ None → is_resting (chip_stage slot.chip) ≡ true
+  pub rests_here : (k : ℕ) (slot : Slot F C flash) → slice_get bench.slots.items k ≡ Some slot → slot.holder ≡ None → is_resting (chip_stage slot.chip) ≡ true
   rests_here k slot at holder =
       let c = chip_of_slot k slot at in
-      let attached = unattached_there flash.fault_model past.boot turn.on_course.calm (starts_of flash.state past) (course_of flash.fault_model flash.state past) (kept_chips bench) bench.events bench.notes.notes bench.sessions.items
+      let attached = unattached_there flash.fault_model past.boot turn.on_course.conditions.uncut (starts_of flash.state past) (course_of flash.fault_model flash.state past) (kept_chips bench) bench.events bench.notes.notes bench.sessions.items
       turn.on_course.stands ∙ turn.attached in
       let known = position_none (λ (d : ChipRun flash.FaultState). is_none d.known) (course_of flash.fault_model flash.state past).chips attached k c.0 c.1 in
       let r = resting past.boot.partitions c.0 known (ap (λ (y : KeptChip flash.FaultState). y.holder) c.2 ∙ holder) in
       ap (λ (y : KeptChip flash.FaultState). is_resting y.stage) (sym c.2) ∙ (λ d. is_resting (stage_by past.boot.partitions c.0 (r.1 d) (r.2 d)))
 
-  pub answers_held : (k by : ℕ) (slot : Slot F flash) → is_done (course_of flash.fault_model flash.state past) session ≡ false → first_held_by session (kept_chips bench) ≡ None
+  pub answers_held : (k by : ℕ) (slot : Slot F C flash) → is_done (course_of flash.fault_model flash.state past) session ≡ false → first_held_by session (kept_chips bench) ≡ None
       → next_chip past.boot.partitions (sizes_in flash.state past) (course_of flash.fault_model flash.state past) session ≡ Some k → slice_get bench.slots.items k ≡ Some slot → slot.holder ≡ Some by
       → (Held by ≡ turn_answer past.boot.partitions (sizes_in flash.state past) (course_of flash.fault_model flash.state past) session)
       × (next_course flash.fault_model flash.state past session ≡ course_of flash.fault_model flash.state past)
@@ -315,13 +355,13 @@ module _ {F : Type 0} {flash : Ghosts F} (past : Past F) (bench : Bench F flash)
       (ap held_or_did (sym found) ∙ answers_else None (Some k) h (pending_is_none i) j, stays_where_blocked i blocked, idle_where_blocked i blocked)
 
   -- a session that holds no chip begins on a free chip
-  pub answers_did_begin : (k : ℕ) (slot : Slot F flash) → is_done (course_of flash.fault_model flash.state past) session ≡ false → first_held_by session (kept_chips bench) ≡ None
+  pub answers_did_begin : (k : ℕ) (slot : Slot F C flash) → is_done (course_of flash.fault_model flash.state past) session ≡ false → first_held_by session (kept_chips bench) ≡ None
       → next_chip past.boot.partitions (sizes_in flash.state past) (course_of flash.fault_model flash.state past) session ≡ Some k → slice_get bench.slots.items k ≡ Some slot → slot.holder ≡ None
       → (Did ≡ turn_answer past.boot.partitions (sizes_in flash.state past) (course_of flash.fault_model flash.state past) session)
       × (is_idle past.boot.partitions (sizes_in flash.state past) (course_of flash.fault_model flash.state past) session ≡ false)
   answers_did_begin k slot h i j at holder =
       let c = chip_of_slot k slot at in
-      let attached = unattached_there flash.fault_model past.boot turn.on_course.calm (starts_of flash.state past) (course_of flash.fault_model flash.state past) (kept_chips bench) bench.events bench.notes.notes bench.sessions.items
+      let attached = unattached_there flash.fault_model past.boot turn.on_course.conditions.uncut (starts_of flash.state past) (course_of flash.fault_model flash.state past) (kept_chips bench) bench.events bench.notes.notes bench.sessions.items
       turn.on_course.stands ∙ turn.attached in
       let known = position_none (λ (d : ChipRun flash.FaultState). is_none d.known) (course_of flash.fault_model flash.state past).chips attached k c.0 c.1 in
       let r = resting past.boot.partitions c.0 known (ap (λ (y : KeptChip flash.FaultState). y.holder) c.2 ∙ holder) in

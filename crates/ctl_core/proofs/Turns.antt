@@ -11,9 +11,8 @@ use Rattle.nand_model.specs.Chip.{ChipState, FaultModel, PageEvent}
 use Rattle.nand_model.specs.Path.{Path, Over, Then, first_event, result_of}
 use Rattle.nand_model.specs.Operation.{Known, Finished, device_of}
 use Rattle.nand_model.specs.ChipRun.{ChipRun, Pending, next_chip_event}
-use Rattle.run_model.specs.Laws.{IsCalm}
 use Rattle.run_laws.proofs.Sessions.{number_stays}
-use Rattle.run_model.specs.Course.{finish, Boot, Course, SessionRun, change_at, chip_of, next_op, next_op_of, session_run, pending_chip, unattached, is_pending_of, is_free, is_free_at, can_begin, is_idle, turn_step, attach_step, sizes_of, with_reply, replied}
+use Rattle.run_model.specs.Course.{finish, Boot, Course, SessionRun, change_at, chip_of, next_op, next_op_of, session_run, pending_chip, unattached, is_pending_of, is_free, is_free_at, can_begin, is_idle, turn_step, attach_step, with_flips_before, sizes_of, with_reply, replied}
 use Rattle.chip_model.specs.Stage.{Stage, Attaches, Rests, Works, stage_event, stage_of, failure_told, finished_in}
 use Rattle.run_laws.proofs.Courses.{Holds}
 use Rattle.run_laws.proofs.Places.{position_is, position_none}
@@ -21,12 +20,14 @@ use Rattle.session_steps.specs.declared.session.Session.{Session}
 use Rattle.session_steps.specs.Standing.{number_of, IsWaiting}
 use Rattle.session_steps.specs.Mirrors.{Mirrors}
 use Rattle.ctl_core.specs.KeptChip.{KeptChip, kept_as, all_kept, is_held_by, first_attaching, first_held_by, after_event, after_begin, after_answer, with_news_told, failure_notes, news_notes}
+use Rattle.ctl_core.specs.Flips.{kept_flips_before}
 use Rattle.ctl_core.specs.Keeps.{Keeps}
 use Rattle.ctl_core.specs.Sessions.{AreAscending, SessionsMirror, HoldersWait}
 use Rattle.ctl_core.specs.Follows.{Follows}
 use Rattle.ctl_core.proofs.Positions.{mapped_at, at_mapped}
 use Rattle.ctl_core.proofs.Places.{OneChanged}
 use Rattle.ctl_core.proofs.ChipSteps.{works, next_is}
+use Rattle.ctl_core.proofs.Flipped.{flips_kept, wait_flipped}
 use Rattle.ctl_core.proofs.CourseSteps.{unattached_is, pending_is, resting, holding, attach_step_is, turn_event_is, turn_answer_is, turn_begins, turn_is_idle, idle_else, event_kept, begin_kept, answer_kept, after_chip_event}
 use Rattle.ctl_core.proofs.Sessions.{one_number_each, placed, run_number, same_place, found, one_replied, all_later, one_resumed, wait_on, wait_beside, wait_begun, wait_answered}
 use Rattle.ctl_core.proofs.Pending.{pending_is_next, pending_once}
@@ -50,7 +51,7 @@ follows_as boot starts course chips now_chips events now_events notes now_notes 
     (subst (λ z. Follows boot starts course chips events z now_sessions) (sym n)
     (subst (λ z. Follows boot starts course chips events notes z) (sym s) f)))
 
-module _ {W : Type 0} (model : FaultModel W) (boot : Boot) (calm : IsCalm boot) (starts : List (ChipState W)) (course : Course W)
+module _ {W : Type 0} (model : FaultModel W) (boot : Boot) (uncut : boot.cut ≡ None) (starts : List (ChipState W)) (course : Course W)
     (chips : List (KeptChip W)) (events : ℕ) (notes : List Note) (sessions : List Session) (follows : Follows boot starts course chips events notes sessions) where
   -- a kept chip is one of the course
   pub chip_there : (k : ℕ) (x : KeptChip W) → slice_get chips k ≡ Some x → (c : ChipRun W) × (slice_get course.chips k ≡ Some c) × (kept_as boot.partitions c ≡ x)
@@ -65,36 +66,57 @@ module _ {W : Type 0} (model : FaultModel W) (boot : Boot) (calm : IsCalm boot) 
   next_there : (c : ChipRun W) (x : KeptChip W) → kept_as boot.partitions c ≡ x → next_chip_event boot.partitions c ≡ stage_event x.stage
   next_there c x e = next_is boot.partitions c ∙ ap (λ (y : KeptChip W). stage_event y.stage) e
 
-  -- the notes that an event brings
+  -- the chips after the flips that are due before the next event
+  abbrev pub chips_flipped : List (KeptChip W)
+  chips_flipped = kept_flips_before model boot.flips (events + 1) chips
+
+  -- a kept chip after the flips is one of the course after them
+  flipped_there : (k : ℕ) (x : KeptChip W) → slice_get chips_flipped k ≡ Some x
+      → (c : ChipRun W) × (slice_get (with_flips_before model boot (course.events + 1) course.chips) k ≡ Some c) × (kept_as boot.partitions c ≡ x)
+  flipped_there k x h =
+      let flipped : all_kept boot.partitions (with_flips_before model boot (course.events + 1) course.chips) ≡ chips_flipped =
+      flips_kept model boot.partitions boot (course.events + 1) course.chips ∙ (λ j. kept_flips_before model boot.flips (sym follows.keeps.of_events j + 1) (sym follows.keeps.of_chips j)) in
+      mapped_at (kept_as boot.partitions) (with_flips_before model boot (course.events + 1) course.chips) k x (ap (λ xs. slice_get xs k) flipped ∙ h)
+
+  -- the chips and the notes after an event of chip k, which stood so after the flips
+  abbrev pub chips_with : ℕ → PageEvent → List (KeptChip W)
+  chips_with k e = change_at chips_flipped k (λ y. with_news_told (after_event model e y))
+
   abbrev pub notes_with : ℕ → KeptChip W → PageEvent → List Note
   notes_with k x e = notes ++ failure_notes k (events + 1) e (failure_told model x.state e) ++ news_notes k (after_event model e x).news
 
-  follows_event : (next : Course W) (k : ℕ) (c : ChipRun W) (x : KeptChip W) (e : PageEvent) → slice_get course.chips k ≡ Some c → kept_as boot.partitions c ≡ x → next ≡ after_chip_event model boot calm (sizes_of boot starts) course k c e
-      → Follows boot starts next (change_at chips k (λ y. with_news_told (after_event model e y))) (events + 1) (notes_with k x e) sessions
-  follows_event next k c x e at same is = subst (λ d. Follows boot starts d (change_at chips k (λ y. with_news_told (after_event model e y))) (events + 1) (notes_with k x e) sessions) (sym is) (record {
-    keeps = subst (λ y. Keeps boot.partitions (after_chip_event model boot calm (sizes_of boot starts) course k c e) (change_at chips k (λ y. with_news_told (after_event model e y))) (events + 1) (notes_with k y e)) same
-        (event_kept model boot calm (sizes_of boot starts) course chips events notes k c e follows.keeps at);
+  follows_event : (next : Course W) (k : ℕ) (c : ChipRun W) (x : KeptChip W) (e : PageEvent)
+      → slice_get (with_flips_before model boot (course.events + 1) course.chips) k ≡ Some c → kept_as boot.partitions c ≡ x
+      → next ≡ after_chip_event model boot uncut (sizes_of boot starts) course k c e
+      → Follows boot starts next (chips_with k e) (events + 1) (notes_with k x e) sessions
+  follows_event next k c x e at same is = subst (λ d. Follows boot starts d (chips_with k e) (events + 1) (notes_with k x e) sessions) (sym is) (record {
+    keeps = subst (λ y. Keeps boot.partitions (after_chip_event model boot uncut (sizes_of boot starts) course k c e) (chips_with k e) (events + 1) (notes_with k y e)) same
+        (event_kept model boot uncut (sizes_of boot starts) course chips events notes k c e follows.keeps at);
     mirrors = all_later (sizes_of boot starts) boot.sessions (notes ++ failure_notes k (events + 1) e (failure_told model x.state e)) sessions course.sessions
         (all_later (sizes_of boot starts) boot.sessions notes sessions course.sessions follows.mirrors (failure_notes k (events + 1) e (failure_told model x.state e)))
         (news_notes k (after_event model e x).news);
-    wait = wait_on chips sessions follows.wait k (λ y. with_news_told (after_event model e y)) (λ y. refl);
+    wait = wait_on chips_flipped sessions (wait_flipped model boot.flips (events + 1) chips sessions follows.wait) k (λ y. with_news_told (after_event model e y)) (λ y. refl);
   })
 
   -- an attach step
-  pub follows_attach : (k : ℕ) (x : KeptChip W) (e : PageEvent) → first_attaching chips ≡ Some k → slice_get chips k ≡ Some x → stage_event x.stage ≡ Some e
-      → Follows boot starts (attach_step model boot (sizes_of boot starts) course) (change_at chips k (λ y. with_news_told (after_event model e y))) (events + 1) (notes_with k x e) sessions
-  follows_attach k x e first at has =
+  pub follows_attach : (k : ℕ) (x y : KeptChip W) (e : PageEvent) → first_attaching chips ≡ Some k → slice_get chips k ≡ Some x → stage_event x.stage ≡ Some e → slice_get chips_flipped k ≡ Some y
+      → Follows boot starts (attach_step model boot (sizes_of boot starts) course) (chips_with k e) (events + 1) (notes_with k y e) sessions
+  follows_attach k x y e first at has flipped =
       let c = chip_there k x at in
-      follows_event (attach_step model boot (sizes_of boot starts) course) k c.0 x e c.1 c.2
-      (attach_step_is model boot calm (sizes_of boot starts) course k c.0 e follows.keeps.lit (unattached_there ∙ first) c.1 (next_there c.0 x c.2 ∙ has))
+      let d = flipped_there k y flipped in
+      follows_event (attach_step model boot (sizes_of boot starts) course) k d.0 y e d.1 d.2
+      (attach_step_is model boot uncut (sizes_of boot starts) course k c.0 d.0 e follows.keeps.lit (unattached_there ∙ first) c.1 (next_there c.0 x c.2 ∙ has) d.1)
 
   -- a turn that does an event
-  pub follows_turn_event : (session k : ℕ) (x : KeptChip W) (e : PageEvent) → first_attaching chips ≡ None → first_held_by session chips ≡ Some k → slice_get chips k ≡ Some x → stage_event x.stage ≡ Some e
-      → Follows boot starts (turn_step model boot (sizes_of boot starts) course session) (change_at chips k (λ y. with_news_told (after_event model e y))) (events + 1) (notes_with k x e) sessions
-  follows_turn_event session k x e attached held at has =
+  pub follows_turn_event : (session k : ℕ) (x y : KeptChip W) (e : PageEvent) → first_attaching chips ≡ None → first_held_by session chips ≡ Some k → slice_get chips k ≡ Some x
+      → stage_event x.stage ≡ Some e → slice_get chips_flipped k ≡ Some y
+      → Follows boot starts (turn_step model boot (sizes_of boot starts) course session) (chips_with k e) (events + 1) (notes_with k y e) sessions
+  follows_turn_event session k x y e attached held at has flipped =
       let c = chip_there k x at in
-      follows_event (turn_step model boot (sizes_of boot starts) course session) k c.0 x e c.1 c.2
-      (turn_event_is model boot calm (sizes_of boot starts) course session k c.0 e follows.keeps.lit (unattached_there ∙ attached) (pending_there session attached ∙ held) c.1 (next_there c.0 x c.2 ∙ has))
+      let d = flipped_there k y flipped in
+      follows_event (turn_step model boot (sizes_of boot starts) course session) k d.0 y e d.1 d.2
+      (turn_event_is model boot uncut (sizes_of boot starts) course session k c.0 d.0 e follows.keeps.lit (unattached_there ∙ attached) (pending_there session attached ∙ held) c.1
+      (next_there c.0 x c.2 ∙ has) d.1)
 
   module _ (up : AreAscending boot.sessions) (holds : Holds model boot starts course) where
     -- a chip that a session holds has a pending operation of it
@@ -151,7 +173,7 @@ module _ {W : Type 0} (model : FaultModel W) (boot : Boot) (calm : IsCalm boot) 
         let both : Some w.1 ≡ Some p.0 = sym w.3 ∙ p.1 in
         let pendings : w.1 ≡ p.0 = cc in
         let session : w.1.session ≡ number_of s = ap (λ (q : Pending). q.session) pendings ∙ p.2 in
-        let is = turn_answer_is model boot calm (sizes_of boot starts) course (number_of s) k c.0 w.0 w.1 finished follows.keeps.lit (unattached_there ∙ attached) (pending_there (number_of s) attached ∙ held) c.1
+        let is = turn_answer_is model boot uncut (sizes_of boot starts) course (number_of s) k c.0 w.0 w.1 finished follows.keeps.lit (unattached_there ∙ attached) (pending_there (number_of s) attached ∙ held) c.1
         (next_there c.0 x c.2 ∙ finished_stage x.stage finished over) w.2 w.3 w.4 in
         let placed_s = placed (sizes_of boot starts) boot.sessions notes sessions course.sessions follows.mirrors i s is_at in
         let m = replied_so placed_s.own.1 placed_s.run placed_s.mirrors (follows.wait k i x s at is_at holder) in
@@ -159,7 +181,7 @@ module _ {W : Type 0} (model : FaultModel W) (boot : Boot) (calm : IsCalm boot) 
         ∙ placed_s.mirrors.shows.number in
         subst (λ d. Follows boot starts d (change_at chips k (after_answer finished.known)) events (notes ++ Answered (number_of s) finished.reply ∷ []) changed)
         (sym (is ∙ ap (λ n. finish (sizes_of boot starts) course k c.0 n (Some finished)) session)) (record {
-          keeps = answer_kept model boot calm (sizes_of boot starts) course chips events notes (number_of s) k c.0 finished follows.keeps c.1;
+          keeps = answer_kept model boot uncut (sizes_of boot starts) course chips events notes (number_of s) k c.0 finished follows.keeps c.1;
           mirrors = one_replied (sizes_of boot starts) boot.sessions notes sessions course.sessions follows.mirrors up i s new changed (Answered (number_of s) finished.reply ∷ []) finished.reply is_at o
               (λ own run b r. replied_so own.1 run (follows.mirrors.each i own s run b is_at r).1 (follows.wait k i x s at is_at holder));
           wait = wait_answered chips sessions follows.wait i k new changed (after_answer finished.known) o (λ y. refl)
@@ -185,7 +207,7 @@ module _ {W : Type 0} (model : FaultModel W) (boot : Boot) (calm : IsCalm boot) 
         let mirrors_now = one_resumed (sizes_of boot starts) boot.sessions notes sessions course.sessions follows.mirrors i s new changed is_at o
         (λ own run b at_run. resumed own run b at_run (follows.mirrors.each i own s run b is_at at_run).1) in
         subst (λ d. Follows boot starts d (change_at chips k (after_begin boot.partitions (number_of s) op)) events (notes ++ Began (number_of s) op ∷ []) changed) (sym is) (record {
-          keeps = begin_kept model boot calm (sizes_of boot starts) course chips events notes (number_of s) k op c.0 r.0 follows.keeps c.1 r.1 r.2;
+          keeps = begin_kept model boot uncut (sizes_of boot starts) course chips events notes (number_of s) k op c.0 r.0 follows.keeps c.1 r.1 r.2;
           mirrors = all_later (sizes_of boot starts) boot.sessions notes changed course.sessions mirrors_now (Began (number_of s) op ∷ []);
           wait = wait_begun chips sessions follows.wait i k new changed (after_begin boot.partitions (number_of s) op) o waits (λ y. ap Some (sym number_new))
               (λ j t there same. same_place (sizes_of boot starts) boot.sessions notes changed course.sessions mirrors_now up i j new t o.here there (sym same));

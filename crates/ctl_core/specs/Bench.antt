@@ -1,11 +1,11 @@
 -- What a controller keeps, as its course has it.
-use Rattle.std.specs.Prelude.{◌≡◌, ℕ, ◌+◌, ◌++◌, List, [], map, slice_get, Option, Some, None, option_map, option_and_then}
+use Rattle.std.specs.Prelude.{◌≡◌, ◌≤◌, ℕ, ◌+◌, ◌++◌, List, [], map, slice_get, Option, Some, None, option_map, option_and_then}
 use Rattle.nand_iface.specs.declared.flash.Flash.{Ghosts}
 use Rattle.nand_model.specs.Chip.{ChipState, PageEvent}
+use Rattle.nand_model.specs.declared.words.Flip.{Flip}
 use Rattle.run_model.specs.Course.{Course, change_at, unattached, course_after}
-use Rattle.run_model.specs.Laws.{IsCalm}
 use Rattle.run_laws.specs.Turns.{busy_turns}
-use Rattle.chip_core.specs.Chip.{chip_state, chip_stage, chip_news}
+use Rattle.chip_core.specs.Chip.{chip_state, chip_stage, chip_spare, chip_bits, chip_news}
 use Rattle.chip_model.specs.Stage.{stage_event, finished_in, failure_told}
 use Rattle.nand_model.specs.Operation.{Finished}
 use Rattle.session_steps.specs.Standing.{number_of}
@@ -13,25 +13,31 @@ use Rattle.ctl_core.specs.declared.bench.Slot.{Slot}
 use Rattle.ctl_core.specs.declared.bench.Bench.{Bench}
 use Rattle.ctl_core.specs.declared.journal.Journal.{Journal}
 use Rattle.ctl_core.specs.KeptChip.{KeptChip, first_attaching, after_event, with_news_told, failure_notes, news_notes}
+use Rattle.ctl_core.specs.Flips.{kept_flips_before}
 use Rattle.ctl_core.specs.Follows.{Follows}
 use Rattle.ctl_core.specs.Past.{Past, starts_of, course_of}
 use Rattle.ctl_core.specs.Start.{CanStart}
 
 -- a chip in its slot
-abbrev pub kept_slot : {F : Type 0} {flash : Ghosts F} → Slot F flash → KeptChip flash.FaultState
+abbrev pub kept_slot : {F C : Type 0} {flash : Ghosts F} → Slot F C flash → KeptChip flash.FaultState
 kept_slot slot = record { state = chip_state slot.chip; stage = chip_stage slot.chip; news = chip_news slot.chip; holder = slot.holder }
 
+-- so many pages and bits of a chip may be flipped before memory has to be asked for
+pub record HasRoom {F C : Type 0} {flash : Ghosts F} (pages bits : ℕ) (slot : Slot F C flash) : Type 0 where
+  pub spare : pages ≤ chip_spare slot.chip
+  pub bits_room : bits ≤ chip_bits slot.chip
+
 -- the chips in their slots
-abbrev pub kept_chips : {F : Type 0} {flash : Ghosts F} → Bench F flash → List (KeptChip flash.FaultState)
+abbrev pub kept_chips : {F C : Type 0} {flash : Ghosts F} → Bench F C flash → List (KeptChip flash.FaultState)
 kept_chips bench = map kept_slot bench.slots.items
 
 -- the next event of a chip in its slot
-abbrev pub event_at : {F : Type 0} {flash : Ghosts F} → Bench F flash → ℕ → Option PageEvent
-event_at {F} {flash} bench k = option_and_then (λ (c : KeptChip flash.FaultState). stage_event c.stage) (slice_get (kept_chips bench) k)
+abbrev pub event_at : {F C : Type 0} {flash : Ghosts F} → Bench F C flash → ℕ → Option PageEvent
+event_at {F} {C} {flash} bench k = option_and_then (λ (c : KeptChip flash.FaultState). stage_event c.stage) (slice_get (kept_chips bench) k)
 
 -- a bench stands where a course does
-abbrev pub StandsAt : {F : Type 0} {flash : Ghosts F} → Past F → Course flash.FaultState → Bench F flash → Type 0
-StandsAt {F} {flash} past course bench =
+abbrev pub StandsAt : {F C : Type 0} {flash : Ghosts F} → Past F → Course flash.FaultState → Bench F C flash → Type 0
+StandsAt {F} {C} {flash} past course bench =
     Follows past.boot (starts_of flash.state past) course (kept_chips bench) bench.events bench.notes.notes bench.sessions.items
 
 -- what was done so far
@@ -39,28 +45,34 @@ abbrev pub past_of : {F : Type 0} → Journal F → Past F
 past_of journal = record { boot = journal.boot; started = journal.started.value; attaches = journal.attaches; turns = journal.turns.items }
 
 -- a bench stands where its controller's past has led: chips are attached before any turn, each attach step did an event, and each turn of the list did something
-pub record IsOnCourse {F : Type 0} {flash : Ghosts F} (past : Past F) (bench : Bench F flash) : Type 0 where
+pub record IsOnCourse {F C : Type 0} {flash : Ghosts F} (past : Past F) (bench : Bench F C flash) : Type 0 where
   pub conditions : CanStart past.boot (starts_of flash.state past)
-  pub calm : IsCalm past.boot
   pub stands : StandsAt past (course_of flash.fault_model flash.state past) bench
   pub attached_first : (k : ℕ) → unattached (course_of flash.fault_model flash.state past) ≡ Some k → past.turns ≡ []
   pub attach_events : (course_after flash.fault_model past.boot (starts_of flash.state past) past.attaches []).events ≡ past.attaches
   pub all_busy : busy_turns flash.fault_model past.boot (starts_of flash.state past) past.turns
       (course_after flash.fault_model past.boot (starts_of flash.state past) past.attaches []) ≡ past.turns
 
--- event e of chip k, which stood so, is done and noted
-pub record DidEvent {F : Type 0} {flash : Ghosts F} (k : ℕ) (c : KeptChip flash.FaultState) (e : PageEvent) (old new : Bench F flash) : Type 0 where
-  pub chips : kept_chips new ≡ change_at (kept_chips old) k (λ x. with_news_told (after_event flash.fault_model e x))
+-- a bench that differs at most in its room
+pub record StandsAlike {F C : Type 0} {flash : Ghosts F} (old new : Bench F C flash) : Type 0 where
+  pub chips : kept_chips new ≡ kept_chips old
+  pub events : new.events ≡ old.events
+  pub notes : new.notes.notes ≡ old.notes.notes
+  pub sessions : new.sessions.items ≡ old.sessions.items
+
+-- the flips that are due are made, and event e of chip k, which stood so after them, is done and noted
+pub record DidEvent {F C : Type 0} {flash : Ghosts F} (flips : List Flip) (k : ℕ) (c : KeptChip flash.FaultState) (e : PageEvent) (old new : Bench F C flash) : Type 0 where
+  pub chips : kept_chips new ≡ change_at (kept_flips_before flash.fault_model flips (old.events + 1) (kept_chips old)) k (λ x. with_news_told (after_event flash.fault_model e x))
   pub events : new.events ≡ old.events + 1
   pub notes : new.notes.notes ≡ old.notes.notes ++ failure_notes k (old.events + 1) e (failure_told flash.fault_model c.state e) ++ news_notes k (after_event flash.fault_model e c).news
   pub sessions : new.sessions.items ≡ old.sessions.items
 
 -- how the operation in flight on a chip has ended, where no event of it is left
-abbrev pub finished_at : {F : Type 0} {flash : Ghosts F} → Bench F flash → ℕ → Option Finished
-finished_at {F} {flash} bench k = option_and_then (λ (c : KeptChip flash.FaultState). finished_in c.stage) (slice_get (kept_chips bench) k)
+abbrev pub finished_at : {F C : Type 0} {flash : Ghosts F} → Bench F C flash → ℕ → Option Finished
+finished_at {F} {C} {flash} bench k = option_and_then (λ (c : KeptChip flash.FaultState). finished_in c.stage) (slice_get (kept_chips bench) k)
 
 -- a bench whose chips are all attached, with a session at its place
-pub record IsAtTurn {F : Type 0} {flash : Ghosts F} (past : Past F) (session place : ℕ) (bench : Bench F flash) : Type 0 where
+pub record IsAtTurn {F C : Type 0} {flash : Ghosts F} (past : Past F) (session place : ℕ) (bench : Bench F C flash) : Type 0 where
   pub on_course : IsOnCourse past bench
   pub attached : first_attaching (kept_chips bench) ≡ None
   pub own : option_map number_of (slice_get bench.sessions.items place) ≡ Some session

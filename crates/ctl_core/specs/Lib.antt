@@ -5,5 +5,6 @@ pub mod Sessions
 pub mod Follows
 pub mod Start
 pub mod Answer
+pub mod Flips
 pub mod Bench
 pub mod Ended

@@ -1,5 +1,5 @@
 // The chips, sessions and notes of a controller.
-ghost use Rattle.std.specs.Prelude.{◌≡◌, ◌≤◌, ◌<◌, ◌+◌, ◌-◌, ◌^◌, ◌++◌, ◌==◌, ℕ, List, true, None, not, length, position, slice_get, option_map, IsSome, IfSome, OnOk, OnErr, IfOk};
+ghost use Rattle.std.specs.Prelude.{◌≡◌, ◌≤◌, ◌<◌, ◌+◌, ◌-◌, ◌^◌, ◌++◌, ◌==◌, ℕ, All, List, true, None, not, length, position, slice_get, option_map, IsSome, IfSome, OnOk, OnErr, IfOk};
 ghost use Rattle.nand_model.specs.Chip.{ChipState, PageEvent};
 ghost use Rattle.nand_model.specs.ChipRun.{name_of};
 ghost use Rattle.chip_model.specs.Stage.{stage_event, failure_told, finished_in, is_attached, is_resting, is_working};
@@ -8,20 +8,22 @@ ghost use Rattle.chip_core.specs.Chip.{chip_stage};
 ghost use Rattle.ctl_core.specs.KeptChip.{KeptChip, is_held_by, after_event, after_begin, after_answer, with_news_told, failure_notes, news_notes, noted};
 
 use crate::Turn;
+use crate::flips::make_due_flips;
 use chip_core::Chip;
+use fault_plan::Faults;
 use mtd_part::Parts;
-use nand_iface::{Event, Fairness, Flash, History, Note, Op, Reply};
+use nand_iface::{Event, Fairness, Flash, History, Note, Op, PageCode, Reply};
 use session_steps::Session;
 use std::alloc::AllocError;
 
 /// A chip, and the session whose operation is in flight on it.
 #[derive(Drop)]
-pub struct Slot<F: Flash> {
-    pub chip: Chip<F>,
+pub struct Slot<F: Flash, C: PageCode> {
+    pub chip: Chip<F, C>,
     pub holder: Option<u32>,
 }
 
-impl<F: Flash> Slot<F> {
+impl<F: Flash, C: PageCode> Slot<F, C> {
     ghost use Rattle.ctl_core.specs.Bench.{kept_slot};
 
     // Does the chip's next event, as event `number` of the controller, and puts down what there is to note of it.
@@ -41,7 +43,7 @@ impl<F: Flash> Slot<F> {
     // The session begins an operation on the chip. Where memory runs out, the chip is as before.
     pub fn begin(&mut self, session: u32, parts: &Parts, op: &Op) -> Result<(), AllocError>
         requires rests { is_resting (kept_slot self.old).stage ≡ true }
-        requires can { CanBegin (kept_slot self.old).state.geometry parts.now op.now }
+        requires can { CanBegin (kept_slot self.old).state.geometry parts.now (kept_slot self.old).stage op.now }
         ensures begun { OnOk result (kept_slot self.new ≡ after_begin parts.now session op.now (kept_slot self.old)) }
         ensures no_memory { OnErr result (kept_slot self.new ≡ kept_slot self.old) }
     {
@@ -103,16 +105,17 @@ fn is_held_by(holder: Option<u32>, session: u32) -> bool
 
 /// What the steps of a controller change: its chips, the number of page events so far, its notes and its sessions.
 #[derive(Drop)]
-pub struct Bench<F: Flash> {
-    pub slots: Vec<Slot<F>>,
+pub struct Bench<F: Flash, C: PageCode> {
+    pub slots: Vec<Slot<F, C>>,
     pub events: u32,
     pub notes: History,
     pub sessions: Vec<Session>,
 }
 
-impl<F: Flash> Bench<F> {
+impl<F: Flash, C: PageCode> Bench<F, C> {
     ghost use Rattle.session_steps.specs.Standing.{number_of};
-    ghost use Rattle.ctl_core.specs.Bench.{kept_chips, event_at, DidEvent};
+    ghost use Rattle.ctl_core.specs.Bench.{DidEvent, StandsAlike, event_at, kept_chips};
+    ghost use Rattle.ctl_core.specs.Flips.{CanFlip, kept_flips_before};
 
     // The first chip that is not attached.
     pub fn first_attaching(&self) -> Option<usize>
@@ -137,15 +140,22 @@ impl<F: Flash> Bench<F> {
         self.sessions.iter().position(|one| one.number() == session)
     }
 
-    // Does the next event of a chip.
-    pub fn do_event(&mut self, k: usize)
+    // Makes the flips that are due before the next event, and does this event, which is one of chip `k`. Memory is taken first; where there is none, chips, notes and
+    // sessions stand as they stood.
+    pub fn do_event(&mut self, faults: &Faults, k: usize) -> Result<(), AllocError>
         requires few { length self.old.slots.items ≤ 8 }
         requires event { IsSome (event_at self.old k) }
         requires room { 2 ≤ self.old.notes.room }
         requires number { self.old.events < 2 ^ 32 - 1 }
-        ensures { (c : KeptChip F.FaultState) (e : PageEvent) → slice_get (kept_chips self.old) k ≡ Some c → stage_event c.stage ≡ Some e → DidEvent k c e self.old self.new }
+        requires flips { All (CanFlip (kept_chips self.old)) faults.now }
+        ensures did { (c : KeptChip F.FaultState) (e : PageEvent) →
+            slice_get (kept_flips_before F.fault_model faults.now (self.old.events + 1) (kept_chips self.old)) k ≡ Some c → stage_event c.stage ≡ Some e →
+            OnOk result (DidEvent faults.now k c e self.old self.new) }
+        ensures no_memory { OnErr result (StandsAlike self.old self.new) }
     {
+        make_due_flips(&mut self.slots, faults, self.events + 1)?;
         self.events += 1;
         self.slots[k].advance(k as u32, self.events, &mut self.notes);
+        Ok(())
     }
 }

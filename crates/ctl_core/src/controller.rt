@@ -15,7 +15,7 @@ use crate::bench::Bench;
 use crate::ending::{Ended, all_bad, all_statistics, end_all, stop_all};
 use crate::journal::Journal;
 use crate::starting::{first_sessions, first_slots};
-use nand_iface::{Flash, History};
+use nand_iface::{Flash, History, PageCode};
 use std::alloc::{AllocError, Global};
 use std::marker::Model;
 use std::snapshot::Snapshot;
@@ -26,12 +26,12 @@ use tool_steps::{ControllerBoot, FlashList};
 /// Contracts see what it did so far (`Past`): its boot, the flashes with which it was started, the number of its attach steps, and the sessions whose turns
 /// did something, in order. From these follows the course that it is on (`course_of`), with its notes, chips and sessions.
 #[derive(Drop)]
-pub struct Core<F: Flash> {
+pub struct Core<F: Flash, C: PageCode> {
     journal: Journal<F>,
-    bench: Bench<F>,
+    bench: Bench<F, C>,
 }
 
-impl<F: Flash> Model for Core<F> {
+impl<F: Flash, C: PageCode> Model for Core<F, C> {
     ghost use Rattle.ctl_core.specs.Past.{Past};
 
     ghost Value = { Past F };
@@ -43,22 +43,23 @@ impl<F: Flash> Model for Core<F> {
     ghost invariant = { λ c. IsOnCourse (past_of c.journal) c.bench };
 }
 
-impl<F: Flash> Core<F> {
+impl<F: Flash, C: PageCode> Core<F, C> {
     /// A controller at the start of its part of a boot. It takes the memory that the attaches of its chips need.
     ///
-    /// There are at most eight flashes, without tables and turned bits. The partitions lie on these chips, the commands name devices that are there, with their sizes, and can
-    /// be run; the sessions' numbers ascend; and the commands cost at most 16,777,216 operations together.
+    /// There are at most eight flashes, without tables. The partitions lie on these chips, the flips turn bits of their pages, and there is no cut; the commands name devices that
+    /// are there, with their sizes, and can be run; the sessions' numbers ascend; and the commands cost at most 16,777,216 operations together.
     pub fn start(
         alloc: Global,
         boot: ControllerBoot,
         flashes: FlashList<F>,
-    ) -> Result<Core<F>, AllocError>
+        code: C,
+    ) -> Result<Core<F, C>, AllocError>
         requires { CanStart boot (map F.state flashes) }
         ensures { IfOk result (λ core. core ≡ at_start boot flashes) }
     {
         let started = Snapshot::of(&flashes);
         let sessions = first_sessions(alloc, &boot)?;
-        let slots = first_slots(alloc, flashes)?;
+        let slots = first_slots(alloc, flashes, code)?;
         Ok(Core {
             journal: Journal {
                 boot,
@@ -75,7 +76,7 @@ impl<F: Flash> Core<F> {
         })
     }
 
-    /// One page event of the first chip that is not attached; the last one of an attach also puts its note down.
+    /// The flips that are due, and one page event of the first chip that is not attached; the last one of an attach also puts its note down.
     ///
     /// `Done` comes exactly where all chips are attached, and `Did` else. Only `Did` makes anything of the controller: it counts one more attach step.
     pub fn attach_turn(&mut self) -> Result<Turn, AllocError>
@@ -89,12 +90,12 @@ impl<F: Flash> Core<F> {
         let Some(k) = self.bench.first_attaching() else {
             return Ok(Turn::Done);
         };
-        self.bench.do_event(k);
+        self.bench.do_event(self.journal.boot.faults(), k)?;
         self.journal.attaches += 1;
         Ok(Turn::Did)
     }
 
-    /// One step of a session of this controller, whose chips are all attached: its operation in flight does its next page event or is answered, or its next operation begins.
+    /// One step of a session of this controller, whose chips are all attached: its operation in flight does its next page event, after the flips that are due, or is answered, or its next operation begins.
     ///
     /// `Done` comes exactly where the session's commands are over; else `Held(by)` exactly where it has nothing in flight and session `by` has an operation in flight on the chip of its
     /// next operation; else `Did`. Only `Did` makes anything of the controller: it is one more turn of this session.

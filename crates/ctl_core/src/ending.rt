@@ -8,7 +8,7 @@ ghost use Rattle.ctl_core.specs.Bench.{kept_slot};
 
 use crate::bench::Slot;
 use mtd_part::Parts;
-use nand_iface::{Flash, History, Stats};
+use nand_iface::{Flash, History, PageCode, Stats};
 use session_steps::{OutcomeList, Session, StatsList};
 use std::alloc::{AllocError, Global};
 use tool_steps::FlashList;
@@ -29,7 +29,10 @@ pub struct Ended<F> {
 }
 
 // The flashes of the chips.
-pub fn stop_all<F: Flash>(alloc: Global, slots: Vec<Slot<F>>) -> Result<FlashList<F>, AllocError>
+pub fn stop_all<F: Flash, C: PageCode>(
+    alloc: Global,
+    slots: Vec<Slot<F, C>>,
+) -> Result<FlashList<F>, AllocError>
     ensures { IfOk result (λ flashes. map F.state flashes ≡ map kept_state (map kept_slot slots.items)) }
 {
     let mut flashes = FlashList::new(alloc);
@@ -61,9 +64,9 @@ pub fn end_all(
 }
 
 // The statistics of each device.
-pub fn all_statistics<F: Flash>(
+pub fn all_statistics<F: Flash, C: PageCode>(
     alloc: Global,
-    slots: &[Slot<F>],
+    slots: &[Slot<F, C>],
     parts: &Parts,
 ) -> Result<StatsList, AllocError>
     requires { All (λ (part : Partition). part.chip < length slots.now) parts.now.parts }
@@ -80,7 +83,7 @@ pub fn all_statistics<F: Flash>(
 }
 
 // The statistics of a device.
-fn statistics<F: Flash>(slots: &[Slot<F>], parts: &Parts, dev: u32) -> Stats
+fn statistics<F: Flash, C: PageCode>(slots: &[Slot<F, C>], parts: &Parts, dev: u32) -> Stats
     requires { All (λ (part : Partition). part.chip < length slots.now) parts.now.parts }
     ensures { result ≡ kept_statistics_at (map kept_slot slots.now) (chip_of parts.now dev) dev }
 {
@@ -94,7 +97,7 @@ fn statistics<F: Flash>(slots: &[Slot<F>], parts: &Parts, dev: u32) -> Stats
 }
 
 // The number of bad blocks of all chips.
-pub fn all_bad<F: Flash>(slots: &[Slot<F>]) -> u32
+pub fn all_bad<F: Flash, C: PageCode>(slots: &[Slot<F, C>]) -> u32
     requires { length slots.now ≤ 8 }
     ensures { result ≡ sum_by kept_bad_blocks (map kept_slot slots.now) }
 {

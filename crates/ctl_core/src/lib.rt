@@ -4,6 +4,7 @@
 mod bench;
 mod controller;
 mod ending;
+mod flips;
 mod journal;
 mod starting;
 mod steps;

@@ -1,6 +1,5 @@
 // Chips and sessions at the start of a boot.
-ghost use Rattle.std.specs.Prelude.{◌≡◌, All, map, IfOk, OnOk};
-ghost use Rattle.run_model.specs.Laws.{IsCalm};
+ghost use Rattle.std.specs.Prelude.{◌≡◌, All, map, IfOk};
 ghost use Rattle.ctl_core.specs.Start.{IsPlain};
 ghost use Rattle.ctl_core.specs.KeptChip.{kept_first};
 ghost use Rattle.ctl_core.specs.Bench.{kept_slot};
@@ -8,42 +7,46 @@ ghost use Rattle.ctl_core.specs.Sessions.{AreFresh};
 
 use crate::bench::Slot;
 use chip_core::Chip;
-use nand_iface::Flash;
+use nand_iface::{Flash, PageCode};
 use session_steps::Session;
 use std::alloc::{AllocError, Global};
 use tool_steps::{ControllerBoot, FlashList};
 
 // The chips of these flashes at the start of their attaches, none of them held.
-pub fn first_slots<F: Flash>(
+pub fn first_slots<F: Flash, C: PageCode>(
     alloc: Global,
     flashes: FlashList<F>,
-) -> Result<Vec<Slot<F>>, AllocError>
+    code: C,
+) -> Result<Vec<Slot<F, C>>, AllocError>
     requires { All IsPlain (map F.state flashes) }
     ensures { IfOk result (λ slots. map kept_slot slots.items ≡ map kept_first (map F.state flashes)) }
 {
     let mut rest = flashes;
     let mut slots = Vec::new(alloc);
     while let Some(flash) = rest.take_first() {
-        slots.push(first_slot(alloc, flash)?)?;
+        slots.push(first_slot(alloc, flash, code)?)?;
     }
     Ok(slots)
 }
 
 // A chip at the start of its attach.
-fn first_slot<F: Flash>(alloc: Global, flash: F) -> Result<Slot<F>, AllocError>
+fn first_slot<F: Flash, C: PageCode>(
+    alloc: Global,
+    flash: F,
+    code: C,
+) -> Result<Slot<F, C>, AllocError>
     requires { IsPlain (F.state flash) }
     ensures { IfOk result (λ slot. kept_slot slot ≡ kept_first (F.state flash)) }
 {
     Ok(Slot {
-        chip: Chip::attach_start(alloc, flash)?,
+        chip: Chip::attach_start(alloc, flash, code)?,
         holder: None,
     })
 }
 
 // The sessions of a boot at their start.
 pub fn first_sessions(alloc: Global, boot: &ControllerBoot) -> Result<Vec<Session>, AllocError>
-    ensures fresh { IfOk result (λ sessions. AreFresh boot.now.sessions sessions.items) }
-    ensures calm { OnOk result (IsCalm boot.now) }
+    ensures { IfOk result (λ sessions. AreFresh boot.now.sessions sessions.items) }
 {
     let mut sessions = Vec::new(alloc);
     while let Some(number) = boot.session(sessions.len()) {

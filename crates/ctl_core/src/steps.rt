@@ -1,6 +1,5 @@
 // One step of a session.
 ghost use Rattle.std.specs.Prelude.{◌≡◌, ◌≤◌, ◌<◌, ◌-◌, ◌^◌, ◌↔◌, IsTrue, true, not, None, IsSome, is_none, length, slice_get, option_map, OnOk, OnErr, IfOk, IfSome};
-ghost use Rattle.chip_model.specs.Stage.{is_working};
 ghost use Rattle.run_model.specs.Command.{command_device};
 ghost use Rattle.run_model.specs.Course.{is_idle, is_over, unattached};
 ghost use Rattle.ctl_core.specs.Answer.{is_did, next_chip, turn_answer};
@@ -12,12 +11,12 @@ ghost use Rattle.ctl_core.specs.Past.{Past, course_of, next_course, sizes_in, is
 use crate::Turn;
 use crate::bench::Bench;
 use crate::journal::Journal;
-use nand_iface::{Flash, Note};
+use nand_iface::{Flash, Note, PageCode};
 use nand_model::Command;
 use std::alloc::AllocError;
 use tool_steps::ControllerBoot;
 
-impl<F: Flash> Bench<F> {
+impl<F: Flash, C: PageCode> Bench<F, C> {
     ghost use Rattle.ctl_core.specs.Bench.{kept_chips, finished_at, past_of, IsOnCourse, IsAtTurn, StandsAt};
 
     // One step of a session of the boot, where all chips are attached. Where memory runs out, chips, sessions and notes stand where they stood.
@@ -36,7 +35,7 @@ impl<F: Flash> Bench<F> {
         };
         match self.held_by(session) {
             Some(k) => {
-                self.go_on(place, k, session);
+                self.go_on(journal, place, k, session)?;
                 Ok(Turn::Did)
             }
             None => self.begin(journal, place, session),
@@ -65,19 +64,26 @@ impl<F: Flash> Bench<F> {
     }
 
     // Does the next event of the operation that a session has in flight on chip `k`, or answers it where no event is left.
-    fn go_on(&mut self, place: usize, k: usize, session: u32)
-        requires few { length self.old.slots.items ≤ 8 }
-        requires works { option_map (λ (c : KeptChip F.FaultState). is_working c.stage) (slice_get (kept_chips self.old) k) ≡ Some true }
-        requires place { place < length self.old.sessions.items }
+    // Where memory runs out, chips, sessions and notes stand where they stood.
+    fn go_on(
+        &mut self,
+        journal: &Journal<F>,
+        place: usize,
+        k: usize,
+        session: u32,
+    ) -> Result<(), AllocError>
+        requires turn { IsAtTurn (past_of journal.now) session place self.old }
+        requires held { first_held_by session (kept_chips self.old) ≡ Some k }
         requires room { 2 ≤ self.old.notes.room }
-        requires number { self.old.events < 2 ^ 32 - 1 }
-        ensures { (past : Past F) → IsAtTurn past session place self.old → first_held_by session (kept_chips self.old) ≡ Some k → StandsAt past (next_course F.fault_model F.state past session) self.new }
+        ensures stands { OnOk result (StandsAt (past_of journal.now) (next_course F.fault_model F.state (past_of journal.now) session) self.new) }
+        ensures no_memory { OnErr result (StandsAt (past_of journal.now) (course_of F.fault_model F.state (past_of journal.now)) self.new) }
     {
         if self.slots[k].chip.next_event().is_some() {
-            self.do_event(k);
+            self.do_event(journal.boot.faults(), k)?;
         } else {
             self.answer(place, k, session);
         }
+        Ok(())
     }
 
     // Answers the operation in flight on chip `k`, which has no event left, to its session.

@@ -1,18 +1,32 @@
--- The small boot can be started on two small chips.
-use Rattle.std.proofs.Common.{◌≡◌, ◌<◌, ◌≤◌, ◌+◌, arith, ℕ, zero, suc, true, List, [], ◌∷◌, Option, Some, None, refl, ap, sym, ◌∙◌, subst}
+-- The boots of the tests can be started on two small chips.
+use Rattle.std.proofs.Common.{◌≡◌, ◌<◌, ◌≤◌, ◌+◌, ◌*◌, arith, ℕ, zero, suc, true, List, [], ◌∷◌, Option, Some, None, refl, ap, sym, ◌∙◌, subst, subst₂, get_or}
 use Rattle.std.specs.Prelude.{slice_get, All}
-use Rattle.nand_model.specs.declared.words.Command.{Command}
+use Rattle.nand_iface.specs.Flash.{FitsBits}
 use Rattle.nand_model.specs.Chip.{ChipState}
-use Rattle.tool_steps.specs.Stage.{CanRun, ErasesAll}
-use Rattle.run_model.specs.Course.{sizes_of}
+use Rattle.nand_model.specs.Sizes.{page_count, raw_len}
+use Rattle.nand_model.specs.declared.geometry.Geometry.{Geometry}
+use Rattle.nand_model.specs.declared.words.Command.{Command}
+use Rattle.nand_model.specs.declared.words.Flip.{Flip}
+use Rattle.nand_model.specs.declared.words.Part.{Part}
+use Rattle.nand_model.specs.Operation.{part_of}
+use Rattle.tool_steps.specs.Stage.{CanRun, ErasesAll, DumpsOnePage, device_size}
+use Rattle.run_model.specs.Command.{command_device}
+use Rattle.run_model.specs.Course.{Boot, sizes_of}
+use Rattle.cost_laws.specs.Cost.{boot_cost, CanRunBoot}
 use Rattle.ctl_core.specs.Sessions.{AreAscending}
-use Rattle.ctl_core.specs.Start.{CanStart, IsPlain, IsOnChip, IsOfDevice}
-use Rattle.ctl_tests.specs.Small.{IsSmall, ArePairOfSmall, erasing, asking, first_block, small_parts, small_sessions, small_boot}
+use Rattle.ctl_core.specs.Start.{CanStart, IsPlain, IsOnChip, IsOfDevice, IsOnFlash}
+use Rattle.ctl_tests.specs.Small.{IsSmall, IsSmallFlip, ArePairOfSmall, erasing, asking, dumping, boot_of, first_block, reading_sessions, small_parts, small_sessions, small_sizes}
+
+all_one : {A : Type 0} (P : A → Type 0) (x : A) → P x → All P (x ∷ [])
+all_one P x p zero d h = p
+all_one P x p (suc k) d h = absurd (omega arith)
+
+all_more : {A : Type 0} (P : A → Type 0) (x : A) (xs : List A) → P x → All P xs → All P (x ∷ xs)
+all_more P x xs p more zero d h = p
+all_more P x xs p more (suc k) d h = more k d (omega arith)
 
 all_two : {A : Type 0} (P : A → Type 0) (x y : A) → P x → P y → All P (x ∷ y ∷ [])
-all_two P x y p q zero d h = p
-all_two P x y p q (suc zero) d h = q
-all_two P x y p q (suc (suc k)) d h = absurd (omega arith)
+all_two P x y p q = all_more P x (y ∷ []) p (all_one P y q)
 
 ascending : AreAscending small_sessions
 ascending zero zero a b l h g = absurd (omega arith)
@@ -28,31 +42,93 @@ ascending (suc zero) (suc zero) a b l h g = absurd (omega arith)
 ascending (suc zero) (suc (suc j)) a b l h g = cc
 ascending (suc (suc i)) j a b l h g = cc
 
+alone : AreAscending reading_sessions
+alone zero zero a b l h g = absurd (omega arith)
+alone zero (suc j) a b l h g = cc
+alone (suc i) j a b l h g = cc
+
+erases : ErasesAll 1 true 0 0
+erases = record { size = (omega arith, omega arith); unscanned = refl; from_first = refl; to_end = refl }
+
+asks : (1 ≤ 1) × (1 ≤ 32768)
+asks = (omega arith, omega arith)
+
+dumps : DumpsOnePage small_sizes 1 0 2048 false
+dumps = record { size = (omega arith, omega arith); whole = refl; in_device = omega arith; one = refl; body_only = refl }
+
+-- the commands of all sessions are such
+abbrev AllAre : (Command → Type 0) → List (ℕ × List Command) → Type 0
+AllAre P sessions = All (λ (s : ℕ × List Command). All P s.1) sessions
+
+small_all : (P : Command → Type 0) → ((dev : ℕ) → dev < 2 → P (erasing dev)) → ((dev : ℕ) → dev < 2 → P (asking dev)) → AllAre P small_sessions
+small_all P e a = all_two (λ (s : ℕ × List Command). All P s.1) (0, erasing 0 ∷ asking 1 ∷ []) (1, asking 0 ∷ erasing 1 ∷ [])
+    (all_two P (erasing 0) (asking 1) (e 0 (omega arith)) (a 1 (omega arith))) (all_two P (asking 0) (erasing 1) (a 0 (omega arith)) (e 1 (omega arith)))
+
+reading_all : (P : Command → Type 0) → P (dumping 0) → AllAre P reading_sessions
+reading_all P d = all_one (λ (s : ℕ × List Command). All P s.1) (0, dumping 0 ∷ dumping 0 ∷ dumping 0 ∷ [])
+    (all_more P (dumping 0) (dumping 0 ∷ dumping 0 ∷ []) d (all_two P (dumping 0) (dumping 0) d d))
+
 module _ {W : Type 0} where
-  pair_starts : (s t : ChipState W) → IsSmall s → IsSmall t → CanStart small_boot (s ∷ t ∷ [])
-  pair_starts s t p q = record {
-    few = omega arith;
-    plain = all_two IsPlain s t p.plain q.plain;
-    parts = all_two (IsOnChip (s ∷ t ∷ [])) (first_block 0) (first_block 1)
-        (s, refl, (omega arith, omega (arith, p.blocks))) (t, refl, (omega arith, omega (arith, q.blocks)));
-    devices = all_two (λ (x : ℕ × List Command). All (IsOfDevice small_parts) x.1) (0, erasing 0 ∷ asking 1 ∷ []) (1, asking 0 ∷ erasing 1 ∷ [])
-        (all_two (IsOfDevice small_parts) (erasing 0) (asking 1) (first_block 0, refl, refl) (first_block 1, refl, refl))
-        (all_two (IsOfDevice small_parts) (asking 0) (erasing 1) (first_block 0, refl, refl) (first_block 1, refl, refl));
-    runnable = all_two (λ (x : ℕ × List Command). All (λ c. CanRun (sizes_of small_boot (s ∷ t ∷ []) c) c) x.1) (0, erasing 0 ∷ asking 1 ∷ []) (1, asking 0 ∷ erasing 1 ∷ [])
-        (all_two (λ c. CanRun (sizes_of small_boot (s ∷ t ∷ []) c) c) (erasing 0) (asking 1) erases asks)
-        (all_two (λ c. CanRun (sizes_of small_boot (s ∷ t ∷ []) c) c) (asking 0) (erasing 1) asks erases);
-    ascending = ascending;
-    cheap = omega arith;
-  }
-    where
-      asks : (1 ≤ 1) × (1 ≤ 32768)
-      asks = (omega arith, omega arith)
+  -- a chip with the sizes of the tests
+  abbrev sized : ChipState W → ChipState W
+  sized s = record s { geometry = small_sizes }
 
-      erases : ErasesAll 1 true 0 0
-      erases = record { size = asks; unscanned = refl; from_first = refl; to_end = refl }
+  same_sized : (s : ChipState W) → IsSmall s → sized s ≡ s
+  same_sized s p = λ j. record { geometry = sym p j; pages = s.pages; fault_state = s.fault_state; faults = s.faults }
 
-  pub small_starts : (starts : List (ChipState W)) → ArePairOfSmall starts → CanStart small_boot starts
-  small_starts [] h = absurd h
-  small_starts (s ∷ []) h = absurd h
-  small_starts (s ∷ t ∷ []) h = pair_starts s t h.0 h.1
-  small_starts (s ∷ t ∷ u ∷ rest) h = absurd h
+  module _ (s t : ChipState W) where
+    abbrev pair : List (ChipState W)
+    pair = sized s ∷ sized t ∷ []
+
+    chip_there : (k : ℕ) → k < 2 → (x : ChipState W) × (slice_get pair k ≡ Some x) × (x.geometry ≡ small_sizes)
+    chip_there zero h = (sized s, refl, refl)
+    chip_there (suc zero) h = (sized t, refl, refl)
+    chip_there (suc (suc k)) h = absurd (omega arith)
+
+    on_flash : (flip : Flip) → IsSmallFlip flip → IsOnFlash pair flip
+    on_flash flip f =
+        let x = chip_there flip.chip f.chip in
+        (x.0, x.1, subst (λ g. FitsBits g flip.page flip.bits) (sym x.2) (record { page_there = f.page; bits_there = f.bits_there }))
+
+    -- a boot of these sessions can be started
+    can_start : (flips : List Flip) (sessions : List (ℕ × List Command)) → All IsSmallFlip flips → AllAre (IsOfDevice small_parts) sessions
+        → CanRunBoot (boot_of flips sessions) pair → AreAscending sessions → boot_cost (boot_of flips sessions) pair ≤ 16777216 → CanStart (boot_of flips sessions) pair
+    can_start flips sessions small devices runnable ascending cheap = record {
+      few = omega arith;
+      plain = all_two IsPlain (sized s) (sized t) refl refl;
+      parts = all_two (IsOnChip pair) (first_block 0) (first_block 1) (sized s, refl, (omega arith, omega arith)) (sized t, refl, (omega arith, omega arith));
+      flips = λ k d h. on_flash (get_or flips k d) (small k d h);
+      uncut = refl;
+      devices = devices;
+      runnable = runnable;
+      ascending = ascending;
+      cheap = cheap;
+    }
+
+    small_can : CanStart (boot_of [] small_sessions) pair
+    small_can = can_start [] small_sessions (λ k d h. absurd (omega arith))
+        (small_all (IsOfDevice small_parts) (λ dev h. device dev h (erasing dev) refl refl) (λ dev h. device dev h (asking dev) refl refl))
+        (small_all (λ c. CanRun (sizes_of (boot_of [] small_sessions) pair c) c) (λ dev h. erases) (λ dev h. asks)) ascending (omega arith)
+      where
+        device : (dev : ℕ) → dev < 2 → (command : Command) → command_device command ≡ dev → device_size command ≡ 1 → IsOfDevice small_parts command
+        device zero h command e n = (first_block 0, ap (part_of small_parts) e, n)
+        device (suc zero) h command e n = (first_block 1, ap (part_of small_parts) e, n)
+        device (suc (suc dev)) h command e n = absurd (omega arith)
+
+    reading_can : (flips : List Flip) → All IsSmallFlip flips → CanStart (boot_of flips reading_sessions) pair
+    reading_can flips small = can_start flips reading_sessions small
+        (reading_all (IsOfDevice small_parts) (first_block 0, refl, refl))
+        (reading_all (λ c. CanRun (sizes_of (boot_of flips reading_sessions) pair c) c) dumps) alone (omega arith)
+
+-- two chips of these sizes are such
+pub on_pair : {W : Type 0} (starts : List (ChipState W)) (boot : Boot) → ArePairOfSmall starts → ((s t : ChipState W) → CanStart boot (pair s t)) → CanStart boot starts
+on_pair [] boot h can = absurd h
+on_pair (s ∷ []) boot h can = absurd h
+on_pair (s ∷ t ∷ []) boot h can = subst₂ (λ x y. CanStart boot (x ∷ y ∷ [])) (same_sized s h.0) (same_sized t h.1) (can s t)
+on_pair (s ∷ t ∷ u ∷ rest) boot h can = absurd h
+
+pub small_starts : {W : Type 0} (starts : List (ChipState W)) → ArePairOfSmall starts → CanStart (boot_of [] small_sessions) starts
+small_starts starts h = on_pair starts (boot_of [] small_sessions) h (λ s t. small_can s t)
+
+pub reading_starts : {W : Type 0} (starts : List (ChipState W)) (flips : List Flip) → ArePairOfSmall starts → All IsSmallFlip flips → CanStart (boot_of flips reading_sessions) starts
+reading_starts starts flips h small = on_pair starts (boot_of flips reading_sessions) h (λ s t. reading_can s t flips small)

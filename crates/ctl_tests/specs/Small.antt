@@ -1,13 +1,15 @@
--- A boot of two sessions on two chips with one device each.
-use Rattle.std.specs.Prelude.{◌≡◌, ℕ, true, List, [], ◌∷◌}
+-- Boots of two chips with one device each: two sessions that erase and ask, and one that dumps a page.
+use Rattle.std.specs.Prelude.{◌≡◌, ◌<◌, ℕ, true, false, List, [], ◌∷◌, All, refl}
 use Rattle.nand_model.specs.Chip.{ChipState}
 use Rattle.nand_model.specs.Operation.{Partitions}
+use Rattle.nand_model.specs.declared.geometry.Geometry.{Geometry}
+use Rattle.nand_model.specs.declared.words.BadMode.TheVariants.{DumpBad}
 use Rattle.nand_model.specs.declared.words.Command.{Command}
-use Rattle.nand_model.specs.declared.words.Command.TheVariants.{FlashErase, IsBad}
+use Rattle.nand_model.specs.declared.words.Command.TheVariants.{FlashErase, IsBad, NandDump}
+use Rattle.nand_model.specs.declared.words.Flip.{Flip}
 use Rattle.nand_model.specs.declared.words.Part.{Part}
 use Rattle.run_model.specs.Course.{Boot}
-use Rattle.tool_steps.specs.Boot.{calm_boot}
-use Rattle.ctl_core.specs.Start.{IsPlain}
+use Rattle.tool_steps.specs.Boot.{boot_with}
 
 -- flash_erase -N of a device of one block
 abbrev pub erasing : ℕ → Command
@@ -17,6 +19,10 @@ erasing dev = FlashErase dev 1 true 0 0
 abbrev pub asking : ℕ → Command
 asking dev = IsBad dev 1 0
 
+-- nanddump -n of the first page of a device of one block, whatever its state
+abbrev pub dumping : ℕ → Command
+dumping dev = NandDump dev 1 0 2048 true false DumpBad
+
 -- the first block of a chip
 abbrev pub first_block : ℕ → Part
 first_block chip = record { chip = chip; start = 0; count = 1 }
@@ -24,18 +30,32 @@ first_block chip = record { chip = chip; start = 0; count = 1 }
 abbrev pub small_parts : Partitions
 small_parts = record { first = 0; parts = first_block 0 ∷ first_block 1 ∷ [] }
 
+-- two sessions that erase and ask
 abbrev pub small_sessions : List (ℕ × List Command)
 small_sessions = (0, erasing 0 ∷ asking 1 ∷ []) ∷ (1, asking 0 ∷ erasing 1 ∷ []) ∷ []
 
-abbrev pub small_boot : Boot
-small_boot = calm_boot small_parts small_sessions
+-- a session that dumps a page three times
+abbrev pub reading_sessions : List (ℕ × List Command)
+reading_sessions = (0, dumping 0 ∷ dumping 0 ∷ dumping 0 ∷ []) ∷ []
 
--- a plain chip of eight blocks
-pub record IsSmall {W : Type 0} (s : ChipState W) : Type 0 where
-  pub plain : IsPlain s
-  pub blocks : s.geometry.blocks ≡ 8
+-- chips of eight blocks without tables
+abbrev pub small_sizes : Geometry
+small_sizes = record { page = 2048; spare = 64; pages_per_block = 64; blocks = 8; t = 1; bbt = 0; threshold = 1; in_bounds = refl }
+
+abbrev pub IsSmall : {W : Type 0} → ChipState W → Type 0
+IsSmall s = s.geometry ≡ small_sizes
 
 -- two such chips
 abbrev pub ArePairOfSmall : {W : Type 0} → List (ChipState W) → Type 0
 ArePairOfSmall (s ∷ t ∷ []) = IsSmall s × IsSmall t
 ArePairOfSmall _ = ⊥
+
+-- a flip turns bits of a page of one of these chips
+pub record IsSmallFlip (flip : Flip) : Type 0 where
+  pub chip : flip.chip < 2
+  pub page : flip.page < 512
+  pub bits_there : All (λ bit. bit < 16896) flip.bits
+
+-- a boot of these flips and sessions
+abbrev pub boot_of : List Flip → List (ℕ × List Command) → Boot
+boot_of flips sessions = boot_with small_parts flips sessions

@@ -4,11 +4,11 @@ ghost use Rattle.run_model.specs.Course.{unattached};
 ghost use Rattle.ctl_core.specs.Past.{course_of};
 
 use ctl_core::{Core, Turn};
-use nand_iface::Flash;
+use nand_iface::{Flash, PageCode};
 use std::alloc::AllocError;
 
 /// Attaches all chips.
-pub fn attach_all<F: Flash>(core: &mut Core<F>) -> Result<(), AllocError>
+pub fn attach_all<F: Flash, C: PageCode>(core: &mut Core<F, C>) -> Result<(), AllocError>
     ensures { OnOk result (unattached (course_of F.fault_model F.state core.new) ≡ None) }
 {
     loop {
@@ -20,7 +20,7 @@ pub fn attach_all<F: Flash>(core: &mut Core<F>) -> Result<(), AllocError>
 }
 
 /// A turn of a session, if it is one of this controller.
-pub fn take_turn<F: Flash>(core: &mut Core<F>, session: u32) -> Result<Turn, AllocError>
+pub fn take_turn<F: Flash, C: PageCode>(core: &mut Core<F, C>, session: u32) -> Result<Turn, AllocError>
     requires { unattached (course_of F.fault_model F.state core.old) ≡ None }
     ensures { unattached (course_of F.fault_model F.state core.new) ≡ None }
 {

@@ -7,7 +7,7 @@ use crate::driving::{attach_all, take_turn};
 use crate::plain::{Side, Told};
 use crate::small::small_core;
 use ctl_core::{Core, SessionEnd};
-use nand_iface::{Flash, History};
+use nand_iface::{Flash, History, PageCode};
 use nand_model::{Note, Op, Outcome, Reply};
 use std::alloc::AllocError;
 use std::test::Fail;
@@ -73,7 +73,11 @@ fn fine(outcome: &Outcome) -> bool {
 }
 
 // Plays the sessions that the first bits of `order` name, and then both in turn to their end. Whether each turn is answered and noted as the rules say.
-fn play<F: Flash>(core: &mut Core<F>, order: u32, want: &mut Vec<Told>) -> Result<bool, AllocError>
+fn play<F: Flash, C: PageCode>(
+    core: &mut Core<F, C>,
+    order: u32,
+    want: &mut Vec<Told>,
+) -> Result<bool, AllocError>
     requires { unattached (course_of F.fault_model F.state core.old) ≡ None }
 {
     let mut first = Side::START;

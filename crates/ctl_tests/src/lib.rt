@@ -1,7 +1,9 @@
-//! Tests of a controller over simulated flashes: every interleaving of two sessions on two chips.
+//! Tests of a controller over simulated flashes: every interleaving of two sessions on two chips, and flips between the events.
 #![tactic(auto)]
 
 mod driving;
+#[cfg(test)]
+mod flips;
 #[cfg(test)]
 mod interleavings;
 #[cfg(test)]
@@ -9,4 +11,4 @@ mod plain;
 mod small;
 
 pub use driving::{attach_all, take_turn};
-pub use small::small_core;
+pub use small::{reading_core, small_core};

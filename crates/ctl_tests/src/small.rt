@@ -1,30 +1,55 @@
-// A controller of two small chips with one device each, and two sessions.
-ghost use Rattle.std.specs.Prelude.{◌≡◌, ◌<◌, ◌++◌, ◌∷◌, [], length, map, IfOk, OnOk};
+// A controller of two small chips with one device each.
+ghost use Rattle.std.specs.Prelude.{◌≡◌, ◌<◌, ◌++◌, ◌∷◌, [], All, length, map, IfOk, OnOk};
 ghost use Rattle.chip_sim.specs.State.{sim_state};
 ghost use Rattle.tool_steps.specs.Boot.{with_command};
-ghost use Rattle.ctl_tests.specs.Small.{IsSmall, ArePairOfSmall, asking, erasing, small_boot, small_parts};
+ghost use Rattle.ctl_tests.specs.Small.{IsSmall, IsSmallFlip, ArePairOfSmall, asking, boot_of, dumping, erasing, reading_sessions, small_parts, small_sessions, small_sizes};
 
 use chip_sim::SimChip;
 use ctl_core::{ControllerBoot, Core, FlashList};
+use ecc_page::EccPage;
+use fault_plan::Faults;
 use mtd_part::Parts;
-use nand_model::{BlockList, Command, Geometry, Part};
+use nand_model::{BadMode, BlockList, Command, Geometry, Part};
 use std::alloc::{AllocError, Global};
 use std::test::Fail;
 
 /// A controller of two chips of eight blocks, with device 0 on the first block of chip 0 and device 1 on that of chip 1.
 /// Session 0 erases device 0 and asks for the state of device 1's block; session 1 asks for that of device 0's block and erases device 1.
-pub fn small_core(alloc: Global) -> Result<Core<SimChip>, Fail> {
+pub fn small_core(alloc: Global) -> Result<Core<SimChip, EccPage>, Fail> {
     let boot = small_boot(alloc)?;
     let flashes = small_flashes(alloc)?;
-    Ok(Core::start(alloc, boot, flashes)?)
+    Ok(Core::start(alloc, boot, flashes, EccPage)?)
 }
 
-// A new chip of eight blocks.
+/// A controller of the same chips and devices with these flips. Session 0 dumps the first page of device 0 three times, by its cells alone.
+pub fn reading_core(alloc: Global, faults: Faults) -> Result<Core<SimChip, EccPage>, Fail>
+    requires { All IsSmallFlip faults }
+{
+    let boot = reading_boot(alloc, faults)?;
+    let flashes = small_flashes(alloc)?;
+    Ok(Core::start(alloc, boot, flashes, EccPage)?)
+}
+
+// The sizes of the chips.
+fn sizes() -> Geometry
+    ensures { result ≡ small_sizes }
+{
+    Geometry {
+        page: 2048,
+        spare: 64,
+        pages_per_block: 64,
+        blocks: 8,
+        t: 1,
+        bbt: 0,
+        threshold: 1,
+    }
+}
+
+// A new chip of these sizes.
 fn small_chip(alloc: Global) -> Result<SimChip, Fail>
     ensures { IfOk result (λ chip. IsSmall (sim_state chip)) }
 {
-    let g = Geometry::new(2048, 64, 64, 8, 1, 0, 0)?;
-    Ok(SimChip::new(alloc, g, &BlockList::new(alloc))?)
+    Ok(SimChip::new(alloc, sizes(), &BlockList::new(alloc))?)
 }
 
 // Two such chips.
@@ -72,17 +97,29 @@ fn small_parts(alloc: Global) -> Result<Parts, Fail>
     Ok(parts)
 }
 
-// The two sessions.
+// The two sessions that erase and ask.
 fn small_boot(alloc: Global) -> Result<ControllerBoot, Fail>
-    ensures { IfOk result (λ boot. boot ≡ small_boot) }
+    ensures { IfOk result (λ boot. boot ≡ boot_of [] small_sessions) }
 {
-    let mut boot = ControllerBoot::new(alloc, small_parts(alloc)?);
+    let mut boot = ControllerBoot::new(alloc, small_parts(alloc)?, Faults::new(alloc));
     boot.add_session(0)?;
     add(&mut boot, erase(0))?;
     add(&mut boot, ask(1))?;
     boot.add_session(1)?;
     add(&mut boot, ask(0))?;
     add(&mut boot, erase(1))?;
+    Ok(boot)
+}
+
+// The session that dumps.
+fn reading_boot(alloc: Global, faults: Faults) -> Result<ControllerBoot, Fail>
+    ensures { IfOk result (λ boot. boot ≡ boot_of faults reading_sessions) }
+{
+    let mut boot = ControllerBoot::new(alloc, small_parts(alloc)?, faults);
+    boot.add_session(0)?;
+    add(&mut boot, dump(0))?;
+    add(&mut boot, dump(0))?;
+    add(&mut boot, dump(0))?;
     Ok(boot)
 }
 
@@ -118,5 +155,20 @@ fn ask(dev: u32) -> Command
         dev,
         blocks: 1,
         block: 0,
+    }
+}
+
+// Dumps the cells of the first page of a device of one block, whatever the block's state.
+fn dump(dev: u32) -> Command
+    ensures { result ≡ dumping dev }
+{
+    Command::NandDump {
+        dev,
+        blocks: 1,
+        off: 0,
+        len: 2048,
+        raw: true,
+        oob: false,
+        bad: BadMode::DumpBad,
     }
 }

@@ -7,12 +7,12 @@ ghost use Rattle.ctl_core.specs.Start.{CanStart, HasSession};
 ghost use Rattle.session_run.specs.Replay.{IsReplayed, IsOfTheSameStart, TakesTurn, session_numbers};
 
 use ctl_core::{Core, Turn};
-use nand_iface::Flash;
+use nand_iface::{Flash, PageCode};
 use std::alloc::AllocError;
 use tool_steps::Schedule;
 
 // Attaches all chips.
-fn attach_all<F: Flash>(core: &mut Core<F>) -> Result<(), AllocError>
+fn attach_all<F: Flash, C: PageCode>(core: &mut Core<F, C>) -> Result<(), AllocError>
     requires { core.old.turns ≡ [] }
     ensures attached { OnOk result (unattached (course_of F.fault_model F.state core.new) ≡ None) }
     ensures same { IsOfTheSameStart core.old core.new }
@@ -23,7 +23,7 @@ fn attach_all<F: Flash>(core: &mut Core<F>) -> Result<(), AllocError>
 }
 
 // Takes the turns of these sessions.
-fn take_turns<F: Flash>(core: &mut Core<F>, sessions: &Schedule) -> Result<(), AllocError>
+fn take_turns<F: Flash, C: PageCode>(core: &mut Core<F, C>, sessions: &Schedule) -> Result<(), AllocError>
     requires attached { unattached (course_of F.fault_model F.state core.old) ≡ None }
     requires own { All (HasSession core.old.boot) sessions.now }
     ensures course { OnOk result (course_of F.fault_model F.state core.new
@@ -39,7 +39,7 @@ fn take_turns<F: Flash>(core: &mut Core<F>, sessions: &Schedule) -> Result<(), A
 }
 
 // Takes a turn of the session at place `k`.
-fn take_turn_at<F: Flash>(core: &mut Core<F>, k: usize) -> Result<(), AllocError>
+fn take_turn_at<F: Flash, C: PageCode>(core: &mut Core<F, C>, k: usize) -> Result<(), AllocError>
     requires attached { unattached (course_of F.fault_model F.state core.old) ≡ None }
     requires place { k < length core.old.boot.sessions }
     ensures taken { OnOk result (TakesTurn F.fault_model F.state k core.old core.new) }
@@ -55,7 +55,7 @@ fn take_turn_at<F: Flash>(core: &mut Core<F>, k: usize) -> Result<(), AllocError
 }
 
 // Takes a turn of each session, in their order; some turn does something.
-fn take_round<F: Flash>(core: &mut Core<F>) -> Result<(), AllocError>
+fn take_round<F: Flash, C: PageCode>(core: &mut Core<F, C>) -> Result<(), AllocError>
     requires attached { unattached (course_of F.fault_model F.state core.old) ≡ None }
     requires can { CanStart core.old.boot (starts_of F.state core.old) }
     requires goes { is_over (course_of F.fault_model F.state core.old) ≡ false }
@@ -77,7 +77,7 @@ fn take_round<F: Flash>(core: &mut Core<F>) -> Result<(), AllocError>
 /// Runs a controller's boot to its end: its chips are attached, the turns of the schedule are taken, and then those of all sessions in their order, round after round, until all is over.
 ///
 /// The controller has just been started, and the schedule names sessions of its own. It waits for nobody.
-pub fn replay<F: Flash>(core: Core<F>, schedule: &Schedule) -> Result<Core<F>, AllocError>
+pub fn replay<F: Flash, C: PageCode>(core: Core<F, C>, schedule: &Schedule) -> Result<Core<F, C>, AllocError>
     requires can { CanStart core.boot (starts_of F.state core) }
     requires attaches { core.attaches ≡ 0 }
     requires turns { core.turns ≡ [] }

@@ -27,8 +27,8 @@ loop-number-preserved c =
         let own : c.in-Some.number ≡ b.0 = cc (number, here) in
         subst₂ (λ n t. IsFresh n t) own same c.new.ensures
 
-pub returns-clause-fresh : goal.returns-clause-fresh
-returns-clause-fresh c =
+pub returns : goal.returns
+returns c =
     let here : session_number c.args.boot.now (length c.loop-number.sessions.items) ≡ None =
     ap (session_number c.args.boot.now) (sym (c.len.ensures ∙ c.loop-number.sessions.ok.0)) ∙ sym c.session.ensures.number ∙ c.in_default.is in
     let end = past_end (λ (s : ℕ × List Command). s.0) c.args.boot.now.sessions (length c.loop-number.sessions.items) here in

@@ -1,5 +1,5 @@
-use Rattle.std.proofs.Common.{◌≡◌, ◌∷◌, ◌++◌, [], List, map, ap, sym, ◌∙◌, subst}
-use Rattle.std.specs.Prelude.{All}
+use Rattle.std.proofs.Common.{◌≡◌, ◌<◌, ◌∷◌, ◌++◌, [], List, length, map, arith, refl, ap, sym, ◌∙◌, subst, append-nil}
+use Rattle.std.specs.Prelude.{All, IsSome}
 use Rattle.ctl_core.specs.Bench.{kept_slot}
 use Rattle.ctl_core.specs.KeptChip.{kept_first}
 use Rattle.ctl_core.specs.Start.{IsPlain}
@@ -20,3 +20,14 @@ loop-flash-preserved g c = record {
       ∙ ap (λ fs. map kept_slot c.loop-flash.slots.items ++ map kept_first (map g.F.Flash.state fs)) (sym c.in-Some.ensures.taken)
       ∙ c.loop-flash.invariant.so_far;
 }
+
+-- a list without a first item
+emptied : {A : Type 0} (xs : List A) → (0 < length xs → ⊥) → xs ≡ []
+emptied [] h = refl
+emptied (x ∷ xs) h = absurd (h (omega arith))
+
+pub returns : goal.returns
+returns g c =
+    let none : c.loop-flash.rest ≡ [] = emptied c.loop-flash.rest (λ h. let some = subst (λ o. IsSome o) c.in_default.is (c.take_first.ensures.some.1 h) in cc) in
+    sym (append-nil (map kept_slot c.loop-flash.slots.items))
+    ∙ ap (λ fs. map kept_slot c.loop-flash.slots.items ++ map kept_first (map g.F.Flash.state fs)) (sym none) ∙ c.loop-flash.invariant.so_far

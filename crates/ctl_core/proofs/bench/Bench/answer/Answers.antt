@@ -7,8 +7,8 @@ use Rattle.chip_model.specs.Stage.{finished_in}
 use Rattle.ctl_core.specs.Bench.{kept_slot, kept_chips}
 use Rattle.ctl_core.specs.KeptChip.{KeptChip, is_held_by, after_answer}
 use Rattle.ctl_core.proofs.Slots.{at_some, kept_at}
-use Rattle.ctl_core.proofs.OnCourse.{own_session}
-use Rattle.ctl_core.proofs.BenchSteps.{some_of, stands_answer}
+use Rattle.ctl_core.proofs.OnCourse.{own_session, some_of}
+use Rattle.ctl_core.proofs.BenchSteps.{stands_answer}
 use Rattle.ctl_core.proofs.bench.Bench.answer.Goals as goal
 
 pub returns : goal.returns

@@ -2,15 +2,10 @@ use Rattle.std.proofs.Common.{◌≡◌, ◌<◌, not, ℕ, List, length, false,
 use Rattle.std.specs.Prelude.{slice_get, is_none, option_map}
 use Rattle.ctl_core.specs.Bench.{past_of, kept_slot, StandsAt}
 use Rattle.ctl_core.specs.KeptChip.{KeptChip}
-use Rattle.ctl_core.proofs.Places.{item_at}
 use Rattle.ctl_core.proofs.Positions.{at_mapped}
 use Rattle.ctl_core.proofs.Slots.{at_some}
-use Rattle.ctl_core.proofs.OnCourse.{lent_at, stays_where_done, answers_held, answers_did_begin}
+use Rattle.ctl_core.proofs.OnCourse.{lent_within, stays_where_done, answers_held, answers_did_begin}
 use Rattle.ctl_core.proofs.bench.Bench.begin.Goals as goal
-
--- an item lent from a place within a list
-lent_within : {A : Type 0} (xs : List A) (k : ℕ) (lent : A) → k < length xs → lent ≡ get_or xs k lent → slice_get xs k ≡ Some lent
-lent_within xs k lent h is = let x = item_at xs k h in lent_at xs k x.0 lent x.1 is
 
 pub returns-in_default-clause-stands : goal.returns-in_default-clause-stands
 returns-in_default-clause-stands g c =

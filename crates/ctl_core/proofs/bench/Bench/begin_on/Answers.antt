@@ -73,8 +73,8 @@ begin-requires-clause-can g c =
     let op = op_here past bench c.args.session c.args.place c.requires.turn c.index_mut.result.now own.0 own.1 c.args.k c.index_mut-2.result.now slot.0 first.0 first.1 first.2
     c.in_ok-op.op c.commands-commands.result.now c.commands-commands.ensures
     (λ sz run m f. c.in_ok-op.ensures.op sz run m (subst (λ (all : Geometry). First (λ (command : Command). sz command ≡ all) run.commands) (sym sizes) f)) in
-    subst (λ (partitions : Partitions). CanBegin (kept_slot c.index_mut-2.result.now).state.geometry partitions c.in_ok-op.op) (sym c.parts.ensures)
-    (subst (CanBegin (kept_slot c.index_mut-2.result.now).state.geometry c.args.journal.now.boot.partitions) op
+    subst (λ (partitions : Partitions). CanBegin (kept_slot c.index_mut-2.result.now).state.geometry partitions (kept_slot c.index_mut-2.result.now).stage c.in_ok-op.op) (sym c.parts.ensures)
+    (subst (CanBegin (kept_slot c.index_mut-2.result.now).state.geometry c.args.journal.now.boot.partitions (kept_slot c.index_mut-2.result.now).stage) op
     (can_begin_here past bench c.args.session c.args.place c.requires.turn c.index_mut.result.now own.0 own.1 c.args.k c.index_mut-2.result.now slot.0 first.0 first.1 first.2))
 
 pub returns-in_err-begin-clause-no_memory : goal.returns-in_err-begin-clause-no_memory

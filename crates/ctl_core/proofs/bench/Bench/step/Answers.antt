@@ -2,25 +2,18 @@ use Rattle.std.proofs.Common.{◌≡◌, false, not, Option, Some, None, refl, a
 use Rattle.std.specs.Prelude.{position, ◌==◌}
 use Rattle.session_steps.specs.Standing.{number_of}
 use Rattle.ctl_core.specs.Bench.{past_of}
-use Rattle.ctl_core.proofs.Limits.{few_slots, few_events, place_there, at_turn, held_works, held_in_slots}
+use Rattle.ctl_core.proofs.Limits.{place_there, at_turn, held_in_slots}
 use Rattle.ctl_core.proofs.OnCourse.{answers_did_pending, busy_pending, held_not_done}
 use Rattle.ctl_core.proofs.bench.Bench.step.Goals as goal
 
 pub unreachable-requires : goal.unreachable-requires
 unreachable-requires g c = place_there (past_of c.args.journal.now) c.args.self.now c.requires.on_course c.args.session c.requires.own (sym c.place_of.ensures ∙ c.in_default.is)
 
-pub go_on-requires-clause-few : goal.go_on-requires-clause-few
-go_on-requires-clause-few g c = few_slots (past_of c.args.journal.now) c.args.self.now c.requires.on_course
+pub go_on-requires-clause-turn : goal.go_on-requires-clause-turn
+go_on-requires-clause-turn g c = (at_turn (past_of c.args.journal.now) c.args.self.now c.requires.on_course c.args.session c.in-Some.place c.requires.attached (sym c.place_of.ensures ∙ c.in-Some.is)).1
 
-pub go_on-requires-clause-works : goal.go_on-requires-clause-works
-go_on-requires-clause-works g c = held_works (past_of c.args.journal.now) c.args.self.now c.requires.on_course c.args.session c.in-Some-held_by.k
-    (sym (held_in_slots c.args.self.now c.args.session) ∙ sym c.held_by.ensures ∙ c.in-Some-held_by.is)
-
-pub go_on-requires-clause-place : goal.go_on-requires-clause-place
-go_on-requires-clause-place g c = (at_turn (past_of c.args.journal.now) c.args.self.now c.requires.on_course c.args.session c.in-Some.place c.requires.attached (sym c.place_of.ensures ∙ c.in-Some.is)).0
-
-pub go_on-requires-clause-number : goal.go_on-requires-clause-number
-go_on-requires-clause-number g c = few_events (past_of c.args.journal.now) c.args.self.now c.requires.on_course
+pub go_on-requires-clause-held : goal.go_on-requires-clause-held
+go_on-requires-clause-held g c = sym (held_in_slots c.args.self.now c.args.session) ∙ sym c.held_by.ensures ∙ c.in-Some-held_by.is
 
 pub begin-requires-clause-turn : goal.begin-requires-clause-turn
 begin-requires-clause-turn g c = (at_turn (past_of c.args.journal.now) c.args.self.now c.requires.on_course c.args.session c.in-Some.place c.requires.attached (sym c.place_of.ensures ∙ c.in-Some.is)).1
@@ -28,23 +21,17 @@ begin-requires-clause-turn g c = (at_turn (past_of c.args.journal.now) c.args.se
 pub begin-requires-clause-free : goal.begin-requires-clause-free
 begin-requires-clause-free g c = sym (held_in_slots c.args.self.now c.args.session) ∙ sym c.held_by.ensures ∙ c.in-None.is
 
-pub returns-in-Some-held_by-clause-answer : goal.returns-in-Some-held_by-clause-answer
-returns-in-Some-held_by-clause-answer g c =
+pub returns-in_ok-go_on-in-Some-held_by-clause-answer : goal.returns-in_ok-go_on-in-Some-held_by-clause-answer
+returns-in_ok-go_on-in-Some-held_by-clause-answer g c =
     let past = past_of c.args.journal.now in
     let turn = (at_turn past c.args.self.now c.requires.on_course c.args.session c.in-Some.place c.requires.attached (sym c.place_of.ensures ∙ c.in-Some.is)).1 in
     let held = sym (held_in_slots c.args.self.now c.args.session) ∙ sym c.held_by.ensures ∙ c.in-Some-held_by.is in
     answers_did_pending past c.args.self.now c.args.session c.in-Some.place turn c.in-Some-held_by.k
     (held_not_done past c.args.self.now c.requires.on_course c.args.session c.in-Some-held_by.k held) held
 
-pub returns-in-Some-held_by-clause-idle : goal.returns-in-Some-held_by-clause-idle
-returns-in-Some-held_by-clause-idle g c =
+pub returns-in_ok-go_on-in-Some-held_by-clause-idle : goal.returns-in_ok-go_on-in-Some-held_by-clause-idle
+returns-in_ok-go_on-in-Some-held_by-clause-idle g c =
     let past = past_of c.args.journal.now in
     let turn = (at_turn past c.args.self.now c.requires.on_course c.args.session c.in-Some.place c.requires.attached (sym c.place_of.ensures ∙ c.in-Some.is)).1 in
     let held = sym (held_in_slots c.args.self.now c.args.session) ∙ sym c.held_by.ensures ∙ c.in-Some-held_by.is in
     ap not (sym (busy_pending past c.args.self.now c.args.session c.in-Some.place turn c.in-Some-held_by.k held))
-
-pub returns-in-Some-held_by-clause-stands : goal.returns-in-Some-held_by-clause-stands
-returns-in-Some-held_by-clause-stands g c =
-    let past = past_of c.args.journal.now in
-    let turn = (at_turn past c.args.self.now c.requires.on_course c.args.session c.in-Some.place c.requires.attached (sym c.place_of.ensures ∙ c.in-Some.is)).1 in
-    c.go_on.ensures past turn (sym (held_in_slots c.args.self.now c.args.session) ∙ sym c.held_by.ensures ∙ c.in-Some-held_by.is)

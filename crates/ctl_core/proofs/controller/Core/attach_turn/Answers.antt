@@ -1,5 +1,5 @@
 use Rattle.std.proofs.Common.{◌≡◌, ◌≤◌, ◌+◌, Some, None, arith, refl, ap, sym, ◌∙◌, subst}
-use Rattle.std.specs.Prelude.{IsSome, slice_get, option_and_then}
+use Rattle.std.specs.Prelude.{IsSome, slice_get, option_and_then, All}
 use Rattle.nand_model.specs.Chip.{PageEvent}
 use Rattle.run_model.specs.Course.{attach_step, unattached}
 use Rattle.run_laws.proofs.AttachTurns.{attach_is_step}
@@ -8,9 +8,12 @@ use Rattle.chip_model.specs.Stage.{stage_event}
 use Rattle.ctl_core.specs.Answer.{attach_answer}
 use Rattle.ctl_core.specs.KeptChip.{KeptChip}
 use Rattle.ctl_core.specs.Past.{Past, starts_of, sizes_in, course_of, with_attach}
+use Rattle.ctl_core.specs.declared.bench.Bench.{Bench}
 use Rattle.ctl_core.specs.Bench.{past_of, kept_chips}
+use Rattle.ctl_core.specs.Flips.{CanFlip}
 use Rattle.ctl_core.proofs.Limits.{few_slots, few_events, few_attaches, few_blocks, attached_there}
-use Rattle.ctl_core.proofs.CoreSteps.{attaching_in_slots, renoted, attach_there, next_attach, attached_on}
+use Rattle.ctl_core.proofs.CoreSteps.{attaching_in_slots, renoted, stayed_on, attach_there, next_attach, attached_now}
+use Rattle.ctl_core.proofs.OnCourse.{can_flip, stands_alike}
 use Rattle.ctl_core.proofs.controller.Core.attach_turn.Goals as goal
 
 pub returns-in_err-reserve-clause-few : goal.returns-in_err-reserve-clause-few
@@ -45,19 +48,33 @@ do_event-requires-clause-event g c =
 pub do_event-requires-clause-number : goal.do_event-requires-clause-number
 do_event-requires-clause-number g c = few_events (past_of c.self.inside.journal) c.self.inside.bench c.self.invariant
 
+pub do_event-requires-clause-flips : goal.do_event-requires-clause-flips
+do_event-requires-clause-flips g c =
+    subst (λ flips. All (CanFlip (kept_chips c.self.inside.bench)) flips) (sym c.faults.ensures) (can_flip (past_of c.self.inside.journal) c.self.inside.bench c.self.invariant)
+
 pub overflow_add-self : goal.overflow_add-self
 overflow_add-self g c =
     let few = few_attaches (past_of c.self.inside.journal) c.self.inside.bench c.self.invariant in
     let blocks = few_blocks (past_of c.self.inside.journal) c.self.inside.bench c.self.invariant in
     omega (arith, few, blocks)
 
+pub invariant_of-self-in_err-do_event : goal.invariant_of-self-in_err-do_event
+invariant_of-self-in_err-do_event g c =
+    let past = past_of c.self.inside.journal in
+    let before : Bench g.row.F.Denot g.row.C.Denot g.F.Flash = record c.self.inside.bench { notes = c.reserve.new.self } in
+    let on = renoted past c.self.inside.bench c.self.invariant c.reserve.new.self c.reserve.ensures.notes in
+    stayed_on past before on c.do_event.new.self
+    (stands_alike past before on (course_of g.F.Flash.fault_model g.F.Flash.state past) c.do_event.new.self on.stands c.in_err-do_event.ensures.no_memory)
+
+pub returns-in_err-do_event-clause-few : goal.returns-in_err-do_event-clause-few
+returns-in_err-do_event-clause-few g c = few_attaches (past_of c.self.inside.journal) c.self.inside.bench c.self.invariant
+
 pub invariant_of-self-2 : goal.invariant_of-self-2
 invariant_of-self-2 g c =
     let past = past_of c.self.inside.journal in
-    let first = sym (attaching_in_slots c.self.inside.bench) ∙ sym c.first_attaching.ensures ∙ c.in-Some.is in
-    let there = attach_there past c.self.inside.bench c.self.invariant c.in-Some.k first in
-    attached_on past (record c.self.inside.bench { notes = c.reserve.new.self }) (renoted past c.self.inside.bench c.self.invariant c.reserve.new.self c.reserve.ensures.notes)
-    c.in-Some.k there.0 there.1 c.do_event.new.self first there.2 there.3 (c.do_event.ensures there.0 there.1 there.2 there.3)
+    let before : Bench g.row.F.Denot g.row.C.Denot g.F.Flash = record c.self.inside.bench { notes = c.reserve.new.self } in
+    attached_now past before (renoted past c.self.inside.bench c.self.invariant c.reserve.new.self c.reserve.ensures.notes) c.in-Some.k c.do_event.new.self
+    (sym (attaching_in_slots c.self.inside.bench) ∙ sym c.first_attaching.ensures ∙ c.in-Some.is) c.faults.result.now c.faults.ensures c.in_ok-do_event.ensures.did
 
 pub returns-clause-answer : goal.returns-clause-answer
 returns-clause-answer g c =
@@ -74,8 +91,7 @@ returns-clause-step g c =
 pub returns-clause-few : goal.returns-clause-few
 returns-clause-few g c =
     let past = past_of c.self.inside.journal in
-    let first = sym (attaching_in_slots c.self.inside.bench) ∙ sym c.first_attaching.ensures ∙ c.in-Some.is in
-    let there = attach_there past c.self.inside.bench c.self.invariant c.in-Some.k first in
+    let before : Bench g.row.F.Denot g.row.C.Denot g.F.Flash = record c.self.inside.bench { notes = c.reserve.new.self } in
     few_attaches (with_attach past) c.do_event.new.self
-    (attached_on past (record c.self.inside.bench { notes = c.reserve.new.self }) (renoted past c.self.inside.bench c.self.invariant c.reserve.new.self c.reserve.ensures.notes)
-    c.in-Some.k there.0 there.1 c.do_event.new.self first there.2 there.3 (c.do_event.ensures there.0 there.1 there.2 there.3))
+    (attached_now past before (renoted past c.self.inside.bench c.self.invariant c.reserve.new.self c.reserve.ensures.notes) c.in-Some.k c.do_event.new.self
+    (sym (attaching_in_slots c.self.inside.bench) ∙ sym c.first_attaching.ensures ∙ c.in-Some.is) c.faults.result.now c.faults.ensures c.in_ok-do_event.ensures.did)

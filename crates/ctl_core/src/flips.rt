@@ -1,0 +1,80 @@
+// The flips that are due before an event.
+ghost use Rattle.std.specs.Prelude.{◌≡◌, ◌+◌, ℕ, All, length, map, OnOk, OnErr, IfSome};
+ghost use Rattle.ctl_core.specs.Bench.{HasRoom, kept_slot};
+ghost use Rattle.ctl_core.specs.Flips.{CanFlip, bit_count, due_flips, kept_flip, kept_flips_before};
+
+use crate::bench::Slot;
+use fault_plan::{Faults, Flip};
+use nand_iface::{Flash, PageCode};
+use std::alloc::AllocError;
+
+// Makes the flips that are due before an event, in the order of their lines. Memory is taken first; where there is none, no bit is turned.
+pub fn make_due_flips<F: Flash, C: PageCode>(
+    slots: &mut Vec<Slot<F, C>>,
+    faults: &Faults,
+    event: u32,
+) -> Result<(), AllocError>
+    requires { All (CanFlip (map kept_slot slots.old.items)) faults.now }
+    ensures made { OnOk result (map kept_slot slots.new.items ≡ kept_flips_before F.fault_model faults.now event (map kept_slot slots.old.items)) }
+    ensures no_memory { OnErr result (map kept_slot slots.new.items ≡ map kept_slot slots.old.items) }
+{
+    reserve_for(slots, faults, event)?;
+    make_flips(slots, faults, event);
+    Ok(())
+}
+
+// Makes the room of each chip large enough for all flips that are due before an event.
+fn reserve_for<F: Flash, C: PageCode>(
+    slots: &mut Vec<Slot<F, C>>,
+    faults: &Faults,
+    event: u32,
+) -> Result<(), AllocError>
+    ensures room { OnOk result (All (HasRoom (length (due_flips faults.now event)) (bit_count (due_flips faults.now event))) slots.new.items) }
+    ensures same { map kept_slot slots.new.items ≡ map kept_slot slots.old.items }
+{
+    let (pages, bits) = due_counts(faults, event).ok_or(AllocError)?;
+    for k in 0..slots.len() {
+        slots[k].chip.reserve(pages, bits)?;
+    }
+    Ok(())
+}
+
+// How many flips are due before an event, and how many bits they turn. None comes only where one of these numbers passes 32 bits.
+fn due_counts(faults: &Faults, event: u32) -> Option<(u32, u32)>
+    ensures { IfSome result (λ counts. (counts.0 ≡ length (due_flips faults.now event)) × (counts.1 ≡ bit_count (due_flips faults.now event))) }
+{
+    let mut pages = 0u32;
+    let mut bits = 0u32;
+    for n in 0..faults.len() {
+        let one = faults.flip(n);
+        if one.before == event {
+            pages = pages.checked_add(1)?;
+            bits = bits.checked_add(u32::try_from(one.bits.len()).ok()?)?;
+        }
+    }
+    Some((pages, bits))
+}
+
+// Makes the flips that are due before an event, in the order of their lines.
+fn make_flips<F: Flash, C: PageCode>(slots: &mut Vec<Slot<F, C>>, faults: &Faults, event: u32)
+    requires there { All (CanFlip (map kept_slot slots.old.items)) faults.now }
+    requires room { All (HasRoom (length (due_flips faults.now event)) (bit_count (due_flips faults.now event))) slots.old.items }
+    ensures { map kept_slot slots.new.items ≡ kept_flips_before F.fault_model faults.now event (map kept_slot slots.old.items) }
+{
+    for n in 0..faults.len() {
+        let flip = faults.flip(n);
+        if flip.before == event {
+            make_flip(slots, flip);
+        }
+    }
+}
+
+// Makes a flip.
+fn make_flip<F: Flash, C: PageCode>(slots: &mut Vec<Slot<F, C>>, flip: &Flip)
+    requires there { CanFlip (map kept_slot slots.old.items) flip.now }
+    requires room { All (HasRoom 1 (length flip.now.bits)) slots.old.items }
+    ensures chips { map kept_slot slots.new.items ≡ kept_flip F.fault_model (map kept_slot slots.old.items) flip.now }
+    ensures room { (pages bits : ℕ) → All (HasRoom (1 + pages) (length flip.now.bits + bits)) slots.old.items → All (HasRoom pages bits) slots.new.items }
+{
+    slots[flip.chip as usize].chip.flip(flip.page, &flip.bits);
+}

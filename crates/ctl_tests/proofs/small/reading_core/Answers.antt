@@ -1,0 +1,11 @@
+use Rattle.std.proofs.Common.{map, sym, subst}
+use Rattle.run_model.specs.Course.{Boot}
+use Rattle.chip_sim.specs.State.{sim_state}
+use Rattle.ctl_core.specs.Start.{CanStart}
+use Rattle.ctl_tests.proofs.Conditions.{reading_starts}
+use Rattle.ctl_tests.proofs.small.reading_core.Goals as goal
+
+pub start-requires : goal.start-requires
+start-requires c =
+    subst (λ (boot : Boot). CanStart boot (map sim_state c.in_ok-flashes.flashes)) (sym c.in_ok-boot.ensures)
+    (reading_starts (map sim_state c.in_ok-flashes.flashes) c.args.faults c.in_ok-flashes.ensures c.requires)
