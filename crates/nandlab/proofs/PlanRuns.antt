@@ -2,13 +2,14 @@
 use Rattle.std.proofs.Common.{◌≡◌, ◌<◌, ◌≤◌, ◌+◌, ◌⊎◌, inl, inr, ℕ, zero, suc, Bool, true, false, cond, not, List, [], ◌∷◌, ◌++◌, length, map, take, Some, refl, ap, sym, ◌∙◌, subst, arith, zero-add, get_or}
 use Rattle.std.specs.Prelude.{slice_get, option_map, All, Contains, ◌==◌, count_by}
 use Rattle.std.proofs.lemmas.Bool.{cases_eq, eq-eqb, ne_eqb}
-use Rattle.std.proofs.lemmas.List.Elements.{All-nil, All-cons}
+use Rattle.std.proofs.lemmas.List.Elements.{All-weaker}
 use Rattle.std.proofs.lemmas.List.Sums.{sum_by-cons}
 use Rattle.std.proofs.lemmas.Option.{none-some, same_Some, slice_get-get_or, slice_get-map}
 use Rattle.nand_model.specs.Chip.{ChipState, SimFaults, new_chip, sim_faults}
 use Rattle.nand_model.specs.Sizes.{numbers_from}
 use Rattle.nand_model.specs.declared.geometry.Geometry.{Geometry}
 use Rattle.nand_model.specs.declared.words.Command.{Command}
+use Rattle.nand_model.specs.declared.words.Flip.{Flip}
 use Rattle.nand_model.specs.declared.words.Note.{Note}
 use Rattle.nand_model.specs.declared.words.Stats.{Stats}
 use Rattle.run_model.specs.Course.{Course, SessionRun, chip_of as chip_of_device, course_after, geometry_for, is_finished, is_over, sizes_of, with_reply, without_finished}
@@ -29,11 +30,11 @@ use Rattle.several_chip_plan.specs.SeveralChips.{IsPlan, boot_of, chip_of, geome
 use Rattle.several_chip_plan.specs.declared.lines.ChipLines.{ChipLines}
 use Rattle.several_chip_plan.specs.declared.lines.CommandLine.{CommandLine}
 use Rattle.several_chip_plan.specs.declared.lines.PlanLines.{PlanLines}
-use Rattle.chips_boot.specs.Ready.{IsReady, the_boot, the_chips}
+use Rattle.chips_boot.specs.Ready.{IsOnFlash, IsReady, the_boot, the_chips}
 use Rattle.chips_boot.proofs.Devices.{length-parts_by}
 use Rattle.session_steps.specs.Ended.{EndOfSession}
 use Rattle.ctl_core.specs.Ended.{end_by_notes, ends_by_notes, statistics_at}
-use Rattle.ctl_core.specs.Start.{CanStart, HasSession, IsPlain}
+use Rattle.ctl_core.specs.Start.{CanStart, HasSession, IsOnFlash as CanTurn}
 use Rattle.ctl_core.proofs.LastStates.{mapped_push}
 use Rattle.ctl_core.proofs.Sessions.{one_number_each}
 use Rattle.session_run.specs.Replay.{IsReplayed, rounds_after, session_numbers}
@@ -43,27 +44,18 @@ use Rattle.nandlab.specs.Ends.{ends_by, stats_by, stats_of}
 use Rattle.nandlab.specs.Run.{EndsRun}
 use Rattle.nandlab.proofs.PlanTurns.{numbered, replay_turns-rounds}
 
--- a new chip of the form is plain
-sizes_plain : (large strong : Bool) → (sizes_by large strong).bbt ≡ 0
-sizes_plain false false = refl
-sizes_plain false true = refl
-sizes_plain true false = refl
-sizes_plain true true = refl
-
-plain_new : (chip : ChipLines) → IsPlain (new_chip (geometry_of chip) [] [])
-plain_new chip = record { without_tables = sizes_plain (chip.blocks == 16) (chip.t == 4); unflipped = λ page. refl }
-
-plain_all : (chips : List ChipLines) → All (IsPlain {W = SimFaults}) (new_chips (map chip_of chips))
-plain_all [] = All-nil (IsPlain {W = SimFaults})
-plain_all (chip ∷ chips) = All-cons (IsPlain {W = SimFaults}) (new_chip (geometry_of chip) [] []) (new_chips (map chip_of chips)) (plain_new chip)
-    (plain_all chips)
+-- a flip of a plan is one that its controller can make
+on_flash : (starts : List (ChipState SimFaults)) (flip : Flip) → IsOnFlash starts flip → CanTurn starts flip
+on_flash starts flip on = (on.state, on.is_there, record { page_there = on.page; bits_there = on.bits })
 
 -- the controller of a plan can be started
 pub can_start : (plan : PlanLines) → IsReady plan → CanStart (the_boot plan) (the_chips plan)
 can_start plan ready = record {
   few = ready.few;
-  plain = plain_all plan.chips;
+  plain = ready.without_tables;
   parts = ready.parts;
+  flips = All-weaker (IsOnFlash (the_chips plan)) (CanTurn (the_chips plan)) (on_flash (the_chips plan)) (the_boot plan).flips ready.flips;
+  uncut = ready.uncut;
   devices = ready.devices;
   runnable = ready.runnable;
   ascending = ready.ascending;

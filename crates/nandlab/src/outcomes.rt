@@ -242,7 +242,7 @@ fn put_outcomes(
     lines: &ItemList<CommandLine>,
     ended: &SessionEnd,
 ) -> Result<(), AllocError>
-    requires { All (IsCommand (length chips.now) (length payload.now)) lines.now }
+    requires { All (IsCommand chips.now payload.now) lines.now }
     ensures { OnOk result (out.new ≡ out.old ++ outcome_lines (map (command_of chips.now payload.now) lines.now) ended.now.outcomes) }
 {
     for n in 0..lines.len().min(ended.len()) {
@@ -262,7 +262,7 @@ pub fn put_session(
     lines: &ItemList<CommandLine>,
     ended: &SessionEnd,
 ) -> Result<(), AllocError>
-    requires { All (IsCommand (length chips.now) (length payload.now)) lines.now }
+    requires { All (IsCommand chips.now payload.now) lines.now }
     ensures { OnOk result (out.new ≡ out.old ++ ended_text number (map (command_of chips.now payload.now) lines.now) ended.now) }
 {
     let text = format!(in alloc; "session {number}\n")?;

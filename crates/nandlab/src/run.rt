@@ -9,6 +9,7 @@ ghost use Rattle.nandlab.specs.Run.{EndsRun};
 use chip_sim::SimChip;
 use chips_boot::{boot_of_plan, sizes_of_chip};
 use ctl_core::{Core, Ended};
+use ecc_page::EccPage;
 use nand_model::{BlockList, ItemList};
 use session_run::replay;
 use several_chip_plan::{ChipLines, PlanLines};
@@ -43,7 +44,7 @@ pub fn run_plan(alloc: Global, plan: &PlanLines) -> Result<Ended<SimChip>, Alloc
 {
     let flashes = new_flashes(alloc, &plan.chips)?;
     let boot = boot_of_plan(alloc, plan)?;
-    let core = Core::start(alloc, boot, flashes)?;
+    let core = Core::start(alloc, boot, flashes, EccPage)?;
     let core = replay(core, &plan.schedule)?;
     core.finish()
 }
