@@ -1,5 +1,5 @@
 -- Which page or block of its chip a page or a block of a device is, and the paths of operations on it.
-use Rattle.std.proofs.Common.{◌≡◌, ℕ, ◌+◌, ◌*◌, ◌/◌, ◌<◌, ◌≤◌, Bool, true, false, List, Option, Some, None, refl, ap, sym, inl, inr, arith, ◌∙◌}
+use Rattle.std.proofs.Common.{◌≡◌, ℕ, ◌+◌, ◌*◌, ◌/◌, ◌<◌, ◌≤◌, true, false, List, Option, Some, None, refl, ap, sym, inl, inr, arith, ◌∙◌}
 use Rattle.std.specs.Prelude.{IsSome, IfSome, SomeIff, nat_lt}
 use Rattle.std.proofs.Math.Nat.{mul-add-div_right, mul-le-mul_right}
 use Rattle.std.proofs.lemmas.Bool.{cases_lt, false≢true, le-ltb, lt-ltb}

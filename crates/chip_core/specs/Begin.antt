@@ -1,5 +1,5 @@
 -- Which operations a chip without tables takes.
-use Rattle.std.specs.Prelude.{ℕ, ◌+◌, ◌≤◌, Option, Some, None, IsSome, IfSome, ⊤}
+use Rattle.std.specs.Prelude.{ℕ, ◌+◌, ◌≤◌, Option, Some, None, IsSome, IfSome}
 use Rattle.nand_model.specs.Operation.{Partitions, part_of, device_of}
 use Rattle.nand_model.specs.declared.geometry.Geometry.{Geometry}
 use Rattle.nand_model.specs.declared.words.Op.{Op}

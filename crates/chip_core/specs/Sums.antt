@@ -1,5 +1,5 @@
 -- The statistics of devices, as the chip keeps them.
-use Rattle.std.specs.Prelude.{◌≡◌, ℕ, ◌<◌, ◌^◌, ◌==◌, if◌then◌else◌, List, [], ◌∷◌, Option, position}
+use Rattle.std.specs.Prelude.{ℕ, ◌<◌, ◌^◌, ◌==◌, if◌then◌else◌, List, [], ◌∷◌, Option, position}
 use Rattle.nand_model.specs.declared.words.Stats.{Stats}
 use Rattle.chip_core.specs.declared.sums.DeviceSums.{DeviceSums}
 

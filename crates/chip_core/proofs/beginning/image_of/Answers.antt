@@ -1,5 +1,4 @@
 use Rattle.std.proofs.Common.{◌≡◌, length, ap, ◌∙◌}
-use Rattle.std.proofs.lemmas.List.{length-replicate}
 use Rattle.chip_core.proofs.Imaging.{encoded_is, refilled}
 use Rattle.chip_core.proofs.beginning.image_of.Goals as goal
 

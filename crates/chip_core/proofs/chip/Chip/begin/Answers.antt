@@ -1,5 +1,4 @@
-use Rattle.std.proofs.Common.{◌≡◌, ap, sym, ◌∙◌}
-use Rattle.nand_model.specs.declared.geometry.Geometry.{Geometry}
+use Rattle.std.proofs.Common.{sym, ◌∙◌}
 use Rattle.chip_core.specs.Begin.{read_device}
 use Rattle.chip_core.specs.Sums.{stats_in}
 use Rattle.chip_core.proofs.Answering.{rests_fit, small_at}
