@@ -1,3 +1,5 @@
+mod Flipping
+mod LogLemmas
 mod Programming
 mod Erasing
 mod Placing

@@ -1,5 +1,5 @@
 -- The first page of a block of the chip is a page of the chip.
-use Rattle.std.proofs.Common.{◌≡◌, ℕ, ◌+◌, ◌*◌, ◌<◌, ◌≤◌, arith, List, length, slice_get, All, Some, subst, inl, inr}
+use Rattle.std.proofs.Common.{◌≡◌, ℕ, ◌+◌, ◌*◌, ◌^◌, ◌<◌, ◌≤◌, arith, List, length, slice_get, All, Some, subst, inl, inr}
 use Rattle.std.proofs.Math.Nat.{mul-le-mul_right}
 use Rattle.std.proofs.lemmas.Option.{get_or_from_slice_get}
 use Rattle.nand_model.specs.Sizes.{page_count, first_page}
@@ -19,3 +19,10 @@ pub first_page-there : (g : Geometry) (blocks : List ℕ) (n block : ℕ) → Al
 first_page-there g blocks n block all more is_block =
     let there : block < g.blocks = subst (λ b. b < g.blocks) (get_or_from_slice_get blocks n block 0 is_block) (all n 0 more) in
     omega (arith, block-there g block there, pages_per_block-some g)
+
+-- and their numbers are small
+pub block_end-small : (g : Geometry) (block : ℕ) → block < g.blocks → block * g.pages_per_block + g.pages_per_block < 2 ^ 32
+block_end-small g block there =
+    let more : block + 1 ≤ 4096 = omega (arith, (bounds g).blocks_high) in
+    let all : (block + 1) * g.pages_per_block ≤ 4096 * g.pages_per_block = mul-le-mul_right g.pages_per_block more in
+    elim ((bounds g).block) [ inl h ↦ omega arith | inr h ↦ omega arith ]

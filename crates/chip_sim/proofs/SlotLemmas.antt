@@ -1,5 +1,5 @@
 -- Slots after one of them, or those of a block, are changed.
-use Rattle.std.proofs.Common.{◌≡◌, ℕ, ◌+◌, ◌*◌, ◌/◌, ◌<◌, arith, refl, ap, ◌∙◌, subst, inl, inr, Bool, true, false, List, length, take, slice_set, slice_get, slice_index_or, All, Option, Some, None, if◌then◌else◌}
+use Rattle.std.proofs.Common.{◌≡◌, ℕ, ◌+◌, ◌/◌, ◌<◌, arith, refl, ap, ◌∙◌, subst, inl, inr, Bool, true, false, List, [], length, take, slice_set, slice_get, slice_index_or, All, Option, Some, None, if◌then◌else◌}
 use Rattle.std.specs.Prelude.{◌==◌, ◌&&◌, ◌||◌, nat_le, nat_lt}
 use Rattle.std.specs.List.{list_any}
 use Rattle.std.proofs.lemmas.Bool.Decides.{eqb_tells, nat_tests}
@@ -9,12 +9,14 @@ use Rattle.std.proofs.lemmas.Option.{get_or_from_slice_get}
 use Rattle.nand_model.specs.Chip.{new_page, with_page, with_block, good_program, blank_page, programmed}
 use Rattle.nand_model.specs.Sizes.{raw_len, first_page}
 use Rattle.nand_model.specs.declared.geometry.Geometry.{Geometry}
-use Rattle.chip_sim.specs.Slots.{IsWholeSlot, blank_cells, cells_of, page_of, slot_at}
+use Rattle.chip_sim.specs.Blanks.{blank_cells}
+use Rattle.chip_sim.specs.Slots.{IsWholeSlot, cells_of, page_of, slot_at}
+use Rattle.chip_sim.specs.declared.page.Page.{Page}
 use Rattle.nand_iface.proofs.FlashLemmas.{length-map_from}
 use Rattle.chip_sim.proofs.Erasing.{in_block}
 
-abbrev Slot : Type 0
-Slot = Option (List ℕ)
+abbrev pub Slot : Type 0
+Slot = Option Page
 
 -- a slot after one is set
 pub slot_at-set : (slots : List Slot) (at page : ℕ) (new : Slot) → at < length slots
@@ -25,21 +27,27 @@ slot_at-set slots at page new there =
       | inr other ↦ rw other.0 (get_or-set_other slots at page new None other.1)
     ]
 
--- a slot that was read is the slot at that place
-pub slot_at-read : (slots : List Slot) (at : ℕ) (slot : Slot) → at < length slots → slot ≡ slice_index_or slots at slot → slot ≡ slot_at slots at
-slot_at-read slots at slot there read = read ∙ get_or_default slots at slot None there
+-- a page after a good program
+abbrev pub programmed_page : ℕ → Slot → List ℕ → Page
+programmed_page raw slot image = record { cells = programmed (cells_of raw slot) image; flipped_since = false }
+
+-- a slot that was read and changed is the changed slot at that place
+pub slot_at-changed : (slots : List Slot) (at : ℕ) (read new : Slot) (change : Slot → Slot) → at < length slots → read ≡ slice_index_or slots at read
+    → new ≡ change read → new ≡ change (slot_at slots at)
+slot_at-changed slots at read new change there is_read changed = changed ∙ ap change (is_read ∙ get_or_default slots at read None there)
 
 -- a programmed slot has as many bytes
-pub programmed-whole : (raw : ℕ) (slot : Slot) (image : List ℕ) → IsWholeSlot raw slot → IsWholeSlot raw (Some (programmed (cells_of raw slot) image))
+pub programmed-whole : (raw : ℕ) (slot : Slot) (image : List ℕ) → IsWholeSlot raw slot → IsWholeSlot raw (Some (programmed_page raw slot image))
 programmed-whole raw slot image whole = length-map_from _ (cells_of raw slot) 0 ∙ whole
 
 -- after a good program each page is as it should be
-pub program-pages : (g : Geometry) (slots : List Slot) (at page : ℕ) (new : Slot) (image : List ℕ) → at < length slots
-    → new ≡ Some (programmed (cells_of (raw_len g) (slot_at slots at)) image)
-    → page_of g (slot_at (slice_set slots at new) page) ≡ with_page (λ p. page_of g (slot_at slots p)) at (good_program (page_of g (slot_at slots at)) image) page
-program-pages g slots at page new image there is_new =
+pub program-pages : (raw : ℕ) (flips : ℕ → List ℕ) (slots : List Slot) (at page : ℕ) (new : Slot) (image : List ℕ) → at < length slots
+    → new ≡ Some (programmed_page raw (slot_at slots at) image)
+    → page_of raw (flips page) (slot_at (slice_set slots at new) page)
+    ≡ with_page (λ p. page_of raw (flips p) (slot_at slots p)) at (good_program (page_of raw (flips at) (slot_at slots at)) image) page
+program-pages raw flips slots at page new image there is_new =
     elim (eqb_tells page at) [
-      | inl same ↦ rw (slot_at-set slots at page new there, same.0, is_new) refl
+      | inl same ↦ rw (slot_at-set slots at page new there, same.0, is_new, same.1) refl
       | inr other ↦ rw (slot_at-set slots at page new there, other.0) refl
     ]
 
@@ -59,20 +67,24 @@ cleared-whole raw first end old new same_length cleared whole =
     All-slots (IsWholeSlot raw) new (λ page there.
     rw (cleared page) (whole_if raw (nat_le first page && nat_lt page end) (slot_at old page) (whole page None (omega arith))))
 
-page_if : (g : Geometry) (b : Bool) (slot : Slot) → page_of g (if b then None else slot) ≡ (if b then blank_page g else page_of g slot)
-page_if g true slot = refl
-page_if g false slot = refl
+page_if : (g : Geometry) (flips : List ℕ) (b : Bool) (slot : Slot)
+    → page_of (raw_len g) (if b then [] else flips) (if b then None else slot) ≡ (if b then blank_page g else page_of (raw_len g) flips slot)
+page_if g flips true slot = refl
+page_if g flips false slot = refl
 
 -- after a good erase each page is as it should be
-pub erase-pages : (g : Geometry) (old new : List Slot) (block page : ℕ) → 0 < g.pages_per_block
-    → slot_at new page ≡ (if nat_le (block * g.pages_per_block) page && nat_lt page (block * g.pages_per_block + g.pages_per_block) then None else slot_at old page)
-    → page_of g (slot_at new page) ≡ with_block g (λ p. page_of g (slot_at old p)) block (λ q before. blank_page g) page
-erase-pages g old new block page some cleared =
-    rw (cleared, ← in_block g.pages_per_block block page some) (page_if g (page / g.pages_per_block == block) (slot_at old page))
+pub erase-pages : (g : Geometry) (old new : List Slot) (flips kept : ℕ → List ℕ) (block page : ℕ) → 0 < g.pages_per_block
+    → slot_at new page
+    ≡ (if nat_le (first_page g block) page && nat_lt page (first_page g block + g.pages_per_block) then None else slot_at old page)
+    → kept page ≡ (if nat_le (first_page g block) page && nat_lt page (first_page g block + g.pages_per_block) then [] else flips page)
+    → page_of (raw_len g) (kept page) (slot_at new page)
+    ≡ with_block g (λ p. page_of (raw_len g) (flips p) (slot_at old p)) block (λ q before. blank_page g) page
+erase-pages g old new flips kept block page some cleared forgotten =
+    rw (cleared, forgotten, ← in_block g.pages_per_block block page some) (page_if g (flips page) (page / g.pages_per_block == block) (slot_at old page))
 
--- the cells of the first page of a factory-bad block
-abbrev pub factory_bad : Geometry → List ℕ
-factory_bad g = slice_set (blank_cells (raw_len g)) g.page 0
+-- the first page of a factory-bad block
+abbrev pub factory_bad : Geometry → Page
+factory_bad g = record { cells = slice_set (blank_cells (raw_len g)) g.page 0; flipped_since = false }
 
 or_true : (b : Bool) → (b || true) ≡ true
 or_true true = refl
@@ -83,9 +95,10 @@ or_false true = refl
 or_false false = refl
 
 -- one more factory-bad block
-pub new_page-more : (g : Geometry) (slots : List Slot) (bad : List ℕ) (n block : ℕ) → n < length bad → slice_get bad n ≡ Some block → first_page g block < length slots
-    → ((page : ℕ) → page_of g (slot_at slots page) ≡ new_page g (take n bad) page)
-    → (page : ℕ) → page_of g (slot_at (slice_set slots (first_page g block) (Some (factory_bad g))) page) ≡ new_page g (take (n + 1) bad) page
+pub new_page-more : (g : Geometry) (slots : List Slot) (bad : List ℕ) (n block : ℕ)
+    → n < length bad → slice_get bad n ≡ Some block → first_page g block < length slots
+    → ((page : ℕ) → page_of (raw_len g) [] (slot_at slots page) ≡ new_page g (take n bad) page)
+    → (page : ℕ) → page_of (raw_len g) [] (slot_at (slice_set slots (first_page g block) (Some (factory_bad g))) page) ≡ new_page g (take (n + 1) bad) page
 new_page-more g slots bad n block more is_block there so_far page =
     let at : ℕ = first_page g block in
     let before : Bool = list_any (λ b. first_page g b == page) (take n bad) in

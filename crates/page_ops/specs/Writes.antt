@@ -1,8 +1,6 @@
 -- How a write and an erase are answered.
-use Rattle.std.specs.Prelude.{◌≡◌, ℕ, Bool, true, false, ◌==◌, List, slice_index, Result, Ok, Err, Option, Some, None}
+use Rattle.std.specs.Prelude.{Result, Ok, Err, Option, Some, None}
 use Rattle.nand_model.specs.Chip.{DoneBits}
-use Rattle.nand_model.specs.declared.geometry.Geometry.{Geometry}
-use Rattle.nand_model.specs.Attach.{marker_byte}
 use Rattle.page_ops.specs.declared.errors.WriteError.{WriteError}
 use Rattle.page_ops.specs.declared.errors.WriteError.TheVariants.{ProgramFailed}
 use Rattle.page_ops.specs.declared.errors.EraseError.{EraseError}

@@ -63,6 +63,7 @@ fn program<F: Flash>(flash: &mut F, page: u32, image: &[u8]) -> Result<(), Write
     ensures ended { result ≡ write_ended (failure_of F.fault_model (F.state flash.old) (ProgramCall page)) }
     ensures failed { OnErr result (HasRisen (F.state flash.old).faults (F.state flash.new).faults) }
     ensures room { F.room flash.old ≤ F.room flash.new + 1 }
+    ensures bit_room { F.bit_room flash.old ≤ F.bit_room flash.new }
 {
     match flash.program_page(page, image) {
         Ok(()) => Ok(()),
@@ -83,13 +84,14 @@ pub fn write<F: Flash, C: PageCode>(
 ) -> Result<(), WriteError>
     requires place { FitsPage (F.state flash.old).geometry page image.old }
     requires room { 0 < F.room flash.old }
-    ensures refused { state ≢ 0 → (result ≡ Err WriteError.BadBlock) × (F.state flash.new ≡ F.state flash.old) × (image.new ≡ image.old) }
+    ensures refused { state ≢ 0 → (result ≡ Err WriteError.BadBlock) × (flash.new ≡ flash.old) × (image.new ≡ image.old) }
     ensures image { state ≡ 0 → image.new ≡ encoded (F.state flash.old).geometry image.old }
     ensures state { state ≡ 0 → F.state flash.new
         ≡ happens F.fault_model (F.state flash.old) (Complete (ProgramEvent page (encoded (F.state flash.old).geometry image.old))) }
     ensures ended { state ≡ 0 → result ≡ write_ended (failure_of F.fault_model (F.state flash.old) (ProgramCall page)) }
     ensures failed { result ≡ Err WriteError.ProgramFailed → HasRisen (F.state flash.old).faults (F.state flash.new).faults }
     ensures room { F.room flash.old ≤ F.room flash.new + 1 }
+    ensures bit_room { F.bit_room flash.old ≤ F.bit_room flash.new }
 {
     if state != 0 {
         return Err(WriteError::BadBlock);
@@ -111,15 +113,16 @@ pub fn write_raw<F: Flash>(
 ) -> Result<(), WriteError>
     requires place { FitsPage (F.state flash.old).geometry page image.now }
     requires room { 0 < F.room flash.old }
-    ensures refused { state ≢ 0 → (result ≡ Err WriteError.BadBlock) × (F.state flash.new ≡ F.state flash.old) }
+    ensures refused { state ≢ 0 → (result ≡ Err WriteError.BadBlock) × (flash.new ≡ flash.old) }
     ensures marker { state ≡ 0 → marker_byte (F.state flash.old).geometry image.now ≢ 0xff
-        → (result ≡ Err WriteError.MarkerByte) × (F.state flash.new ≡ F.state flash.old) }
+        → (result ≡ Err WriteError.MarkerByte) × (flash.new ≡ flash.old) }
     ensures state { state ≡ 0 → marker_byte (F.state flash.old).geometry image.now ≡ 0xff
         → F.state flash.new ≡ happens F.fault_model (F.state flash.old) (Complete (ProgramEvent page image.now)) }
     ensures ended { state ≡ 0 → marker_byte (F.state flash.old).geometry image.now ≡ 0xff
         → result ≡ write_ended (failure_of F.fault_model (F.state flash.old) (ProgramCall page)) }
     ensures failed { result ≡ Err WriteError.ProgramFailed → HasRisen (F.state flash.old).faults (F.state flash.new).faults }
     ensures room { F.room flash.old ≤ F.room flash.new + 1 }
+    ensures bit_room { F.bit_room flash.old ≤ F.bit_room flash.new }
 {
     if state != 0 {
         return Err(WriteError::BadBlock);
@@ -135,11 +138,12 @@ pub fn write_raw<F: Flash>(
 /// `BadBlock` comes exactly where the entry is not 0, and then nothing changes. `EraseFailed` comes exactly where the chip fails the erase, and its count of faults then rises.
 pub fn erase<F: Flash>(flash: &mut F, block: u32, state: u32) -> Result<(), EraseError>
     requires { block < (F.state flash.old).geometry.blocks }
-    ensures refused { state ≢ 0 → (result ≡ Err EraseError.BadBlock) × (F.state flash.new ≡ F.state flash.old) }
+    ensures refused { state ≢ 0 → (result ≡ Err EraseError.BadBlock) × (flash.new ≡ flash.old) }
     ensures state { state ≡ 0 → F.state flash.new ≡ happens F.fault_model (F.state flash.old) (Complete (EraseEvent block)) }
     ensures ended { state ≡ 0 → result ≡ erase_ended (failure_of F.fault_model (F.state flash.old) (EraseCall block)) }
     ensures failed { result ≡ Err EraseError.EraseFailed → HasRisen (F.state flash.old).faults (F.state flash.new).faults }
     ensures room { F.room flash.old ≤ F.room flash.new }
+    ensures bit_room { F.bit_room flash.old ≤ F.bit_room flash.new }
 {
     if state != 0 {
         return Err(EraseError::BadBlock);
@@ -150,18 +154,20 @@ pub fn erase<F: Flash>(flash: &mut F, block: u32, state: u32) -> Result<(), Eras
     }
 }
 
-/// Marks a block on the chip: programs 0x00 into spare byte 0 of its first page and 0xFF elsewhere. `image` is where the page is put together.
+/// Marks a block on the chip: programs 0x00 into spare byte 0 of its first page and 0xFF elsewhere. `image` is where the page is put together, and has it afterwards.
 ///
 /// `ProgramFailed` comes exactly where the chip fails the program, and its count of faults then rises. It takes at most one page of the room.
 pub fn marker<F: Flash>(flash: &mut F, block: u32, image: &mut [u8]) -> Result<(), ProgramFailed>
     requires block { block < (F.state flash.old).geometry.blocks }
     requires whole { length image.old ≡ raw_len (F.state flash.old).geometry }
     requires room { 0 < F.room flash.old }
+    ensures image { image.new ≡ marker_image (F.state flash.old).geometry }
     ensures state { F.state flash.new ≡ happens F.fault_model (F.state flash.old)
         (Complete (ProgramEvent (first_page (F.state flash.old).geometry block) (marker_image (F.state flash.old).geometry))) }
     ensures ok { is_ok result ≡ is_none (failure_of F.fault_model (F.state flash.old) (ProgramCall (first_page (F.state flash.old).geometry block))) }
     ensures failed { OnErr result (HasRisen (F.state flash.old).faults (F.state flash.new).faults) }
     ensures room { F.room flash.old ≤ F.room flash.new + 1 }
+    ensures bit_room { F.bit_room flash.old ≤ F.bit_room flash.new }
 {
     let g = flash.geometry();
     put_marker(&g, image);

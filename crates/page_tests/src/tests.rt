@@ -1,12 +1,14 @@
 // Every call of a page's code and of page_ops at a simulated chip, through the traits' bounds.
-ghost use Rattle.std.specs.Prelude.{◌≡◌, ◌≤◌, ◌<◌, ◌+◌};
+ghost use Rattle.std.specs.Prelude.{◌≡◌, ◌≤◌, ◌<◌, ◌+◌, IfOk};
 ghost use Rattle.nand_iface.specs.Flash.{FitsPage};
+ghost use Rattle.chip_sim.specs.State.{sim_room, sim_state};
 
 use chip_sim::SimChip;
 use ecc_page::{EccPage, erased_check, mask};
 use nand_iface::{Flash, PageCode, PageKind, PageRead, ProgramFailed};
 use nand_model::{BlockList, Geometry};
 use page_ops::{EraseError, WriteError, erase, marker, read, read_raw, write, write_raw};
+use std::alloc::{AllocError, Global};
 use std::test::Fail;
 
 // Writes a page and reads it again.
@@ -79,6 +81,16 @@ fn erase_and_read<F: Flash>(
     Ok(())
 }
 
+// An erased chip of these sizes, with room for so many pages.
+fn erased_chip(alloc: Global, g: Geometry, pages: u32) -> Result<SimChip, AllocError>
+    ensures sizes { IfOk result (λ chip. (sim_state chip).geometry ≡ g) }
+    ensures room { IfOk result (λ chip. pages ≤ sim_room chip) }
+{
+    let mut chip = SimChip::new(alloc, g, &BlockList::new(alloc))?;
+    chip.reserve(pages, 0)?;
+    Ok(chip)
+}
+
 // The counts of a page without failed steps.
 fn counts(corrected: u32, greatest: u32) -> PageRead {
     PageRead {
@@ -99,10 +111,8 @@ fn turn(bytes: &mut [u8], place: usize, bits: u8) {
 #[test]
 fn writes_and_reads(rt: HostRuntime) -> Result<(), Fail> {
     let alloc = rt.alloc();
-    let g = Geometry::new(2048, 64, 64, 8, 4, 0, 0)?;
-    let mut chip = SimChip::new(alloc, g, &BlockList::new(alloc))?;
+    let mut chip = erased_chip(alloc, Geometry::new(2048, 64, 64, 8, 4, 0, 0)?, 4)?;
     let mut image = [0x5au8; 2112];
-    chip.reserve(4)?;
     let read = write_and_read(&mut chip, &EccPage, 70, 0, &mut image)?;
     assert!(rt; read == (PageKind::Clean, counts(0, 0)));
     assert!(rt; image.get(2047..2051) == Some(&[0x5a, 0xff, 0xff, 0x5a][..]));
@@ -117,7 +127,7 @@ fn writes_and_reads(rt: HostRuntime) -> Result<(), Fail> {
     assert!(rt; read == (PageKind::Bitflips, counts(3, 3)));
     assert!(rt; image.get(0) == Some(&0x5a) && image.get(512) == Some(&0x5a));
 
-    chip.reserve(1)?;
+    chip.reserve(1, 0)?;
     turn(&mut image, 2048, 0xff);
     let refused = write_raw_and_read(&mut chip, &EccPage, 73, 0, &mut image);
     assert!(rt; refused == Err(WriteError::MarkerByte));
@@ -128,10 +138,8 @@ fn writes_and_reads(rt: HostRuntime) -> Result<(), Fail> {
 #[test]
 fn erases_and_marks(rt: HostRuntime) -> Result<(), Fail> {
     let alloc = rt.alloc();
-    let g = Geometry::new(2048, 64, 64, 8, 4, 0, 0)?;
-    let mut chip = SimChip::new(alloc, g, &BlockList::new(alloc))?;
+    let mut chip = erased_chip(alloc, Geometry::new(2048, 64, 64, 8, 4, 0, 0)?, 2)?;
     let mut image = [0x5au8; 2112];
-    chip.reserve(2)?;
     write_and_read(&mut chip, &EccPage, 70, 0, &mut image)?;
     assert!(rt; erase_and_read(&mut chip, 1, 2, 70, &mut image) == Err(EraseError::BadBlock));
     erase_and_read(&mut chip, 1, 0, 70, &mut image)?;
@@ -146,10 +154,8 @@ fn erases_and_marks(rt: HostRuntime) -> Result<(), Fail> {
 #[test]
 fn reads_an_uncorrectable_page(rt: HostRuntime) -> Result<(), Fail> {
     let alloc = rt.alloc();
-    let g = Geometry::new(4096, 224, 64, 8, 5, 0, 0)?;
-    let mut chip = SimChip::new(alloc, g, &BlockList::new(alloc))?;
+    let mut chip = erased_chip(alloc, Geometry::new(4096, 224, 64, 8, 5, 0, 0)?, 1)?;
     let mut image = [0xffu8; 4320];
-    chip.reserve(1)?;
     for bit in [2095usize, 612, 177, 2731, 1903, 4085] {
         turn(&mut image, bit / 8, 0x80 >> (bit % 8));
     }

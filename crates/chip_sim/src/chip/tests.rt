@@ -1,10 +1,10 @@
 // Simulated chips with pages of 2,048 bytes and a spare of 64, through the trait.
-ghost use Rattle.std.specs.Prelude.{◌≡◌, ◌≤◌, ◌<◌, length};
-ghost use Rattle.nand_iface.specs.Flash.{FitsPage};
+ghost use Rattle.std.specs.Prelude.{◌≡◌, ◌≤◌, ◌<◌, ◌^◌, length, All, IfOk};
+ghost use Rattle.nand_iface.specs.Flash.{FitsBits, FitsPage};
 ghost use Rattle.chip_sim.specs.State.{sim_state};
 
 use super::*;
-use nand_iface::{erase_one_block, program_one_page};
+use nand_iface::{erase_one_block, program_one_page, turn_bits};
 use std::test::Fail;
 
 // Programs two images into a page, and reads it.
@@ -51,13 +51,72 @@ fn programs_and_erases(rt: HostRuntime) -> Result<(), Fail> {
     let first = vec![in alloc; 0xf0u8; 2112]?;
     let second = vec![in alloc; 0x3cu8; 2112]?;
     let mut out = vec![in alloc; 0u8; 2112]?;
-    chip.reserve(2)?;
+    chip.reserve(2, 0)?;
     program_twice(&mut chip, 70, &first, &second, &mut out)?;
     assert_eq!(rt; out[2111], 0x30);
     chip.read_page(71, &mut out);
     assert_eq!(rt; out[0], 0xff);
     erase_and_read(&mut chip, 1, 70, &mut out)?;
     assert_eq!(rt; out[2111], 0xff);
+    Ok(())
+}
+
+// A list of one bit of a page of 2,112 bytes.
+fn one_bit(alloc: Global, bit: u32) -> Result<BlockList, Fail>
+    requires { bit < 16896 }
+    ensures one { IfOk result (λ bits. length bits ≡ 1) }
+    ensures there { IfOk result (All (λ bit. bit < 16896)) }
+{
+    let mut bits = BlockList::new(alloc);
+    bits.push(bit)?;
+    Ok(bits)
+}
+
+// Flips bits of a page, and reads it.
+fn flip_and_read<F: Flash>(
+    flash: &mut F,
+    page: u32,
+    bits: &BlockList,
+    out: &mut [u8],
+) -> Result<(), AllocError>
+    requires bits { FitsBits (F.state flash.old).geometry page bits.now }
+    requires few { length bits.now < 2 ^ 32 }
+    requires place { FitsPage (F.state flash.old).geometry page out.old }
+    ensures geometry { (F.state flash.new).geometry ≡ (F.state flash.old).geometry }
+{
+    flash.reserve(1, bits.len() as u32)?;
+    turn_bits(flash, page, bits);
+    flash.read_page(page, out);
+    Ok(())
+}
+
+#[test]
+fn flips_bits(rt: HostRuntime) -> Result<(), Fail> {
+    let alloc = rt.alloc();
+    let g = Geometry::new(2048, 64, 64, 8, 1, 0, 0)?;
+    let mut chip = SimChip::new(alloc, g, &BlockList::new(alloc))?;
+    let mut out = vec![in alloc; 0u8; 2112]?;
+    // Each row: a bit of page 70, the byte that it is in, that byte after the flip, and the flips of bits 0 to 7 so far.
+    let rows = [
+        (0, 0, 0x7f, 1),
+        (7, 0, 0x7e, 2),
+        (8, 1, 0x7f, 2),
+        (0, 0, 0xfe, 3),
+        (16895, 2111, 0xfe, 3),
+    ];
+    for (bit, byte, cell, count) in rows {
+        assert!(rt; bit < 16896);
+        flip_and_read(&mut chip, 70, &one_bit(alloc, bit)?, &mut out)?;
+        assert_eq!(rt; out.get(byte), Some(&cell), "after bit {bit}");
+        assert_eq!(rt; chip.flips(70, 0, 8), count, "after bit {bit}");
+    }
+    assert!(rt; chip.flipped_since(70) && !chip.flipped_since(71));
+    let zeros = vec![in alloc; 0u8; 2112]?;
+    chip.reserve(2, 0)?;
+    program_twice(&mut chip, 70, &zeros, &zeros, &mut out)?;
+    assert!(rt; chip.flips(70, 0, 16896) == 5 && !chip.flipped_since(70));
+    erase_and_read(&mut chip, 1, 70, &mut out)?;
+    assert!(rt; chip.flips(70, 0, 16896) == 0);
     Ok(())
 }
 

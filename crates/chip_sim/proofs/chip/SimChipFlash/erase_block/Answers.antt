@@ -1,24 +1,31 @@
-use Rattle.std.proofs.Common.{◌≡◌, ◌∙◌, ◌+◌, ◌*◌, ℕ, ap, sym, subst, length, All, []}
+use Rattle.std.proofs.Common.{◌∙◌, ℕ, ap, sym, subst, length, All, [], arith}
 use Rattle.std.specs.Vec.{with_items}
 use Rattle.std.proofs.lemmas.List.{with_items_is}
 use Rattle.nand_model.specs.Sizes.{raw_len}
+use Rattle.chip_sim.specs.FlipLog.{flips_of}
 use Rattle.chip_sim.specs.Slots.{IsWholeSlot}
-use Rattle.chip_sim.proofs.Placing.{pages_per_block-some}
+use Rattle.chip_sim.proofs.Placing.{pages_per_block-some, block_end-small}
 use Rattle.chip_sim.proofs.SlotLemmas.{erase-pages, cleared-whole}
 use Rattle.chip_sim.proofs.chip.SimChipFlash.erase_block.Goals as goal
+
+pub overflow_mul-first : goal.overflow_mul-first
+overflow_mul-first c = omega (arith, block_end-small c.args.self.now.geometry c.args.block c.requires)
+
+pub overflow_add-end : goal.overflow_add-end
+overflow_add-end c = omega (arith, block_end-small c.args.self.now.geometry c.args.block c.requires)
 
 pub invariant_of-self : goal.invariant_of-self
 invariant_of-self c =
     let s = c.args.self.now in
-    let new = c.clear_slots.new.slots in
-    let pages : ℕ = s.geometry.pages_per_block in
-    let first : ℕ = c.args.block * s.geometry.pages_per_block in
-    let same = with_items_is s.slots new (c.clear_slots.auto.slots ∙ c.deref_mut.ensures.len) in
-    let count : length c.clear_slots.new.slots ≡ length c.args.self.now.slots.items = c.clear_slots.auto.slots ∙ ap length c.deref_mut.ensures.value in
+    let raw : ℕ = raw_len c.args.self.now.geometry in
+    let lent = c.deref_mut.result.now in
+    let same = with_items_is s.slots c.clear_slots.new.slots (c.clear_slots.auto.slots ∙ c.deref_mut.ensures.len) in
+    let before : All (IsWholeSlot raw) c.deref_mut.result.now = rw c.deref_mut.ensures.value s.whole in
+    let after = cleared-whole raw _ _ lent c.clear_slots.new.slots c.clear_slots.auto.slots c.clear_slots.ensures before in
     record {
-      all_there = ap length same ∙ count ∙ s.all_there;
-      whole = subst (All (IsWholeSlot (raw_len s.geometry))) (sym same) (cleared-whole (raw_len s.geometry) first (first + pages) s.slots.items new count (λ page. rw (← c.deref_mut.ensures.value) (c.clear_slots.ensures page)) s.whole);
-      blank = s.blank;
+      all_there = ap length same ∙ c.clear_slots.auto.slots ∙ ap length c.deref_mut.ensures.value ∙ s.all_there;
+      whole = subst (All (IsWholeSlot raw)) (sym same) after;
+      blanks_fit = s.blanks_fit;
     }
 
 pub returns-clause-state : goal.returns-clause-state
@@ -28,7 +35,9 @@ returns-clause-state c =
     let same = with_items_is s.slots new (c.clear_slots.auto.slots ∙ c.deref_mut.ensures.len) in
     λ i. record {
       geometry = s.geometry;
-      pages = λ page. erase-pages s.geometry s.slots.items (with_items s.slots new).items c.args.block page (pages_per_block-some s.geometry) (rw (same, ← c.deref_mut.ensures.value) (c.clear_slots.ensures page)) i;
+      pages = λ page. erase-pages s.geometry s.slots.items (with_items s.slots new).items (flips_of s.log.flips) (flips_of c.forget.new.self.flips)
+          c.args.block page (pages_per_block-some s.geometry)
+          (rw (same, ← c.deref_mut.ensures.value) (c.clear_slots.ensures page)) (c.forget.ensures.flips page) i;
       fault_state = record { raw = raw_len s.geometry; weak = [] };
       faults = 0;
     }

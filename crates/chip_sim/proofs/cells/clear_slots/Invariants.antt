@@ -1,6 +1,0 @@
-use Rattle.std.proofs.Common.{◌≡◌, ℕ, ◌&&◌, nat_le, nat_lt, if◌then◌else◌, None}
-use Rattle.chip_sim.specs.Slots.{slot_at}
-use Rattle.chip_sim.proofs.cells.clear_slots.Given as goal
-
-abbrev pub invariant-loop-page : goal.invariant-loop-page
-invariant-loop-page l = (page : ℕ) → slot_at l.slots page ≡ (if nat_le l.first page && nat_lt page l.page then None else slot_at l.initial.slots page)
