@@ -76,7 +76,8 @@ module _ {W : Type 0} (model : FaultModel W) (before after : ChipState W) (old n
         (IfSome_then (task_event old) advanced each))
 
     pub works_on : (quiet : Bool)
-        → IfSome (stage_event (phase_stage known phase)) (λ e. phase_stage known (Working new) ≡ stage_after quiet (answer_to model before e) (phase_stage known phase))
+        → IfSome (stage_event (phase_stage known phase)) (λ e. phase_stage known (Working new)
+        ≡ stage_after quiet (answer_to model before e) (phase_stage known phase))
     works_on quiet =
         let k = known_in known in
         of_operation (λ stage e. phase_stage known (Working new) ≡ stage_after quiet (answer_to model before e) stage)

@@ -82,7 +82,8 @@ module _ (g : Geometry) (k : Known) (part : Part) where
       (λ a none. refl)
 
   operation_in-short : (op : Op) → IsTaken g op → IsShort k (read_device op) (refusal_in g k part op) (operation_in g k part op)
-  operation_in-short (Read dev page) taken = where_there (Some dev) page None (read_from g k dev (chip_page g part page)) (read-short dev (chip_page g part page))
+  operation_in-short (Read dev page) taken =
+      where_there (Some dev) page None (read_from g k dev (chip_page g part page)) (read-short dev (chip_page g part page))
   operation_in-short (RawRead dev page) taken = where_there None page None (raw_read_from k (chip_page g part page)) (raw_read-short (chip_page g part page))
   operation_in-short (Write dev page body free) taken =
       where_there None page _ _
@@ -94,7 +95,8 @@ module _ (g : Geometry) (k : Known) (part : Part) where
       (where_good (chip_block part (page / g.pages_per_block)) (refused_unless marker MarkerByte None) _
       (only_if-short k None marker MarkerByte None (λ u. program_from k image (chip_page g part page)) refl (program-short image (chip_page g part page))))
   operation_in-short (Erase dev block) taken =
-      only_if-short k None (has_block part block) OutOfRange _ (λ u. only_if (is_good_block k (chip_block part block)) k BadBlock (λ u. erased_from k (chip_block part block))) refl
+      only_if-short k None (has_block part block) OutOfRange _
+      (λ u. only_if (is_good_block k (chip_block part block)) k BadBlock (λ u. erased_from k (chip_block part block))) refl
       (where_good (chip_block part block) None (erased_from k (chip_block part block)) (erase-short (chip_block part block)))
   operation_in-short (IsBad dev block) taken =
       only_if-short k None (has_block part block) OutOfRange None (λ u. answer k (State (entry_of k (chip_block part block)))) refl

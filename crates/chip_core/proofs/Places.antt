@@ -21,7 +21,9 @@ first_page-there g block there = omega (arith, mul-le-mul_right g.pages_per_bloc
 
 -- it is in the block
 pub first_page-block : (g : Geometry) (block : ℕ) → first_page g block / g.pages_per_block ≡ block
-first_page-block g block = let some = pages-some g in ap (λ n. n / g.pages_per_block) (sym (add-zero (first_page g block))) ∙ div-mul-add block g.pages_per_block 0 (omega arith)
+first_page-block g block =
+    let some = pages-some g in
+    ap (λ n. n / g.pages_per_block) (sym (add-zero (first_page g block))) ∙ div-mul-add block g.pages_per_block 0 (omega arith)
 
 -- the block of a page that is there is there
 pub block-there : (g : Geometry) (page : ℕ) → page < page_count g → page / g.pages_per_block < g.blocks

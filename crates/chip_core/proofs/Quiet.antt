@@ -64,24 +64,29 @@ fewer_flips flips more from to none =
     let zero_both : flips_between (flips ++ more) from to ≡ 0 = eqb-true (flips_between (flips ++ more) from to) 0 none in
     eq-eqb (flips_between flips from to) 0 (omega arith)
 
-module _ {W : Type 0} (model : FaultModel W) (s : ChipState W) (none : s.geometry.bbt ≡ 0) (page : ℕ) (there : page < page_count s.geometry) (bits : List ℕ) where
+module _ {W : Type 0} (model : FaultModel W) (s : ChipState W) (none : s.geometry.bbt ≡ 0) (page : ℕ)
+    (there : page < page_count s.geometry) (bits : List ℕ) where
   -- flips end the quiet of no other block's marker
   other_marker : (block : ℕ) → block ≢ page / s.geometry.pages_per_block
       → is_quiet_marker s.geometry (after_trace model s (flip_events page bits)).pages block ≡ is_quiet_marker s.geometry s.pages block
   other_marker block other =
       ap (λ (p : PageState). has_no_flip_in p s.geometry.page (s.geometry.page + 1))
-      (flips-others model s page bits (first_page s.geometry block) (λ same. other (sym (first_page-block s.geometry block) ∙ ap (λ p. p / s.geometry.pages_per_block) same)))
+      (flips-others model s page bits (first_page s.geometry block) 
+      (λ same. other (sym (first_page-block s.geometry block) ∙ ap (λ p. p / s.geometry.pages_per_block) same)))
 
   -- and begin no marker's
   was_quiet : (block : ℕ) → is_quiet_marker s.geometry (after_trace model s (flip_events page bits)).pages block ≡ true
       → is_quiet_marker s.geometry s.pages block ≡ true
   was_quiet block quiet = elim (cases_eq (first_page s.geometry block) page) [
     | inl same ↦
-        let counted : ((after_trace model s (flip_events page bits)).pages (first_page s.geometry block)).flips ≡ (s.pages (first_page s.geometry block)).flips ++ bits =
+        let counted : ((after_trace model s (flip_events page bits)).pages (first_page s.geometry block)).flips
+            ≡ (s.pages (first_page s.geometry block)).flips ++ bits =
         rw same (flips-counted model s page bits) in
         fewer_flips (s.pages (first_page s.geometry block)).flips bits (8 * s.geometry.page) (8 * (s.geometry.page + 1)) (rw (← counted) quiet)
     | inr other ↦
-        ap (λ (p : PageState). has_no_flip_in p s.geometry.page (s.geometry.page + 1)) (sym (flips-others model s page bits (first_page s.geometry block) other)) ∙ quiet
+        ap (λ (p : PageState). has_no_flip_in p s.geometry.page (s.geometry.page + 1))
+        (sym (flips-others model s page bits (first_page s.geometry block) other))
+        ∙ quiet
   ]
 
   -- flips leave a chip quiet where it was and where the marker of their block still is

@@ -89,7 +89,8 @@ module _ (g : Geometry) (k : Known) where
   state_is (Some part) dev block = refl
 
 -- a write goes on where the block is good
-pub write_begins : (g : Geometry) (k : Known) (body free image : List ℕ) (page : ℕ) → is_good_block k (page / g.pages_per_block) ≡ true → image ≡ page_image g body free
+pub write_begins : (g : Geometry) (k : Known) (body free image : List ℕ) (page : ℕ) → is_good_block k (page / g.pages_per_block) ≡ true
+    → image ≡ page_image g body free
     → program_from k image page ≡ write_from g k body free page
 write_begins g k body free image page good is =
     ap (λ image. program_from k image page) is

@@ -23,7 +23,8 @@ found_first entries dev at entry found =
     let first = position-Some (λ (e : DeviceSums). e.dev == dev) entries at entry found in
     record { there = first.0; is = eqb-true (get_or entries at entry).dev dev first.1; before = first.2 }
 
-first_further : (e : DeviceSums) (entries : List DeviceSums) (dev at : ℕ) (entry : DeviceSums) → IsFirst (e ∷ entries) dev (suc at) entry → IsFirst entries dev at entry
+first_further : (e : DeviceSums) (entries : List DeviceSums) (dev at : ℕ) (entry : DeviceSums) → IsFirst (e ∷ entries) dev (suc at) entry
+    → IsFirst entries dev at entry
 first_further e entries dev at entry first =
     record {
       there = let within = first.there in omega arith;

@@ -26,9 +26,9 @@ use std::mem;
 
 /// A chip with its attach or its operation, which is held from its begin to its answer. It has no tables on flash.
 ///
-/// Contracts see the state of its flash (`chip_state`); its stage (`chip_stage`): what is left of its attach or of its operation, or what is known of it at rest;
-/// its spare (`chip_spare`): how many pages may be programmed or flipped beyond those of the attach or the operation; its bits (`chip_bits`): how many bits may be
-/// flipped; and its news (`chip_news`): the attach whose note was not handed out yet.
+/// Contracts see the state of its flash (`chip_state`); its stage (`chip_stage`): what is left of its attach or of its operation, or what is known of it at
+/// rest; its spare (`chip_spare`): how many pages may be programmed or flipped beyond those of the attach or the operation; its bits (`chip_bits`): how many bits
+/// may be flipped; and its news (`chip_news`): the attach whose note was not handed out yet.
 #[derive(Drop)]
 pub struct Chip<F: Flash, C: PageCode> {
     alloc: Global,
@@ -105,7 +105,8 @@ impl<F: Flash, C: PageCode> Chip<F, C> {
         Ok(())
     }
 
-    /// Turns these bits of a page one after the other; bit 0 is the highest of byte 0. It takes at most one page of the spare, and of the bits at most their number.
+    /// Turns these bits of a page one after the other; bit 0 is the highest of byte 0. It takes at most one page of the spare, and at most as many bits of the room
+    /// as these are.
     pub fn flip(&mut self, page: u32, bits: &BlockList)
         requires place { FitsBits (chip_state self.old).geometry page bits.now }
         requires spare { 1 ≤ chip_spare self.old }
@@ -204,7 +205,8 @@ impl<F: Flash, C: PageCode> Chip<F, C> {
         requires { IsSome (stage_event (chip_stage self.old)) }
         ensures state { IfSome (stage_event (chip_stage self.old)) (λ e. chip_state self.new ≡ happens F.fault_model (chip_state self.old) (Complete e)) }
         ensures stage { IfSome (stage_event (chip_stage self.old)) (λ e. chip_stage self.new
-            ≡ stage_after (is_quiet (chip_state self.old).geometry (chip_state self.old).pages) (answer_to F.fault_model (chip_state self.old) e) (chip_stage self.old)) }
+            ≡ stage_after (is_quiet (chip_state self.old).geometry (chip_state self.old).pages) (answer_to F.fault_model (chip_state self.old) e)
+            (chip_stage self.old)) }
         ensures news { IfSome (stage_event (chip_stage self.old)) (λ e. chip_news self.new
             ≡ news_after (is_quiet (chip_state self.old).geometry (chip_state self.old).pages) (answer_to F.fault_model (chip_state self.old) e)
             (chip_stage self.old) (chip_news self.old)) }

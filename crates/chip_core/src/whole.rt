@@ -13,7 +13,8 @@ use mtd_part::Parts;
 use nand_iface::{Flash, Op, PageCode, Reply};
 use std::alloc::{AllocError, Global};
 
-/// Attaches a chip without tables. Its table is that of its markers, and the note of the attach is still to be handed out; it was quiet exactly where the flash is.
+/// Attaches a chip without tables. Its table is that of its markers, and the note of the attach is still to be handed out. The attach was quiet exactly where the
+/// flash is.
 pub fn attach<F: Flash, C: PageCode>(
     alloc: Global,
     flash: F,
@@ -43,7 +44,8 @@ pub fn perform<F: Flash, C: PageCode>(
     ensures performed { IfOk result (λ reply. IfSome (known_at_rest (chip_stage chip.old))
         (λ k. HasPerformed F.fault_model parts.now k op.now (chip_state chip.old) (chip_state chip.new) (chip_stage chip.new) reply)) }
     ensures causes { IfOk result (λ reply. IfSome (known_at_rest (chip_stage chip.old))
-        (λ k. HasCause (refusal_of (chip_state chip.old).geometry k (part_of parts.now (device_of op.now)) op.now) (chip_state chip.old) (chip_state chip.new) reply)) }
+        (λ k. HasCause (refusal_of (chip_state chip.old).geometry k (part_of parts.now (device_of op.now)) op.now) (chip_state chip.old) (chip_state chip.new)
+        reply)) }
     ensures no_memory { OnErr result (chip_state chip.new ≡ chip_state chip.old) }
     ensures no_memory_stage { OnErr result (chip_stage chip.new ≡ chip_stage chip.old) }
     ensures rests { is_resting (chip_stage chip.new) ≡ true }

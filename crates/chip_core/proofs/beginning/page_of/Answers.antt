@@ -10,4 +10,5 @@ pub returns-clause-place : goal.returns-clause-place
 returns-clause-place c = page_place c.args.g.now (part_of c.args.parts.now c.args.dev) c.args.page c.page.result c.requires.there c.page.ensures
 
 pub returns-clause-there : goal.returns-clause-there
-returns-clause-there c = page_there c.args.g.now (part_of c.args.parts.now c.args.dev) c.args.page c.page.result c.requires.there c.requires.within c.page.ensures
+returns-clause-there c =
+    page_there c.args.g.now (part_of c.args.parts.now c.args.dev) c.args.page c.page.result c.requires.there c.requires.within c.page.ensures

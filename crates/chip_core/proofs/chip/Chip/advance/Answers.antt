@@ -56,14 +56,16 @@ returns-in-Attaching-clause-stage g c =
     let chip = c.args.self.now in
     let s = g.F.Flash.state chip.flash in
     read_stage g.F.Flash.fault_model s chip.known chip.sizes chip.phase chip.fits c.in-Attaching.scan (sym c.replace.ensures.value ∙ c.in-Attaching.is)
-    (is_quiet s.geometry s.pages) (knows_quiet s chip.phase chip.quiet c.in-Attaching.scan (sym c.replace.ensures.value ∙ c.in-Attaching.is)) _ c.attach_on.ensures.stage
+    (is_quiet s.geometry s.pages)
+    (knows_quiet s chip.phase chip.quiet c.in-Attaching.scan (sym c.replace.ensures.value ∙ c.in-Attaching.is)) _ c.attach_on.ensures.stage
 
 pub returns-in-Attaching-clause-news : goal.returns-in-Attaching-clause-news
 returns-in-Attaching-clause-news g c =
     let chip = c.args.self.now in
     let s = g.F.Flash.state chip.flash in
     read_news g.F.Flash.fault_model s chip.known chip.sizes chip.phase chip.fits c.in-Attaching.scan (sym c.replace.ensures.value ∙ c.in-Attaching.is)
-    (is_quiet s.geometry s.pages) (knows_quiet s chip.phase chip.quiet c.in-Attaching.scan (sym c.replace.ensures.value ∙ c.in-Attaching.is)) _ _ c.attach_on.ensures.news
+    (is_quiet s.geometry s.pages)
+    (knows_quiet s chip.phase chip.quiet c.in-Attaching.scan (sym c.replace.ensures.value ∙ c.in-Attaching.is)) _ _ c.attach_on.ensures.news
 
 pub returns-in-Attaching-clause-told : goal.returns-in-Attaching-clause-told
 returns-in-Attaching-clause-told g c =

@@ -10,15 +10,18 @@ pub returns-then-scan-self-clause-stage : goal.returns-then-scan-self-clause-sta
 returns-then-scan-self-clause-stage g c =
     let known = c.args.self.now.known in
     let more : c.args.scan.next + 1 < known.geometry.blocks = rw (← c.set.ensures.geometry, ← c.read_marker-state.ensures.next) c.if-scan-self.true in
-    rw (c.set.ensures.geometry, c.set.ensures.states, c.read_marker-state.ensures.next, c.read_marker-state.ensures.state, c.read_marker-state.ensures.quiet_so_far)
-    (sym (goes_on known.geometry known.states c.args.scan.next (marker_page (g.F.Flash.state c.args.self.now.flash) c.args.scan.next) c.requires.fits.scan_fits.next
+    rw (c.set.ensures.geometry, c.set.ensures.states, c.read_marker-state.ensures.next, c.read_marker-state.ensures.state,
+    c.read_marker-state.ensures.quiet_so_far)
+    (sym (goes_on known.geometry known.states c.args.scan.next (marker_page (g.F.Flash.state c.args.self.now.flash) c.args.scan.next)
+    c.requires.fits.scan_fits.next
     known.all_there (c.args.scan.quiet_so_far && c.args.scan.quiet_now) more))
 
 pub returns-then-scan-self-clause-news : goal.returns-then-scan-self-clause-news
 returns-then-scan-self-clause-news g c =
     let known = c.args.self.now.known in
     let more : c.args.scan.next + 1 < known.geometry.blocks = rw (← c.set.ensures.geometry, ← c.read_marker-state.ensures.next) c.if-scan-self.true in
-    sym (no_news known.geometry known.states c.args.scan.next (marker_page (g.F.Flash.state c.args.self.now.flash) c.args.scan.next) c.requires.fits.scan_fits.next
+    sym (no_news known.geometry known.states c.args.scan.next (marker_page (g.F.Flash.state c.args.self.now.flash) c.args.scan.next)
+    c.requires.fits.scan_fits.next
     known.all_there (c.args.scan.quiet_so_far && c.args.scan.quiet_now) more)
 
 pub returns-else-scan-self-clause-stage : goal.returns-else-scan-self-clause-stage
@@ -27,7 +30,8 @@ returns-else-scan-self-clause-stage g c =
     let last : known.geometry.blocks ≤ c.args.scan.next + 1 = rw (← c.set.ensures.geometry, ← c.read_marker-state.ensures.next) c.if-scan-self.false in
     rw c.requires.rests
     (ap Rests (known_fresh c.set.new.self (ap length c.set.ensures.sums ∙ c.requires.fits.fresh))
-    ∙ rw (c.set.ensures.states, c.read_marker-state.ensures.state) (sym (comes_to_rest known.geometry known.states c.args.scan.next (marker_page (g.F.Flash.state c.args.self.now.flash) c.args.scan.next)
+    ∙ rw (c.set.ensures.states, c.read_marker-state.ensures.state)
+    (sym (comes_to_rest known.geometry known.states c.args.scan.next (marker_page (g.F.Flash.state c.args.self.now.flash) c.args.scan.next)
     c.requires.fits.scan_fits.next known.all_there (c.args.scan.quiet_so_far && c.args.scan.quiet_now) last)))
 
 pub returns-else-scan-self-clause-news : goal.returns-else-scan-self-clause-news
@@ -42,5 +46,6 @@ returns-else-scan-self-clause-news g c =
       c.read_marker-state.ensures.state,
       c.read_marker-state.ensures.quiet_so_far,
     )
-    (sym (news known.geometry known.states c.args.scan.next (marker_page (g.F.Flash.state c.args.self.now.flash) c.args.scan.next) c.requires.fits.scan_fits.next
+    (sym (news known.geometry known.states c.args.scan.next (marker_page (g.F.Flash.state c.args.self.now.flash) c.args.scan.next)
+    c.requires.fits.scan_fits.next
     known.all_there (c.args.scan.quiet_so_far && c.args.scan.quiet_now) last))

@@ -11,7 +11,8 @@ use Rattle.chip_core.proofs.chip.Chip.flip.Goals as goal
 pub marker_is_quiet-quiet-requires-clause-sizes : goal.marker_is_quiet-quiet-requires-clause-sizes
 marker_is_quiet-quiet-requires-clause-sizes g c =
     let before = g.F.Flash.state c.args.self.now.flash in
-    ap (λ s. s.geometry) c.flip.ensures.state ∙ after_trace-geometry g.F.Flash.fault_model before (flip_events c.args.page c.args.bits.now) ∙ c.args.self.now.sizes
+    ap (λ s. s.geometry) c.flip.ensures.state ∙ after_trace-geometry g.F.Flash.fault_model before (flip_events c.args.page c.args.bits.now)
+    ∙ c.args.self.now.sizes
 
 pub invariant_of-self-2 : goal.invariant_of-self-2
 invariant_of-self-2 g c =
@@ -23,7 +24,8 @@ invariant_of-self-2 g c =
     let still_quiet : is_quiet after.geometry after.pages ≡ (is_quiet before.geometry before.pages && c.marker_is_quiet-quiet.result) =
     quiet_where_flipped g.F.Flash.fault_model before chip.without_tables c.args.page c.requires.place.page_there c.args.bits.now after c.flip.ensures.state
     chip.known.geometry chip.sizes c.marker_is_quiet-quiet.result c.marker_is_quiet-quiet.ensures in
-    let programs : programs_left c.see_marker.new.self ≡ programs_left chip.phase = ap programs_left c.see_marker.ensures ∙ seen_programs c.marker_is_quiet-quiet.result chip.phase in
+    let programs : programs_left c.see_marker.new.self ≡ programs_left chip.phase =
+    ap programs_left c.see_marker.ensures ∙ seen_programs c.marker_is_quiet-quiet.result chip.phase in
     record {
       sizes = sizes ∙ chip.sizes;
       without_tables = rw sizes chip.without_tables;
