@@ -1,6 +1,6 @@
 -- A bench stands where the course does, after a session's operation is answered or begun.
-use Rattle.std.proofs.Common.{◌≡◌, ◌<◌, ◌≤◌, ◌+◌, arith, ℕ, zero, suc, Bool, true, false, List, [], ◌∷◌, ◌++◌, length, Option, Some, None, refl, ap, sym, ◌∙◌, subst, get_or}
-use Rattle.std.specs.Prelude.{slice_get, map, option_map, option_and_then, IsSome, IfSome, is_none}
+use Rattle.std.proofs.Common.{◌≡◌, ◌≤◌, ◌+◌, ℕ, List, [], ◌∷◌, ◌++◌, length, Some, None, refl, ap, sym, ◌∙◌, subst}
+use Rattle.std.specs.Prelude.{slice_get, map, option_map, IsSome, IfSome}
 use Rattle.std.proofs.Math.ListN.{set}
 use Rattle.std.proofs.lemmas.Option.{slice_get_within}
 use Rattle.nand_iface.specs.declared.flash.Flash.{Ghosts}
@@ -11,29 +11,23 @@ use Rattle.nand_model.specs.declared.words.Part.{Part}
 use Rattle.nand_model.specs.declared.words.Reply.{Reply}
 use Rattle.nand_model.specs.declared.words.Note.{Note}
 use Rattle.nand_model.specs.declared.words.Note.TheVariants.{Began, Answered}
-use Rattle.nand_model.specs.Chip.{ChipState, FaultModel}
 use Rattle.nand_model.specs.Operation.{Finished, part_of, device_of}
-use Rattle.nand_model.specs.ChipRun.{ChipRun}
-use Rattle.mtd_part.specs.Blocks.{LiesWithin}
-use Rattle.run_model.specs.Command.{command_device}
-use Rattle.run_model.specs.Course.{Boot, Course, SessionRun, change_at, chip_of, sizes_of, session_run, next_op, next_op_of, with_reply, turn_step}
-use Rattle.run_laws.proofs.Places.{position_none}
+use Rattle.run_model.specs.Course.{SessionRun, change_at, session_run, next_op, next_op_of, with_reply}
 use Rattle.tool_steps.specs.Stage.{CanRun}
 use Rattle.tool_steps.specs.Boot.{commands_at}
 use Rattle.session_steps.specs.declared.session.Session.{Session}
 use Rattle.session_steps.specs.Standing.{number_of, standing, commands_by, First, IsWaiting}
 use Rattle.session_steps.specs.Mirrors.{Mirrors}
 use Rattle.chip_model.specs.Taken.{IsTaken}
-use Rattle.chip_model.specs.Stage.{finished_in, is_resting, is_attached}
-use Rattle.chip_core.specs.Begin.{HasDevice, CanBegin}
+use Rattle.chip_model.specs.Stage.{finished_in}
+use Rattle.chip_core.specs.Begin.{CanBegin}
 use Rattle.ctl_core.specs.declared.bench.Bench.{Bench}
 use Rattle.ctl_core.specs.declared.bench.Slot.{Slot}
-use Rattle.ctl_core.specs.KeptChip.{KeptChip, kept_as, first_attaching, first_held_by, after_begin, after_answer}
+use Rattle.ctl_core.specs.KeptChip.{KeptChip, kept_as, first_held_by, after_begin, after_answer}
 use Rattle.ctl_core.specs.Past.{Past, starts_of, sizes_in, course_of, next_course}
-use Rattle.ctl_core.specs.Answer.{next_chip}
 use Rattle.ctl_core.specs.Bench.{kept_slot, kept_chips, IsAtTurn}
 use Rattle.ctl_core.specs.Follows.{Follows}
-use Rattle.ctl_core.proofs.Places.{OneChanged, set_changes, mapped_set}
+use Rattle.ctl_core.proofs.Places.{set_changes, mapped_set}
 use Rattle.ctl_core.proofs.Positions.{at_mapped}
 use Rattle.ctl_core.proofs.Turns.{follows_as, follows_answer, follows_begin, follows_resumed}
 use Rattle.ctl_core.proofs.Sums.{read_fits}

@@ -1,46 +1,33 @@
 -- A controller stays on its course.
-use Rattle.std.proofs.Common.{◌≡◌, ◌<◌, ◌≤◌, ◌+◌, ◌*◌, arith, ℕ, zero, suc, Bool, true, false, not, ◌&&◌, List, [], ◌∷◌, ◌++◌, length, map, Option, Some, None, refl, ap, sym, ◌∙◌, subst, get_or}
-use Rattle.std.specs.Prelude.{slice_get, option_map, option_and_then, IsSome, All, position, is_none, is_some, if◌then◌else◌, ◌||◌, ◌==◌}
-use Rattle.std.specs.List.{list_all}
-use Rattle.std.proofs.lemmas.Option.{slice_get_within, slice_get-map}
+use Rattle.std.proofs.Common.{◌≡◌, ◌+◌, arith, ℕ, true, false, not, List, [], ◌∷◌, ◌++◌, Option, Some, None, refl, ap, sym, ◌∙◌, subst}
+use Rattle.std.specs.Prelude.{slice_get, option_map, position, is_none, is_some, if◌then◌else◌, ◌==◌}
 use Rattle.std.proofs.lemmas.Bool.{eqb-true}
 use Rattle.nand_iface.specs.declared.flash.Flash.{Ghosts}
 use Rattle.nand_iface.specs.NotesAndRoom.{NotesAndRoom}
-use Rattle.nand_model.specs.declared.geometry.Geometry.{Geometry}
 use Rattle.nand_model.specs.declared.words.Command.{Command}
 use Rattle.nand_model.specs.declared.words.Flip.{Flip}
-use Rattle.nand_model.specs.declared.words.Note.{Note}
-use Rattle.nand_model.specs.Chip.{ChipState, FaultModel, PageEvent}
-use Rattle.nand_model.specs.Operation.{Partitions, Known}
-use Rattle.nand_model.specs.ChipRun.{ChipRun, Pending, chip_at_start, next_chip_event}
-use Rattle.run_model.specs.Course.{Boot, Course, SessionRun, attach_step, attach_first, turn_step, chip_step, event_or_answer, with_answer, course_after, start_of_boot, sizes_of, is_idle, is_over, is_finished, unattached, without_finished, change_at}
-use Rattle.run_laws.specs.Turns.{busy_turns, AttachIsStep}
+use Rattle.nand_model.specs.Chip.{PageEvent}
+use Rattle.nand_model.specs.Operation.{Known}
+use Rattle.nand_model.specs.ChipRun.{ChipRun, Pending, next_chip_event}
+use Rattle.run_model.specs.Course.{Course, attach_step, attach_first, chip_step, event_or_answer, with_answer, course_after, is_idle, unattached, change_at}
+use Rattle.run_laws.specs.Turns.{busy_turns}
 use Rattle.run_laws.proofs.AttachTurns.{attach_is_step}
-use Rattle.run_laws.proofs.Places.{position_is, position_none}
-use Rattle.run_laws.proofs.Sessions.{number_stays}
-use Rattle.tool_steps.specs.Boot.{session_number}
+use Rattle.run_laws.proofs.Places.{position_is}
 use Rattle.session_steps.specs.declared.session.Session.{Session}
-use Rattle.session_steps.specs.Standing.{number_of, standing, commands_by}
-use Rattle.session_steps.specs.Mirrors.{CanAllRun, Mirrors}
+use Rattle.session_steps.specs.Standing.{number_of}
 use Rattle.chip_model.specs.Stage.{stage_event, is_attached, failure_told}
-use Rattle.ctl_core.specs.declared.turn.Turn.{Turn}
-use Rattle.ctl_core.specs.declared.turn.Turn.TheVariants.{Did, Done}
 use Rattle.ctl_core.specs.declared.bench.Bench.{Bench}
-use Rattle.ctl_core.specs.declared.bench.Slot.{Slot}
-use Rattle.ctl_core.specs.KeptChip.{KeptChip, kept_as, all_kept, kept_first, first_attaching, after_event, with_news_told, failure_notes, news_notes}
-use Rattle.ctl_core.specs.Past.{Past, at_start, with_attach, with_turn, starts_of, sizes_in, course_of, next_course}
-use Rattle.ctl_core.specs.Sessions.{SessionsMirror, HoldersWait, AreFresh, AreAllDone}
-use Rattle.ctl_core.specs.Start.{CanStart, HasSession}
-use Rattle.ctl_core.specs.Bench.{kept_slot, kept_chips, event_at, StandsAt, IsOnCourse, DidEvent}
+use Rattle.ctl_core.specs.KeptChip.{KeptChip, first_attaching, after_event, with_news_told, failure_notes, news_notes}
+use Rattle.ctl_core.specs.Past.{Past, with_attach, with_turn, starts_of, sizes_in, course_of, next_course}
+use Rattle.ctl_core.specs.Start.{HasSession}
+use Rattle.ctl_core.specs.Bench.{kept_slot, kept_chips, StandsAt, IsOnCourse, DidEvent}
 use Rattle.ctl_core.specs.Flips.{kept_flips_before}
-use Rattle.ctl_core.specs.Follows.{Follows}
 use Rattle.ctl_core.proofs.ChipSteps.{next_is}
 use Rattle.ctl_core.proofs.Flipped.{flipped_at}
-use Rattle.ctl_core.proofs.Positions.{mapped_at, mapped_length, position_kept}
+use Rattle.ctl_core.proofs.Positions.{position_kept}
 use Rattle.ctl_core.proofs.Known.{stays_attached}
 use Rattle.ctl_core.proofs.CourseSteps.{turn_is_idle}
 use Rattle.ctl_core.proofs.Sessions.{placed}
-use Rattle.ctl_core.proofs.Devices.{all_at}
 use Rattle.ctl_core.proofs.Turns.{chip_there, follows_as, follows_attach}
 use Rattle.ctl_core.proofs.PastSteps.{one_more_turn, one_more_attach, one_more_busy}
 use Rattle.ctl_core.proofs.Limits.{attached_there, place_there}

@@ -1,23 +1,23 @@
 -- The steps of a course that is not cut, and what its controller keeps after each.
-use Rattle.std.proofs.Common.{◌≡◌, ℕ, ◌+◌, Bool, true, false, not, ◌&&◌, List, [], ◌∷◌, ◌++◌, Option, Some, None, refl, ap, sym, ◌∙◌, subst}
-use Rattle.std.specs.Prelude.{slice_get, map, is_none, is_some, if◌then◌else◌, ◌==◌, ◌||◌}
+use Rattle.std.proofs.Common.{◌≡◌, ℕ, ◌+◌, Bool, true, false, not, ◌&&◌, List, [], ◌∷◌, ◌++◌, Option, Some, None, refl, ap, sym, ◌∙◌}
+use Rattle.std.specs.Prelude.{slice_get, is_none, is_some, if◌then◌else◌, ◌||◌}
 use Rattle.nand_model.specs.declared.geometry.Geometry.{Geometry}
 use Rattle.nand_model.specs.declared.words.Command.{Command}
 use Rattle.nand_model.specs.declared.words.Note.{Note}
 use Rattle.nand_model.specs.declared.words.Note.TheVariants.{Began, Answered}
 use Rattle.nand_model.specs.declared.words.Op.{Op}
-use Rattle.nand_model.specs.Chip.{ChipState, FaultModel, PageEvent}
+use Rattle.nand_model.specs.Chip.{FaultModel, PageEvent}
 use Rattle.nand_model.specs.Operation.{Partitions, Known, Finished, device_of}
 use Rattle.nand_model.specs.ChipRun.{ChipRun, Pending, next_chip_event, advanced, attach_notes, notes_of_advance, with_pending, with_finished, finished_by}
-use Rattle.run_model.specs.Course.{Boot, Course, SessionRun, change_at, chip_of, next_op, session_run, pending_chip, unattached, is_pending_of, began, finish, with_answer, is_free, is_free_at, can_begin, is_idle, tear_at, with_flips_before, event_done, event_on, event_step, event_or_answer, chip_step, begin_on, begin_at, begin_step, session_step, turn_unless, turn_step, attach_first, attach_step, replied}
-use Rattle.chip_model.specs.Stage.{stage_event, stage_of, stage_by, failure_told, finished_in, is_resting, is_attached}
+use Rattle.run_model.specs.Course.{Boot, Course, change_at, chip_of, next_op, session_run, pending_chip, unattached, is_pending_of, began, finish, with_answer, is_free, is_free_at, can_begin, is_idle, tear_at, with_flips_before, event_done, event_on, event_step, event_or_answer, chip_step, begin_on, begin_at, begin_step, session_step, turn_unless, turn_step, attach_first, attach_step}
+use Rattle.chip_model.specs.Stage.{stage_by, failure_told, is_attached}
 use Rattle.run_laws.proofs.Places.{position_none}
 use Rattle.ctl_core.specs.KeptChip.{KeptChip, kept_as, all_kept, is_held_by, first_attaching, first_held_by, after_event, after_begin, after_answer, with_news_told, failure_notes, news_notes, holder_by}
 use Rattle.ctl_core.specs.Flips.{kept_flips_before}
 use Rattle.ctl_core.specs.Keeps.{Keeps}
-use Rattle.ctl_core.proofs.ChipSteps.{works, next_is, begun, answered, kept_advanced, failure_is, news_is}
+use Rattle.ctl_core.proofs.ChipSteps.{begun, answered, kept_advanced, failure_is, news_is}
 use Rattle.ctl_core.proofs.Flipped.{flips_kept}
-use Rattle.ctl_core.proofs.Positions.{position_kept, mapped_change, mapped_at}
+use Rattle.ctl_core.proofs.Positions.{position_kept, mapped_change}
 
 held_by_session : (session : ℕ) (k : Option Known) (p : Option Pending) → is_none k ≡ false → is_pending_of session p ≡ is_held_by session (holder_by k p)
 held_by_session session None p h = cc

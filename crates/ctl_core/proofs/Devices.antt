@@ -1,6 +1,6 @@
 -- The chip and the sizes of a command that comes next.
-use Rattle.std.proofs.Common.{◌≡◌, ◌<◌, ◌≤◌, ◌+◌, ◌-◌, ◌⊎◌, inl, inr, arith, ℕ, zero, suc, Bool, true, false, List, [], ◌∷◌, ◌++◌, length, drop, Option, Some, None, refl, ap, sym, ◌∙◌, subst, get_or}
-use Rattle.std.specs.Prelude.{slice_get, slice_index_or, map, option_map, All, nat_lt, if◌then◌else◌, option_and_then, IsSome, IfSome}
+use Rattle.std.proofs.Common.{◌≡◌, ◌+◌, ◌-◌, arith, ℕ, zero, suc, Bool, true, false, List, [], ◌∷◌, drop, Option, Some, None, refl, ap, sym, ◌∙◌, subst}
+use Rattle.std.specs.Prelude.{slice_get, map, option_map, All, nat_lt, if◌then◌else◌}
 use Rattle.std.proofs.lemmas.List.{get_or-drop, length-drop}
 use Rattle.std.proofs.lemmas.Option.{slice_get_within, get_or_from_slice_get, slice_get-map}
 use Rattle.mtd_part.specs.Blocks.{LiesWithin}
@@ -10,25 +10,23 @@ use Rattle.nand_model.specs.declared.words.Op.{Op}
 use Rattle.nand_model.specs.declared.words.Part.{Part}
 use Rattle.nand_model.specs.declared.words.Note.{Note}
 use Rattle.nand_model.specs.declared.words.Reply.{Reply}
-use Rattle.nand_model.specs.declared.words.Outcome.{Outcome}
 use Rattle.nand_model.specs.Sizes.{small_chip}
 use Rattle.nand_model.specs.Chip.{ChipState, FaultModel}
-use Rattle.nand_model.specs.Operation.{Partitions, part_of, device_of}
+use Rattle.nand_model.specs.Operation.{Partitions, part_of}
 use Rattle.nand_model.specs.ChipRun.{ChipRun}
-use Rattle.run_model.specs.Command.{Script, End, Ask, Next, Do, Over, next_in, next_step, after_replies, script_of, command_device}
-use Rattle.run_model.specs.Course.{Boot, Course, SessionRun, chip_of, chip_of_part, geometry_of_chip, geometry_for, sizes_of, next_op_of, op_of_next}
+use Rattle.run_model.specs.Command.{Script, End, Ask, next_in, next_step, command_device}
+use Rattle.run_model.specs.Course.{Boot, Course, SessionRun, chip_of_part, geometry_of_chip, sizes_of, next_op_of, op_of_next}
 use Rattle.run_model.specs.History.{events_in, notes_of_chip}
 use Rattle.run_model.specs.Log.{Log}
 use Rattle.run_laws.proofs.Traces.{geometry_after}
-use Rattle.run_laws.proofs.Courses.{AtPlace, ChipsHold, EndOf, by_log, Holds}
+use Rattle.run_laws.proofs.Courses.{AtPlace, EndOf, by_log, Holds}
 use Rattle.run_laws.proofs.Faithful.{log_of}
-use Rattle.tool_steps.specs.Stage.{CanRun, device_size}
+use Rattle.tool_steps.specs.Stage.{CanRun}
 use Rattle.tool_steps.proofs.Scripts.{asks_first}
 use Rattle.session_steps.specs.declared.session.Session.{Session}
-use Rattle.session_steps.specs.Standing.{Standing, standing, outcomes_by, commands_by, First}
-use Rattle.session_steps.specs.Mirrors.{CanAllRun, GoesOn, Shows, Mirrors}
+use Rattle.session_steps.specs.Standing.{standing}
+use Rattle.session_steps.specs.Mirrors.{GoesOn, Mirrors}
 use Rattle.session_steps.proofs.Scripts.{an_op}
-use Rattle.chip_core.specs.Begin.{HasDevice, CanBegin}
 use Rattle.ctl_core.specs.Start.{CanStart, IsOnChip, IsOfDevice}
 
 -- what holds of all items holds of the one at a place

@@ -1,10 +1,10 @@
 -- What a course keeps of a session is what the session's exchanges make of it.
-use Rattle.std.proofs.Common.{◌≡◌, inl, inr, ℕ, List, ◌++◌, Option, Some, None, refl, ap, sym, ◌∙◌}
+use Rattle.std.proofs.Common.{◌≡◌, inl, inr, ℕ, List, Option, Some, None, refl, ap, sym, ◌∙◌}
 use Rattle.std.specs.Prelude.{Contains}
 use Rattle.nand_model.specs.declared.words.Command.{Command}
 use Rattle.nand_model.specs.declared.words.Op.{Op}
 use Rattle.nand_model.specs.Chip.{ChipState, FaultModel}
-use Rattle.run_model.specs.Course.{Boot, Course, SessionRun, course_after, session_run, sizes_of}
+use Rattle.run_model.specs.Course.{Boot, Course, SessionRun, session_run, sizes_of}
 use Rattle.run_model.specs.History.{exchanges_of, session_after}
 use Rattle.run_model.specs.Run.{HaveOneNumberEach, session_at_start}
 use Rattle.run_laws.proofs.Courses.{Holds, SessionsHold}

@@ -1,28 +1,24 @@
 -- A controller at its start, and when it is over.
-use Rattle.std.proofs.Common.{◌≡◌, ◌<◌, ◌≤◌, ◌⊎◌, inl, inr, ◌+◌, arith, ℕ, zero, suc, Bool, true, false, not, ◌&&◌, ◌||◌, List, [], ◌∷◌, ◌++◌, length, map, Option, Some, None, refl, ap, sym, ◌∙◌, subst, get_or, length-append}
+use Rattle.std.proofs.Common.{◌≡◌, ◌<◌, ◌≤◌, ◌⊎◌, inl, inr, arith, ℕ, zero, suc, Bool, true, false, not, ◌&&◌, ◌||◌, List, [], ◌∷◌, ◌++◌, length, map, Option, Some, None, refl, ap, sym, ◌∙◌, subst}
 use Rattle.std.specs.Prelude.{slice_get, option_map, All, IsTrue, is_none, is_some, ◌↔◌}
 use Rattle.std.specs.List.{list_all}
-use Rattle.std.proofs.lemmas.Option.{slice_get_within, slice_get-map}
-use Rattle.std.proofs.lemmas.List.{length-map}
+use Rattle.std.proofs.lemmas.Option.{slice_get_within}
 use Rattle.nand_iface.specs.declared.flash.Flash.{Ghosts}
-use Rattle.nand_model.specs.declared.geometry.Geometry.{Geometry}
 use Rattle.nand_model.specs.declared.words.Command.{Command}
-use Rattle.nand_model.specs.declared.words.Note.{Note}
-use Rattle.nand_model.specs.Chip.{ChipState, FaultModel}
+use Rattle.nand_model.specs.Chip.{ChipState}
 use Rattle.nand_model.specs.Operation.{Partitions}
 use Rattle.nand_model.specs.ChipRun.{ChipRun, chip_at_start}
-use Rattle.run_model.specs.Course.{Boot, Course, SessionRun, course_after, start_of_boot, sizes_of, is_over, is_finished, unattached, without_finished}
-use Rattle.run_laws.proofs.Places.{position_is, position_none}
+use Rattle.run_model.specs.Course.{Boot, SessionRun, sizes_of, is_over, is_finished, unattached, without_finished}
+use Rattle.run_laws.proofs.Places.{position_is}
 use Rattle.run_laws.proofs.Sessions.{number_stays}
-use Rattle.tool_steps.specs.Boot.{session_number, commands_at}
 use Rattle.tool_steps.specs.Stage.{CanRun}
 use Rattle.session_steps.specs.declared.session.Session.{Session}
-use Rattle.session_steps.specs.Standing.{number_of, standing, commands_by, IsWaiting}
-use Rattle.session_steps.specs.Mirrors.{CanAllRun, Mirrors}
+use Rattle.session_steps.specs.Standing.{number_of}
+use Rattle.session_steps.specs.Mirrors.{Mirrors}
 use Rattle.ctl_core.specs.declared.bench.Bench.{Bench}
-use Rattle.ctl_core.specs.KeptChip.{KeptChip, kept_as, kept_first, all_kept, first_attaching}
-use Rattle.ctl_core.specs.Past.{Past, at_start, starts_of, sizes_in, course_of}
-use Rattle.ctl_core.specs.Sessions.{SessionsMirror, HoldersWait, AreFresh, IsFresh, AreAllDone}
+use Rattle.ctl_core.specs.KeptChip.{KeptChip, kept_first, all_kept, first_attaching}
+use Rattle.ctl_core.specs.Past.{Past, at_start, course_of}
+use Rattle.ctl_core.specs.Sessions.{AreFresh, AreAllDone}
 use Rattle.ctl_core.specs.Start.{CanStart}
 use Rattle.ctl_core.specs.Bench.{kept_slot, kept_chips, IsOnCourse}
 use Rattle.ctl_core.proofs.Positions.{mapped_at, mapped_length}

@@ -1,7 +1,7 @@
 -- The flips that are due, one after the other, and the room that they take.
-use Rattle.std.proofs.Common.{◌≡◌, ◌<◌, ◌≤◌, ◌+◌, arith, ℕ, zero, suc, Bool, true, false, cond, List, [], ◌∷◌, length, drop, map, Option, Some, refl, ap, sym, ◌∙◌, subst, get_or, add-one}
-use Rattle.std.specs.Prelude.{slice_get, filter, fold, option_and_then, All, IsSome, ◌==◌}
-use Rattle.std.proofs.Math.ListN.{set, length-set}
+use Rattle.std.proofs.Common.{◌≡◌, ◌<◌, ◌≤◌, ◌+◌, arith, ℕ, zero, suc, Bool, true, false, cond, List, [], ◌∷◌, length, drop, map, Some, refl, ap, sym, ◌∙◌, subst, get_or, add-one}
+use Rattle.std.specs.Prelude.{slice_get, filter, fold, option_and_then, All, IsSome}
+use Rattle.std.proofs.Math.ListN.{set}
 use Rattle.std.proofs.Math.Seq.{drop-cons}
 use Rattle.std.proofs.lemmas.Bool.{eq-eqb, ne_eqb}
 use Rattle.std.proofs.lemmas.List.{length-drop}

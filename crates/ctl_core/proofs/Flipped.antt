@@ -3,9 +3,8 @@ use Rattle.std.proofs.Common.{◌≡◌, ◌⊎◌, inl, inr, ℕ, zero, suc, Li
 use Rattle.std.specs.Prelude.{slice_get, fold, option_map}
 use Rattle.std.proofs.lemmas.Bool.{cases_eq}
 use Rattle.nand_iface.specs.Flash.{FitsBits}
-use Rattle.nand_model.specs.declared.geometry.Geometry.{Geometry}
 use Rattle.nand_model.specs.declared.words.Flip.{Flip}
-use Rattle.nand_model.specs.Attach.{Attaching, attach_path}
+use Rattle.nand_model.specs.Attach.{attach_path}
 use Rattle.nand_model.specs.Chip.{FaultModel, flip_events}
 use Rattle.nand_model.specs.ChipRun.{ChipRun, Pending, with_flips}
 use Rattle.nand_model.specs.Operation.{Partitions, Known, operation_path}
@@ -13,7 +12,7 @@ use Rattle.nand_model.specs.Path.{after_answers}
 use Rattle.run_model.specs.Course.{Boot, change_at, with_flip, with_flips_before}
 use Rattle.run_laws.proofs.Places.{change_here, change_elsewhere}
 use Rattle.run_laws.proofs.Traces.{geometry_after}
-use Rattle.chip_model.specs.Stage.{Stage, Attaches, Works, stage_by}
+use Rattle.chip_model.specs.Stage.{Attaches, Works, stage_by}
 use Rattle.session_steps.specs.declared.session.Session.{Session}
 use Rattle.ctl_core.specs.Flips.{due_flips, with_bits_turned, kept_flip, kept_flips_before, CanFlip}
 use Rattle.ctl_core.specs.KeptChip.{KeptChip, kept_as, all_kept, holder_by}

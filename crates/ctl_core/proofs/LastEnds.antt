@@ -1,11 +1,10 @@
 -- How the sessions of a course that is over ended follows from its notes.
-use Rattle.std.proofs.Common.{◌≡◌, ℕ, List, length, map, Option, Some, ap, sym, ◌∙◌, arith}
-use Rattle.std.specs.Prelude.{slice_get, find, Contains, get_or, ◌==◌}
+use Rattle.std.proofs.Common.{◌≡◌, ℕ, List, map, Some, ap, sym, ◌∙◌, arith}
+use Rattle.std.specs.Prelude.{slice_get, Contains}
 use Rattle.std.proofs.lemmas.Option.{slice_get_within, get_or_from_slice_get, same_Some}
 use Rattle.nand_iface.specs.declared.flash.Flash.{Ghosts}
 use Rattle.nand_model.specs.declared.words.Command.{Command}
 use Rattle.run_model.specs.Course.{SessionRun, session_run}
-use Rattle.session_steps.specs.Standing.{number_of}
 use Rattle.ctl_core.specs.declared.bench.Bench.{Bench}
 use Rattle.ctl_core.specs.Past.{Past, starts_of, sizes_in, course_of}
 use Rattle.ctl_core.specs.Ended.{end_of_run, end_by_notes, ends_by_notes}

@@ -1,6 +1,6 @@
 -- What is left of a course that is over, by what its controller keeps.
-use Rattle.std.proofs.Common.{◌≡◌, ◌<◌, ◌≤◌, ◌⊎◌, inl, inr, ◌+◌, ◌*◌, arith, ℕ, zero, suc, Bool, true, false, not, ◌&&◌, ◌||◌, List, [], ◌∷◌, ◌++◌, length, map, take, Option, Some, None, refl, ap, sym, ◌∙◌, subst, get_or, add-one, cond}
-use Rattle.std.specs.Prelude.{slice_get, find, option_map, ◌==◌, All, sum_by, is_none, is_some, count_by}
+use Rattle.std.proofs.Common.{◌≡◌, ◌<◌, ◌≤◌, ◌+◌, arith, ℕ, zero, suc, Bool, true, false, ◌&&◌, ◌||◌, List, [], ◌∷◌, ◌++◌, length, map, take, Option, Some, None, refl, ap, sym, ◌∙◌, get_or, add-one, cond}
+use Rattle.std.specs.Prelude.{slice_get, find, option_map, ◌==◌, All, sum_by, is_some}
 use Rattle.std.specs.List.{list_all}
 use Rattle.std.proofs.lemmas.Bool.{and_parts}
 use Rattle.std.proofs.lemmas.List.{take_more}
@@ -14,24 +14,20 @@ use Rattle.nand_model.specs.declared.words.Reply.{Reply}
 use Rattle.nand_model.specs.declared.words.Part.{Part}
 use Rattle.nand_model.specs.declared.words.Stats.{Stats}
 use Rattle.nand_model.specs.Sizes.{numbers_from}
-use Rattle.nand_model.specs.Chip.{ChipState, FaultModel}
 use Rattle.nand_model.specs.Operation.{Partitions, Known}
-use Rattle.nand_model.specs.ChipRun.{ChipRun, Pending, bad_blocks, bad_blocks_in, table_now, table_during}
+use Rattle.nand_model.specs.ChipRun.{ChipRun, Pending, bad_blocks, bad_blocks_in}
 use Rattle.nand_model.proofs.Bounds.{bounds_of}
-use Rattle.run_model.specs.Course.{Boot, Course, SessionRun, chip_of, end_states, is_over, is_finished, next_op_of}
+use Rattle.run_model.specs.Course.{SessionRun, chip_of, end_states, is_over, is_finished, next_op_of}
 use Rattle.session_steps.specs.declared.session.Session.{Session}
-use Rattle.session_steps.specs.Ended.{EndOfSession}
 use Rattle.session_steps.specs.Standing.{standing, end_of}
-use Rattle.session_steps.specs.Mirrors.{Mirrors}
 use Rattle.chip_model.specs.Stage.{stage_by, stage_statistics, stage_table}
 use Rattle.ctl_core.specs.declared.bench.Bench.{Bench}
 use Rattle.ctl_core.specs.KeptChip.{KeptChip, kept_as, all_kept}
 use Rattle.ctl_core.specs.Past.{Past, starts_of, sizes_in, course_of}
-use Rattle.ctl_core.specs.Start.{CanStart, IsOnChip}
+use Rattle.ctl_core.specs.Start.{IsOnChip}
 use Rattle.ctl_core.specs.Ended.{end_of_run, statistics_known, statistics_on, statistics_at, device_numbers, device_statistics, all_bad_blocks, kept_state, kept_statistics_on, kept_statistics_at, kept_statistics, kept_bad_blocks}
-use Rattle.ctl_core.specs.Bench.{kept_slot, kept_chips, IsOnCourse}
+use Rattle.ctl_core.specs.Bench.{kept_chips, IsOnCourse}
 use Rattle.ctl_core.proofs.Places.{item_at}
-use Rattle.ctl_core.proofs.Positions.{mapped_length}
 use Rattle.ctl_core.proofs.Sessions.{one_number_each}
 use Rattle.ctl_core.proofs.Devices.{all_at, chip_stays}
 use Rattle.ctl_core.proofs.FirstAndLast.{true_at}

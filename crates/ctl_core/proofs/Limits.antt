@@ -1,8 +1,8 @@
 -- How many chips, events and turns a controller can have.
-use Rattle.std.proofs.Common.{◌≡◌, ◌<◌, ◌≤◌, ◌⊎◌, inl, inr, ◌+◌, ◌*◌, ◌-◌, ◌^◌, arith, ℕ, zero, suc, Bool, true, false, List, [], ◌∷◌, ◌++◌, length, map, Option, Some, None, refl, ap, sym, ◌∙◌, subst, get_or}
-use Rattle.std.specs.Prelude.{slice_get, All, sum_by, position, option_map, is_none, ◌==◌}
+use Rattle.std.proofs.Common.{◌≡◌, ◌<◌, ◌≤◌, ◌⊎◌, inl, inr, ◌+◌, ◌*◌, ◌-◌, ◌^◌, arith, ℕ, true, false, List, [], length, Option, Some, None, refl, ap, sym, ◌∙◌, subst, get_or}
+use Rattle.std.specs.Prelude.{slice_get, position, option_map, ◌==◌}
 use Rattle.std.proofs.lemmas.Bool.{cases_lt, eq-eqb, eqb-true}
-use Rattle.std.proofs.lemmas.Option.{slice_get_within, slice_get-get_or}
+use Rattle.std.proofs.lemmas.Option.{slice_get_within}
 use Rattle.std.proofs.lemmas.List.Sums.{sum_by-le}
 use Rattle.nand_iface.specs.declared.flash.Flash.{Ghosts}
 use Rattle.nand_model.specs.declared.geometry.Geometry.{Geometry}
@@ -13,24 +13,22 @@ use Rattle.nand_model.specs.ChipRun.{ChipRun, Pending}
 use Rattle.nand_model.proofs.Bounds.{bounds_of}
 use Rattle.run_model.specs.Course.{Boot, Course, course_after, unattached}
 use Rattle.run_model.specs.History.{notes_of_chip}
-use Rattle.run_model.specs.Log.{Log}
 use Rattle.run_laws.specs.Turns.{busy_turns}
-use Rattle.run_laws.proofs.Courses.{ChipsHold, EndOf, by_log, Holds, place_start}
+use Rattle.run_laws.proofs.Courses.{EndOf, by_log, Holds, place_start}
 use Rattle.run_laws.proofs.Faithful.{log_of}
 use Rattle.run_laws.proofs.Places.{position_is, position_none}
 use Rattle.cost_laws.specs.Cost.{boot_cost}
 use Rattle.cost_laws.specs.Laws.{blocks_of}
 use Rattle.cost_laws.proofs.Bounds.{busy_few, events_few}
 use Rattle.cost_laws.proofs.Attaches.{attaches_few}
-use Rattle.tool_steps.specs.Boot.{session_number}
 use Rattle.session_steps.specs.declared.session.Session.{Session}
 use Rattle.session_steps.specs.Standing.{number_of}
 use Rattle.chip_model.specs.Stage.{is_working, stage_by}
 use Rattle.ctl_core.specs.declared.bench.Bench.{Bench}
 use Rattle.ctl_core.specs.declared.bench.Slot.{Slot}
 use Rattle.ctl_core.specs.KeptChip.{KeptChip, kept_as, holder_by, first_attaching, first_held_by, is_held_by}
-use Rattle.ctl_core.specs.Past.{Past, starts_of, sizes_in, course_of}
-use Rattle.ctl_core.specs.Start.{CanStart, HasSession}
+use Rattle.ctl_core.specs.Past.{Past, starts_of, course_of}
+use Rattle.ctl_core.specs.Start.{HasSession}
 use Rattle.ctl_core.specs.Bench.{kept_slot, kept_chips, IsOnCourse, IsAtTurn}
 use Rattle.ctl_core.proofs.Places.{item_at}
 use Rattle.ctl_core.proofs.Positions.{mapped_length, position_kept}

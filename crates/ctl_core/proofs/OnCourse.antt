@@ -1,25 +1,21 @@
 -- What a bench that stands on its course knows, and what a step makes of it.
-use Rattle.std.proofs.Common.{◌≡◌, ◌<◌, ◌≤◌, ◌+◌, arith, ℕ, zero, suc, Bool, true, false, not, List, [], ◌∷◌, ◌++◌, length, Option, Some, None, Result, Ok, Err, OnErr, Bor, refl, ap, sym, ◌∙◌, subst, get_or}
-use Rattle.std.specs.Prelude.{slice_get, option_copied, All, map, option_map, option_and_then, IsSome, is_none, is_some, position, ⊤}
+use Rattle.std.proofs.Common.{◌≡◌, ◌<◌, ◌+◌, arith, ℕ, zero, suc, true, false, List, [], ◌∷◌, ◌++◌, length, Option, Some, None, Result, Ok, Err, OnErr, Bor, refl, ap, sym, ◌∙◌, subst, get_or}
+use Rattle.std.specs.Prelude.{slice_get, option_copied, All, map, option_map, option_and_then, IsSome, is_none}
 use Rattle.std.proofs.Math.ListN.{set}
-use Rattle.std.proofs.lemmas.Option.{slice_get_within, get_or_from_slice_get, slice_get-map}
+use Rattle.std.proofs.lemmas.Option.{slice_get_within, get_or_from_slice_get}
 use Rattle.nand_iface.specs.Flash.{FitsBits}
 use Rattle.nand_iface.specs.declared.flash.Flash.{Ghosts}
-use Rattle.nand_model.specs.declared.geometry.Geometry.{Geometry}
 use Rattle.nand_model.specs.declared.words.Command.{Command}
 use Rattle.nand_model.specs.declared.words.Op.{Op}
 use Rattle.nand_model.specs.declared.words.Part.{Part}
 use Rattle.nand_model.specs.declared.words.Flip.{Flip}
 use Rattle.nand_model.specs.declared.words.Reply.{Reply}
-use Rattle.nand_model.specs.declared.words.Note.{Note}
-use Rattle.nand_model.specs.declared.words.Note.TheVariants.{Began, Answered}
-use Rattle.nand_model.specs.Chip.{ChipState, FaultModel, PageEvent}
+use Rattle.nand_model.specs.Chip.{PageEvent}
 use Rattle.nand_model.specs.Path.{Path, Over, Then, first_event, result_of}
-use Rattle.nand_model.specs.Operation.{Partitions, Known, Finished, part_of, device_of}
+use Rattle.nand_model.specs.Operation.{Partitions, Finished, part_of, device_of}
 use Rattle.nand_model.specs.ChipRun.{ChipRun, Pending}
-use Rattle.mtd_part.specs.Blocks.{LiesWithin}
 use Rattle.run_model.specs.Command.{command_device}
-use Rattle.run_model.specs.Course.{Boot, Course, SessionRun, change_at, chip_of, chip_of_part, sizes_of, session_run, next_op, next_op_of, is_finished, pending_chip, unattached, can_begin, is_free_at, is_free, is_idle, turn_step}
+use Rattle.run_model.specs.Course.{Course, SessionRun, change_at, chip_of, chip_of_part, session_run, next_op, next_op_of, is_finished, pending_chip, can_begin, is_free_at, is_free, is_idle}
 use Rattle.run_laws.proofs.Courses.{Holds}
 use Rattle.run_laws.proofs.Faithful.{course_holds}
 use Rattle.run_laws.proofs.Places.{position_is, position_none}
@@ -27,12 +23,10 @@ use Rattle.tool_steps.specs.Boot.{commands_at}
 use Rattle.tool_steps.specs.Stage.{CanRun}
 use Rattle.session_steps.specs.declared.session.Session.{Session}
 use Rattle.session_steps.specs.Standing.{number_of, standing, outcomes_by, commands_by, First}
-use Rattle.session_steps.specs.Mirrors.{Mirrors}
 use Rattle.session_steps.proofs.TakenOps.{next_taken}
 use Rattle.chip_model.specs.Taken.{IsTaken}
-use Rattle.chip_model.specs.Stage.{Stage, Attaches, Rests, Works, failure_told, stage_event, finished_in, is_working, is_resting, is_attached, stage_by}
+use Rattle.chip_model.specs.Stage.{Stage, Attaches, Rests, Works, failure_told, stage_event, finished_in, is_working, is_resting, stage_by}
 use Rattle.chip_core.specs.Chip.{chip_stage}
-use Rattle.ctl_core.specs.declared.turn.Turn.{Turn}
 use Rattle.ctl_core.specs.declared.turn.Turn.TheVariants.{Did, Held, Done}
 use Rattle.ctl_core.specs.declared.bench.Bench.{Bench}
 use Rattle.ctl_core.specs.declared.bench.Slot.{Slot}
@@ -41,7 +35,6 @@ use Rattle.ctl_core.specs.Past.{Past, starts_of, sizes_in, course_of, next_cours
 use Rattle.ctl_core.specs.Answer.{next_chip, held_unless_pending, held_by, held_or_did, done_or, turn_answer}
 use Rattle.ctl_core.specs.Bench.{kept_slot, kept_chips, StandsAt, StandsAlike, IsOnCourse, IsAtTurn, DidEvent}
 use Rattle.ctl_core.specs.Flips.{CanFlip, kept_flips_before}
-use Rattle.ctl_core.specs.Follows.{Follows}
 use Rattle.ctl_core.proofs.Places.{item_at}
 use Rattle.ctl_core.proofs.Positions.{mapped_length, at_mapped}
 use Rattle.ctl_core.proofs.CourseSteps.{resting, holding, idle_else, turn_is_idle, busy_where_pending, busy_where_begins}

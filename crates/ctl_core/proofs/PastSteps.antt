@@ -1,9 +1,9 @@
 -- The course of a past with one more step, and how far it can have come.
-use Rattle.std.proofs.Common.{◌≡◌, ◌<◌, ◌≤◌, ◌+◌, ◌*◌, ◌-◌, ◌^◌, arith, ℕ, zero, suc, Bool, true, false, not, List, [], ◌∷◌, ◌++◌, length, map, Option, Some, None, refl, ap, sym, ◌∙◌, subst, append_assoc, add-one}
-use Rattle.std.specs.Prelude.{slice_get, fold, All, sum_by, if◌then◌else◌}
+use Rattle.std.proofs.Common.{◌≡◌, ◌+◌, ℕ, zero, suc, false, List, [], ◌∷◌, ◌++◌, refl, ap, sym, ◌∙◌, append_assoc, add-one}
+use Rattle.std.specs.Prelude.{if◌then◌else◌}
 use Rattle.std.proofs.lemmas.List.Sums.{fold-append}
 use Rattle.nand_model.specs.Chip.{ChipState, FaultModel}
-use Rattle.run_model.specs.Course.{Boot, Course, SessionRun, attach_step, attach_steps, turn_step, turns_taken, course_after, start_of_boot, sizes_of, is_idle}
+use Rattle.run_model.specs.Course.{Boot, Course, attach_step, attach_steps, turn_step, turns_taken, course_after, start_of_boot, sizes_of, is_idle}
 use Rattle.run_laws.specs.Turns.{busy_turns}
 
 module _ {W : Type 0} (model : FaultModel W) (boot : Boot) (starts : List (ChipState W)) where

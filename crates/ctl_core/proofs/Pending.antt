@@ -1,14 +1,11 @@
 -- What a course says of a session with a pending operation: the operation is its next one, and is pending on one chip alone.
-use Rattle.std.proofs.Common.{◌≡◌, inl, inr, ℕ, Bool, true, false, List, Option, Some, None, refl, ap, sym, ◌∙◌, subst}
+use Rattle.std.proofs.Common.{◌≡◌, inl, inr, ℕ, true, false, List, Some, ap, sym, ◌∙◌}
 use Rattle.std.specs.Prelude.{slice_get}
-use Rattle.nand_model.specs.declared.words.Command.{Command}
-use Rattle.nand_model.specs.declared.words.Op.{Op}
 use Rattle.nand_model.specs.Chip.{ChipState, FaultModel}
 use Rattle.nand_model.specs.ChipRun.{ChipRun, Pending}
-use Rattle.run_model.specs.Course.{Boot, Course, SessionRun, next_op_of, session_run, course_after, sizes_of}
+use Rattle.run_model.specs.Course.{Boot, Course, SessionRun, next_op_of, session_run, sizes_of}
 use Rattle.run_model.specs.Run.{HaveOneNumberEach}
 use Rattle.run_laws.proofs.Courses.{asked_by, asked_on, asked_at, Holds, IsLive}
-use Rattle.run_laws.proofs.Faithful.{course_holds}
 
 module _ {W : Type 0} (model : FaultModel W) (boot : Boot) (starts : List (ChipState W)) (course : Course W) (lit : course.dark ≡ false) where
   live : Holds model boot starts course → IsLive model boot starts course

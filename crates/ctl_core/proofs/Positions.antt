@@ -1,7 +1,7 @@
 -- The place that a search finds, in a list and in the list of what is kept of its items.
-use Rattle.std.proofs.Common.{◌≡◌, ◌<◌, ◌≤◌, ltb, not, arith, ℕ, zero, suc, ◌+◌, Bool, true, false, List, [], ◌∷◌, length, Option, Some, None, refl, ap, sym, ◌∙◌, subst, cond, one-add}
+use Rattle.std.proofs.Common.{◌≡◌, ltb, not, arith, ℕ, zero, suc, ◌+◌, Bool, false, List, [], ◌∷◌, length, Some, None, refl, ap, sym, ◌∙◌, subst, cond, one-add}
 use Rattle.std.proofs.lemmas.Bool.{le-ltb, cond-false}
-use Rattle.std.specs.Prelude.{slice_get, position, option_map, map, find}
+use Rattle.std.specs.Prelude.{slice_get, position, map}
 use Rattle.std.specs.List.{position_or_len}
 use Rattle.run_model.specs.Course.{change_at}
 

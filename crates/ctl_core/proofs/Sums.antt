@@ -1,5 +1,5 @@
 -- The statistics of a controller's devices leave room for another page.
-use Rattle.std.proofs.Common.{◌≡◌, ◌≤◌, ◌*◌, ◌+◌, ◌^◌, ◌<◌, arith, ℕ, length, map, Option, Some, None, refl, ap, sym, ◌∙◌, subst}
+use Rattle.std.proofs.Common.{◌≡◌, ◌≤◌, ◌*◌, ◌^◌, ◌<◌, arith, ℕ, length, Option, Some, None, refl, ap, sym, ◌∙◌, subst}
 use Rattle.std.specs.Prelude.{slice_get, IfSome}
 use Rattle.nand_iface.specs.declared.flash.Flash.{Ghosts}
 use Rattle.nand_model.specs.declared.words.Op.{Op}
@@ -7,7 +7,7 @@ use Rattle.nand_model.specs.declared.words.Stats.{Stats}
 use Rattle.nand_model.specs.Operation.{Known}
 use Rattle.nand_model.specs.ChipRun.{ChipRun}
 use Rattle.count_laws.proofs.Courses.{counts_small}
-use Rattle.chip_model.specs.Stage.{stage_of, stage_statistics}
+use Rattle.chip_model.specs.Stage.{stage_statistics}
 use Rattle.chip_core.specs.Begin.{read_device}
 use Rattle.chip_core.specs.Sums.{AreSmall}
 use Rattle.ctl_core.specs.declared.bench.Bench.{Bench}

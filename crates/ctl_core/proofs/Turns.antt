@@ -1,19 +1,18 @@
 -- A controller follows its course through each step.
-use Rattle.std.proofs.Common.{◌≡◌, ◌⊎◌, inl, inr, ℕ, ◌+◌, Bool, true, false, List, [], ◌∷◌, ◌++◌, Option, Some, None, refl, ap, sym, ◌∙◌, subst}
-use Rattle.std.specs.Prelude.{slice_get, find, position, is_none, is_some, ◌==◌}
+use Rattle.std.proofs.Common.{◌≡◌, ℕ, ◌+◌, true, false, List, [], ◌∷◌, ◌++◌, Option, Some, None, refl, ap, sym, ◌∙◌, subst}
+use Rattle.std.specs.Prelude.{slice_get, is_none}
 use Rattle.std.proofs.lemmas.Bool.{eqb-true, eq-eqb}
-use Rattle.nand_model.specs.declared.geometry.Geometry.{Geometry}
 use Rattle.nand_model.specs.declared.words.Command.{Command}
 use Rattle.nand_model.specs.declared.words.Note.{Note}
 use Rattle.nand_model.specs.declared.words.Note.TheVariants.{Began, Answered}
 use Rattle.nand_model.specs.declared.words.Op.{Op}
 use Rattle.nand_model.specs.Chip.{ChipState, FaultModel, PageEvent}
 use Rattle.nand_model.specs.Path.{Path, Over, Then, first_event, result_of}
-use Rattle.nand_model.specs.Operation.{Known, Finished, device_of}
+use Rattle.nand_model.specs.Operation.{Finished, device_of}
 use Rattle.nand_model.specs.ChipRun.{ChipRun, Pending, next_chip_event}
 use Rattle.run_laws.proofs.Sessions.{number_stays}
-use Rattle.run_model.specs.Course.{finish, Boot, Course, SessionRun, change_at, chip_of, next_op, next_op_of, session_run, pending_chip, unattached, is_pending_of, is_free, is_free_at, can_begin, is_idle, turn_step, attach_step, with_flips_before, sizes_of, with_reply, replied}
-use Rattle.chip_model.specs.Stage.{Stage, Attaches, Rests, Works, stage_event, stage_of, failure_told, finished_in}
+use Rattle.run_model.specs.Course.{finish, Boot, Course, SessionRun, change_at, chip_of, next_op, next_op_of, session_run, pending_chip, unattached, turn_step, attach_step, with_flips_before, sizes_of, with_reply}
+use Rattle.chip_model.specs.Stage.{Stage, Attaches, Rests, Works, stage_event, failure_told, finished_in}
 use Rattle.run_laws.proofs.Courses.{Holds}
 use Rattle.run_laws.proofs.Places.{position_is, position_none}
 use Rattle.session_steps.specs.declared.session.Session.{Session}
@@ -22,14 +21,14 @@ use Rattle.session_steps.specs.Mirrors.{Mirrors}
 use Rattle.ctl_core.specs.KeptChip.{KeptChip, kept_as, all_kept, is_held_by, first_attaching, first_held_by, after_event, after_begin, after_answer, with_news_told, failure_notes, news_notes}
 use Rattle.ctl_core.specs.Flips.{kept_flips_before}
 use Rattle.ctl_core.specs.Keeps.{Keeps}
-use Rattle.ctl_core.specs.Sessions.{AreAscending, SessionsMirror, HoldersWait}
+use Rattle.ctl_core.specs.Sessions.{AreAscending}
 use Rattle.ctl_core.specs.Follows.{Follows}
-use Rattle.ctl_core.proofs.Positions.{mapped_at, at_mapped}
+use Rattle.ctl_core.proofs.Positions.{mapped_at}
 use Rattle.ctl_core.proofs.Places.{OneChanged}
 use Rattle.ctl_core.proofs.ChipSteps.{works, next_is}
 use Rattle.ctl_core.proofs.Flipped.{flips_kept, wait_flipped}
-use Rattle.ctl_core.proofs.CourseSteps.{unattached_is, pending_is, resting, holding, attach_step_is, turn_event_is, turn_answer_is, turn_begins, turn_is_idle, idle_else, event_kept, begin_kept, answer_kept, after_chip_event}
-use Rattle.ctl_core.proofs.Sessions.{one_number_each, placed, run_number, same_place, found, one_replied, all_later, one_resumed, wait_on, wait_beside, wait_begun, wait_answered}
+use Rattle.ctl_core.proofs.CourseSteps.{unattached_is, pending_is, resting, holding, attach_step_is, turn_event_is, turn_answer_is, turn_begins, event_kept, begin_kept, answer_kept, after_chip_event}
+use Rattle.ctl_core.proofs.Sessions.{one_number_each, placed, same_place, one_replied, all_later, one_resumed, wait_on, wait_beside, wait_begun, wait_answered}
 use Rattle.ctl_core.proofs.Pending.{pending_is_next, pending_once}
 
 -- an operation that is over has no event

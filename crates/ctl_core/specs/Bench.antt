@@ -1,7 +1,7 @@
 -- What a controller keeps, as its course has it.
 use Rattle.std.specs.Prelude.{◌≡◌, ◌≤◌, ℕ, ◌+◌, ◌++◌, List, [], map, slice_get, Option, Some, None, option_map, option_and_then}
 use Rattle.nand_iface.specs.declared.flash.Flash.{Ghosts}
-use Rattle.nand_model.specs.Chip.{ChipState, PageEvent}
+use Rattle.nand_model.specs.Chip.{PageEvent}
 use Rattle.nand_model.specs.declared.words.Flip.{Flip}
 use Rattle.run_model.specs.Course.{Course, change_at, unattached, course_after}
 use Rattle.run_laws.specs.Turns.{busy_turns}

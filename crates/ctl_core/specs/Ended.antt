@@ -1,5 +1,5 @@
 -- What a controller that is over leaves.
-use Rattle.std.specs.Prelude.{◌≡◌, ℕ, false, List, [], length, map, slice_get, sum_by, Option, Some, None}
+use Rattle.std.specs.Prelude.{ℕ, false, List, length, map, slice_get, sum_by, Option, Some, None}
 use Rattle.nand_model.specs.Chip.{ChipState}
 use Rattle.nand_model.specs.Sizes.{numbers_from}
 use Rattle.nand_model.specs.Operation.{Partitions, Known}

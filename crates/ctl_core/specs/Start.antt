@@ -1,5 +1,5 @@
 -- When a controller can be started.
-use Rattle.std.specs.Prelude.{◌≡◌, ◌≤◌, ℕ, List, length, All, slice_get, Option, Some, None}
+use Rattle.std.specs.Prelude.{◌≡◌, ◌≤◌, ℕ, List, length, All, slice_get, Some, None}
 use Rattle.mtd_part.specs.Blocks.{LiesWithin}
 use Rattle.nand_model.specs.Chip.{ChipState}
 use Rattle.nand_model.specs.Operation.{Partitions, part_of}

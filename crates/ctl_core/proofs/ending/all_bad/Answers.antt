@@ -1,4 +1,4 @@
-use Rattle.std.proofs.Common.{◌≡◌, ◌≤◌, ◌+◌, arith, sym, ap, ◌∙◌}
+use Rattle.std.proofs.Common.{◌+◌, arith, sym, ◌∙◌}
 use Rattle.chip_core.specs.Chip.{chip_state}
 use Rattle.ctl_core.specs.Bench.{kept_slot}
 use Rattle.ctl_core.specs.Ended.{kept_bad_blocks}

@@ -1,6 +1,5 @@
-use Rattle.std.proofs.Common.{◌≡◌, ◌≤◌, ◌+◌, arith}
-use Rattle.chip_core.specs.Chip.{chip_spare, chip_bits}
-use Rattle.ctl_core.specs.Bench.{kept_slot, HasRoom}
+use Rattle.std.proofs.Common.{arith}
+use Rattle.ctl_core.specs.Bench.{kept_slot}
 use Rattle.ctl_core.specs.Flips.{with_bits_turned}
 use Rattle.ctl_core.proofs.Places.{mapped_set}
 use Rattle.ctl_core.proofs.Slots.{kept_at}

@@ -1,10 +1,10 @@
-use Rattle.std.proofs.Common.{◌≡◌, ◌<◌, ◌≤◌, ◌⊎◌, inl, inr, ◌∷◌, ◌++◌, [], ℕ, List, length, length-append, arith, Some, None, ap, sym, ◌∙◌, subst₂, ◌+◌}
+use Rattle.std.proofs.Common.{◌≡◌, ◌⊎◌, inl, inr, ℕ, List, length, arith, Some, None, ap, sym, ◌∙◌, subst₂, ◌+◌}
 use Rattle.std.proofs.lemmas.List.{length_push}
 use Rattle.std.specs.Prelude.{slice_get, option_map}
 use Rattle.nand_model.specs.declared.words.Command.{Command}
 use Rattle.tool_steps.specs.Boot.{session_number}
 use Rattle.session_steps.specs.declared.session.Session.{Session}
-use Rattle.ctl_core.specs.Sessions.{IsFresh, AreFresh}
+use Rattle.ctl_core.specs.Sessions.{IsFresh}
 use Rattle.ctl_core.proofs.FirstAndLast.{pushed_at, past_end, before_end}
 use Rattle.ctl_core.proofs.starting.first_sessions.Goals as goal
 

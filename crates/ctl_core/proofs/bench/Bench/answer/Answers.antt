@@ -1,4 +1,4 @@
-use Rattle.std.proofs.Common.{◌≡◌, ◌∷◌, ◌++◌, [], ap, sym, ◌∙◌, subst, Some}
+use Rattle.std.proofs.Common.{◌≡◌, ◌∷◌, ◌++◌, [], ap, ◌∙◌, subst, Some}
 use Rattle.std.specs.Prelude.{slice_get, option_and_then, IsSome}
 use Rattle.nand_model.specs.Operation.{Finished}
 use Rattle.nand_model.specs.declared.words.Note.TheVariants.{Answered}

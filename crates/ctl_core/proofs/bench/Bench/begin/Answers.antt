@@ -1,5 +1,5 @@
-use Rattle.std.proofs.Common.{◌≡◌, ◌<◌, not, ℕ, List, length, false, Option, Some, None, refl, sym, ap, ◌∙◌, subst, get_or}
-use Rattle.std.specs.Prelude.{slice_get, is_none, option_map}
+use Rattle.std.proofs.Common.{◌<◌, not, length, Some, sym, ap, ◌∙◌, subst}
+use Rattle.std.specs.Prelude.{is_none, option_map}
 use Rattle.ctl_core.specs.Bench.{past_of, kept_slot, StandsAt}
 use Rattle.ctl_core.specs.KeptChip.{KeptChip}
 use Rattle.ctl_core.proofs.Positions.{at_mapped}

@@ -1,15 +1,13 @@
-use Rattle.std.proofs.Common.{◌≡◌, ◌<◌, ◌∷◌, ◌++◌, [], List, Option, Some, None, refl, ap, sym, ◌∙◌, subst}
-use Rattle.std.specs.Prelude.{slice_get, option_map, map}
+use Rattle.std.proofs.Common.{◌≡◌, ◌∷◌, ◌++◌, [], None, ap, sym, ◌∙◌, subst}
+use Rattle.std.specs.Prelude.{slice_get}
 use Rattle.std.proofs.lemmas.Option.{slice_get_within}
 use Rattle.std.proofs.Math.ListN.{set}
 use Rattle.nand_model.specs.declared.geometry.Geometry.{Geometry}
 use Rattle.nand_model.specs.declared.words.Command.{Command}
 use Rattle.nand_model.specs.declared.words.Note.TheVariants.{Began}
 use Rattle.nand_model.specs.Operation.{Partitions}
-use Rattle.run_model.specs.Course.{SessionRun, next_op_of}
 use Rattle.tool_steps.specs.Stage.{CanRun}
 use Rattle.session_steps.specs.Standing.{First, commands_by, standing}
-use Rattle.session_steps.specs.Mirrors.{Mirrors}
 use Rattle.chip_core.specs.Begin.{CanBegin}
 use Rattle.ctl_core.specs.KeptChip.{KeptChip, after_begin}
 use Rattle.ctl_core.specs.Past.{starts_of, course_of}

@@ -1,4 +1,4 @@
-use Rattle.std.proofs.Common.{◌≡◌, ◌+◌, Bool, true, false, Option, Some, None, refl, ap, sym, ◌∙◌, subst}
+use Rattle.std.proofs.Common.{◌≡◌, true, false, Option, Some, None, refl, ap, sym, ◌∙◌, subst}
 use Rattle.std.specs.Prelude.{option_and_then, option_map, is_some, slice_get, All, IsSome}
 use Rattle.std.proofs.lemmas.Option.{slice_get_within}
 use Rattle.nand_model.specs.Chip.{PageEvent}

@@ -1,4 +1,4 @@
-use Rattle.std.proofs.Common.{◌≡◌, sym, ◌∙◌}
+use Rattle.std.proofs.Common.{◌∙◌}
 use Rattle.ctl_core.specs.Bench.{past_of}
 use Rattle.ctl_core.proofs.CoreSteps.{attaching_in_slots}
 use Rattle.ctl_core.proofs.FirstAndLast.{over_where_done, not_over_where_attaching}

@@ -1,6 +1,4 @@
-use Rattle.std.proofs.Common.{◌≡◌, false, not, Option, Some, None, refl, ap, sym, ◌∙◌}
-use Rattle.std.specs.Prelude.{position, ◌==◌}
-use Rattle.session_steps.specs.Standing.{number_of}
+use Rattle.std.proofs.Common.{not, ap, sym, ◌∙◌}
 use Rattle.ctl_core.specs.Bench.{past_of}
 use Rattle.ctl_core.proofs.Limits.{place_there, at_turn, held_in_slots}
 use Rattle.ctl_core.proofs.OnCourse.{answers_did_pending, busy_pending, held_not_done}

@@ -1,9 +1,7 @@
-use Rattle.std.proofs.Common.{◌≡◌, ◌≤◌, ◌+◌, Some, None, arith, refl, ap, sym, ◌∙◌, subst}
-use Rattle.std.specs.Prelude.{IsSome, slice_get, option_and_then, All}
-use Rattle.nand_model.specs.Chip.{PageEvent}
+use Rattle.std.proofs.Common.{◌≡◌, arith, refl, ap, sym, ◌∙◌, subst}
+use Rattle.std.specs.Prelude.{IsSome, option_and_then, All}
 use Rattle.run_model.specs.Course.{attach_step, unattached}
 use Rattle.run_laws.proofs.AttachTurns.{attach_is_step}
-use Rattle.cost_laws.specs.Laws.{blocks_of}
 use Rattle.chip_model.specs.Stage.{stage_event}
 use Rattle.ctl_core.specs.Answer.{attach_answer}
 use Rattle.ctl_core.specs.KeptChip.{KeptChip}

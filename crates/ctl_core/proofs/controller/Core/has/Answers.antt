@@ -1,5 +1,5 @@
-use Rattle.std.proofs.Common.{◌≡◌, true, sym, ◌∙◌, subst}
-use Rattle.std.specs.Prelude.{IsTrue, is_some, ◌↔◌}
+use Rattle.std.proofs.Common.{sym, ◌∙◌, subst}
+use Rattle.std.specs.Prelude.{IsTrue, ◌↔◌}
 use Rattle.ctl_core.specs.Past.{Past}
 use Rattle.ctl_core.specs.Start.{HasSession}
 use Rattle.ctl_core.specs.Bench.{past_of}

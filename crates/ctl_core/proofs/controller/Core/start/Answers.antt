@@ -1,4 +1,4 @@
-use Rattle.std.proofs.Common.{◌≡◌, ℕ, List, refl, sym, subst}
+use Rattle.std.proofs.Common.{ℕ, List, refl, sym, subst}
 use Rattle.ctl_core.specs.declared.bench.Bench.{Bench}
 use Rattle.ctl_core.specs.Past.{Past}
 use Rattle.ctl_core.specs.Bench.{IsOnCourse}
