@@ -1,5 +1,5 @@
 -- The boots of the tests can be started on two small chips.
-use Rattle.std.proofs.Common.{◌≡◌, ◌<◌, ◌≤◌, ◌+◌, ◌*◌, arith, ℕ, zero, suc, true, List, [], ◌∷◌, Option, Some, None, refl, ap, sym, ◌∙◌, subst, subst₂, get_or}
+use Rattle.std.proofs.Common.{◌≡◌, ◌<◌, ◌≤◌, ◌+◌, ◌*◌, arith, ℕ, zero, suc, true, false, List, [], ◌∷◌, Option, Some, None, refl, ap, sym, ◌∙◌, subst, subst₂, get_or}
 use Rattle.std.specs.Prelude.{slice_get, All}
 use Rattle.nand_iface.specs.Flash.{FitsBits}
 use Rattle.nand_model.specs.Chip.{ChipState}

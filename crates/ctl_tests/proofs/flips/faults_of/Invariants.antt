@@ -1,0 +1,6 @@
+use Rattle.std.specs.Prelude.{All}
+use Rattle.ctl_tests.specs.Small.{IsSmallFlip}
+use Rattle.ctl_tests.proofs.flips.faults_of.Given as goal
+
+abbrev pub invariant-loop-one : goal.invariant-loop-one
+invariant-loop-one l = All IsSmallFlip l.faults
