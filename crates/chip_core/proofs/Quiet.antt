@@ -71,7 +71,7 @@ module _ {W : Type 0} (model : FaultModel W) (s : ChipState W) (none : s.geometr
       → is_quiet_marker s.geometry (after_trace model s (flip_events page bits)).pages block ≡ is_quiet_marker s.geometry s.pages block
   other_marker block other =
       ap (λ (p : PageState). has_no_flip_in p s.geometry.page (s.geometry.page + 1))
-      (flips-others model s page bits (first_page s.geometry block) 
+      (flips-others model s page bits (first_page s.geometry block)
       (λ same. other (sym (first_page-block s.geometry block) ∙ ap (λ p. p / s.geometry.pages_per_block) same)))
 
   -- and begin no marker's
@@ -80,7 +80,7 @@ module _ {W : Type 0} (model : FaultModel W) (s : ChipState W) (none : s.geometr
   was_quiet block quiet = elim (cases_eq (first_page s.geometry block) page) [
     | inl same ↦
         let counted : ((after_trace model s (flip_events page bits)).pages (first_page s.geometry block)).flips
-            ≡ (s.pages (first_page s.geometry block)).flips ++ bits =
+        ≡ (s.pages (first_page s.geometry block)).flips ++ bits =
         rw same (flips-counted model s page bits) in
         fewer_flips (s.pages (first_page s.geometry block)).flips bits (8 * s.geometry.page) (8 * (s.geometry.page + 1)) (rw (← counted) quiet)
     | inr other ↦

@@ -1,20 +1,20 @@
 -- What each call makes of a chip of which one program fails.
-use Rattle.std.proofs.Common.{◌≡◌, ℕ, zero, suc, ◌-◌, List, [], refl, sym, ◌∙◌, arith, inl, inr, Bool, true, false, if◌then◌else◌}
-use Rattle.std.specs.Prelude.{◌==◌, ◌/◌}
+use Rattle.std.proofs.Common.{◌≡◌, ℕ, zero, suc, ◌-◌, List, [], ◌∷◌, refl, ap, sym, ◌∙◌, arith, inl, inr, Bool, true, false, if◌then◌else◌}
+use Rattle.std.specs.Prelude.{◌==◌, ◌/◌, bit_and, bit_or, slice_index}
+use Rattle.std.specs.Int.Bits.{or_zero_r}
 use Rattle.std.proofs.lemmas.Bool.Decides.{eqb_tells, nat_tests}
-use Rattle.nand_model.specs.Chip.{PageState, Complete, ProgramEvent, EraseEvent, blank_page, good_program, happens, sim_faults, torn_program, with_page}
+use Rattle.nand_model.specs.Chip.{ChipState, PageState, SimFaults, Complete, Flipped, ProgramEvent, EraseEvent, after_trace, blank_page, flip_events, flipped, good_program, happens, map_from, sim_faults, torn_program, with_page}
 use Rattle.nand_model.specs.declared.geometry.Geometry.{Geometry}
 use Rattle.chip_sim.specs.State.{sim_state}
 use Rattle.chip_sim.specs.declared.chip.SimChip.{SimChip}
-use Rattle.chip_tests.specs.Failure.{HasBytes, after_erase, after_program, count, is_torn, left, one_failure}
+use Rattle.chip_tests.specs.Failure.{after_erase, after_program, count, is_torn, left, one_failure}
 use Rattle.chip_tests.specs.Failing.{with_failure}
 use Rattle.chip_tests.specs.declared.failing_flash.Failure.{Failure}
 use Rattle.chip_tests.specs.declared.failing_flash.Failure.TheVariants.{Ahead, Torn, Past}
-use Rattle.chip_tests.proofs.Bytes.{PageBytes, kept}
 
 -- a page that is torn or not
 abbrev torn_page : PageState → Bool → PageState
-torn_page page torn = record { cells = page.cells; flips = []; torn = torn; flipped_since = false }
+torn_page page torn = record page { torn = torn }
 
 -- the torn page is mended or not
 past_if-torn : (b : Bool) (torn p : ℕ) → is_torn (if b then Past else Torn torn) p ≡ (if b then false else (p == torn))
@@ -74,14 +74,20 @@ program-good chip failure page image good =
     })
 
 -- the program that fails
-fails_page : (page : PageState) (image : List ℕ) → PageBytes page → torn_page page true ≡ torn_program (torn_page page false) image (λ q i. 0)
-fails_page page image fits i = record { cells = sym (kept page.cells image 0 fits) i; flips = []; torn = true; flipped_since = false }
+all_done : (image : List ℕ)
+    → ◌≡◌ {A = ℕ → ℕ → ℕ} (λ i byte. bit_and byte (slice_index image i)) (λ i byte. bit_and byte (bit_or (slice_index image i) 0))
+all_done image = λ k i byte. bit_and byte (sym (or_zero_r (slice_index image i)) k)
 
-fails_if : (pages : ℕ → PageState) (at p : ℕ) (image : List ℕ) → PageBytes (pages at)
-    → torn_page (pages p) (p == at) ≡ with_page (λ p. torn_page (pages p) false) at (torn_program (torn_page (pages at) false) image (λ q i. 0)) p
-fails_if pages at p image fits =
+fails_page : (page : PageState) (image : List ℕ) → torn_page (good_program page image) true ≡ torn_program (torn_page page false) image (λ q i. 0xff)
+fails_page page image i =
+    record { cells = ap (λ f. map_from 0 f page.cells) (all_done image) i; flips = page.flips; torn = true; flipped_since = false }
+
+fails_if : (pages : ℕ → PageState) (at p : ℕ) (image : List ℕ)
+    → torn_page (with_page pages at (good_program (pages at) image) p) (p == at)
+    ≡ with_page (λ p. torn_page (pages p) false) at (torn_program (torn_page (pages at) false) image (λ q i. 0xff)) p
+fails_if pages at p image =
     elim (eqb_tells p at) [
-      | inl same ↦ rw (same.0, same.1) (fails_page (pages at) image fits)
+      | inl same ↦ rw same.0 (fails_page (pages at) image)
       | inr other ↦ rw other.0 refl
     ]
 
@@ -91,19 +97,20 @@ next-is (Ahead (suc n)) next = grind arith
 next-is (Torn torn) next = grind arith
 next-is Past next = grind arith
 
-first-fails : (chip : SimChip) (page : ℕ) (image : List ℕ) → HasBytes (sim_state chip)
-    → with_failure (sim_state chip) (Torn page) ≡ happens one_failure (with_failure (sim_state chip) (Ahead 0)) (Complete (ProgramEvent page image))
-first-fails chip page image fits i = record {
+first-fails : (chip : SimChip) (page : ℕ) (image : List ℕ)
+    → with_failure (happens sim_faults (sim_state chip) (Complete (ProgramEvent page image))) (Torn page)
+    ≡ happens one_failure (with_failure (sim_state chip) (Ahead 0)) (Complete (ProgramEvent page image))
+first-fails chip page image i = record {
   geometry = chip.geometry;
-  pages = λ p. fails_if (sim_state chip).pages page p image (fits page) i;
+  pages = λ p. fails_if (sim_state chip).pages page p image i;
   fault_state = 0;
   faults = 1;
 }
 
-pub program-fails : (chip : SimChip) (failure : Failure) (page : ℕ) (image : List ℕ) → (left failure == 1) ≡ true → HasBytes (sim_state chip)
-    → with_failure (sim_state chip) (after_program failure page)
+pub program-fails : (chip : SimChip) (failure : Failure) (page : ℕ) (image : List ℕ) → (left failure == 1) ≡ true
+    → with_failure (happens sim_faults (sim_state chip) (Complete (ProgramEvent page image))) (after_program failure page)
     ≡ happens one_failure (with_failure (sim_state chip) failure) (Complete (ProgramEvent page image))
-program-fails chip failure page image next fits = rw (next-is failure next) (first-fails chip page image fits)
+program-fails chip failure page image next = rw (next-is failure next) (first-fails chip page image)
 
 -- an erase mends the torn page of its block
 erase-torn : (n : ℕ) (failure : Failure) (block p : ℕ) → is_torn (after_erase n failure block) p ≡ (if p / n == block then false else is_torn failure p)
@@ -144,3 +151,26 @@ erase-good chip failure block i =
       fault_state = erase-left n failure block i;
       faults = erase-count n failure block i;
     }
+
+-- flips of bits
+flip_if : (failure : Failure) (pages : ℕ → PageState) (at bit p : ℕ)
+    → torn_page (with_page pages at (flipped (pages at) bit) p) (is_torn failure p)
+    ≡ with_page (λ p. torn_page (pages p) (is_torn failure p)) at (flipped (torn_page (pages at) (is_torn failure at)) bit) p
+flip_if failure pages at bit p =
+    elim (eqb_tells p at) [
+      | inl same ↦ rw (same.0, same.1) refl
+      | inr other ↦ rw other.0 refl
+    ]
+
+flip-good : (s : ChipState SimFaults) (failure : Failure) (page bit : ℕ)
+    → with_failure (happens sim_faults s (Flipped page bit)) failure ≡ happens one_failure (with_failure s failure) (Flipped page bit)
+flip-good s failure page bit i =
+    record { geometry = s.geometry; pages = λ p. flip_if failure s.pages page bit p i; fault_state = left failure; faults = count failure }
+
+pub flips-good : (s : ChipState SimFaults) (failure : Failure) (page : ℕ) (bits : List ℕ)
+    → with_failure (after_trace sim_faults s (flip_events page bits)) failure
+    ≡ after_trace one_failure (with_failure s failure) (flip_events page bits)
+flips-good s failure page [] = refl
+flips-good s failure page (bit ∷ bits) =
+    flips-good (happens sim_faults s (Flipped page bit)) failure page bits
+    ∙ ap (λ s. after_trace one_failure s (flip_events page bits)) (flip-good s failure page bit)

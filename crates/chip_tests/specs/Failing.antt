@@ -1,18 +1,18 @@
 -- The state of a chip of which one program fails.
-use Rattle.std.specs.Prelude.{ℕ, suc, false, []}
+use Rattle.std.specs.Prelude.{ℕ, suc}
 use Rattle.nand_model.specs.Chip.{ChipState, SimFaults, blank_page}
 use Rattle.nand_model.specs.declared.geometry.Geometry.{Geometry}
-use Rattle.chip_sim.specs.State.{sim_room, sim_state}
+use Rattle.chip_sim.specs.State.{sim_bit_room, sim_room, sim_state}
 use Rattle.chip_tests.specs.Failure.{count, is_torn, left}
 use Rattle.chip_tests.specs.declared.failing_flash.Failure.{Failure}
 use Rattle.chip_tests.specs.declared.failing_flash.FailingFlash.{FailingFlash}
 
--- the cells of a chip that never fails, with a failure
+-- a chip that never fails, with a failure
 abbrev pub with_failure : ChipState SimFaults → Failure → ChipState ℕ
 with_failure s failure =
     record {
       geometry = s.geometry;
-      pages = λ p. record { cells = (s.pages p).cells; flips = []; torn = is_torn failure p; flipped_since = false };
+      pages = λ p. record (s.pages p) { torn = is_torn failure p };
       fault_state = left failure;
       faults = count failure;
     }
@@ -21,9 +21,12 @@ with_failure s failure =
 abbrev pub failing_state : FailingFlash → ChipState ℕ
 failing_state flash = with_failure (sim_state flash.chip) flash.failure
 
--- the room of the chip
+-- its room, and its room for bits
 abbrev pub failing_room : FailingFlash → ℕ
 failing_room flash = sim_room flash.chip
+
+abbrev pub failing_bit_room : FailingFlash → ℕ
+failing_bit_room flash = sim_bit_room flash.chip
 
 -- a chip that is erased, with so many good programs before the one that fails
 abbrev pub new_failing : Geometry → ℕ → ChipState ℕ

@@ -1,12 +1,12 @@
--- A chip of which one program fails with no bit done, and no other call.
-use Rattle.std.specs.Prelude.{ℕ, zero, suc, ◌-◌, ◌/◌, ◌<◌, ◌==◌, Bool, false, if◌then◌else◌, slice_index, Option, Some, None}
-use Rattle.nand_model.specs.Chip.{Call, ProgramCall, EraseCall, ChipState, DoneBits, FaultModel}
+-- A chip of which one program fails with all of its bits done, and no other call.
+use Rattle.std.specs.Prelude.{ℕ, zero, suc, ◌-◌, ◌/◌, ◌==◌, Bool, false, if◌then◌else◌, Option, Some, None}
+use Rattle.nand_model.specs.Chip.{Call, ProgramCall, EraseCall, DoneBits, FaultModel}
 use Rattle.chip_tests.specs.declared.failing_flash.Failure.{Failure}
 use Rattle.chip_tests.specs.declared.failing_flash.Failure.TheVariants.{Ahead, Torn, Past}
 
 -- a fault state is the number of programs up to the one that fails, itself among them, or 0 once it lies behind
 abbrev pub fails_at : ℕ → Call → Option DoneBits
-fails_at left (ProgramCall page) = if left == 1 then Some (λ q i. 0) else None
+fails_at left (ProgramCall page) = if left == 1 then Some (λ q i. 0xff) else None
 fails_at left (EraseCall block) = None
 
 abbrev pub left_after : ℕ → Call → ℕ
@@ -46,7 +46,3 @@ abbrev pub after_erase : ℕ → Failure → ℕ → Failure
 after_erase pages_per_block (Ahead good) block = Ahead good
 after_erase pages_per_block (Torn torn) block = if torn / pages_per_block == block then Past else Torn torn
 after_erase pages_per_block Past block = Past
-
--- the cells of each page are bytes
-abbrev pub HasBytes : {W : Type 0} → ChipState W → Type 0
-HasBytes s = (page i : ℕ) → slice_index (s.pages page).cells i < 256

@@ -1,11 +1,15 @@
-// A device and operations for tests: each operation is tested for what a chip needs of it, and its reply is named.
-ghost use Rattle.std.specs.Prelude.{◌≡◌, true, IfOk, IsTrue};
+// A device and operations for tests: each operation is tested for what a chip needs of it, and its reply is told in short.
+ghost use Rattle.std.specs.Prelude.{◌≡◌, ◌<◌, ◌*◌, true, length, All, IfOk, IsTrue};
+ghost use Rattle.nand_model.specs.Sizes.{page_count, raw_len};
 ghost use Rattle.chip_model.specs.Stage.{is_resting};
+ghost use Rattle.chip_model.specs.Taken.{FillsPlaces};
 ghost use Rattle.chip_core.specs.Begin.{CanBegin, HasDevice};
-ghost use Rattle.chip_core.specs.Chip.{chip_stage};
+ghost use Rattle.chip_core.specs.Chip.{chip_stage, chip_state};
+ghost use Rattle.chip_core.specs.Sums.{AreSmall};
 
-use chip_core::{Chip, Fairness, Flash, Op, Parts, Reply, perform};
-use nand_model::{Bytes, Geometry, Part};
+use chip_core::{Chip, Fairness, Flash, Op, PageCode, Parts, Reply, Stats, perform};
+use nand_iface::PageKind;
+use nand_model::{BlockList, Bytes, Geometry, Part};
 use std::alloc::{AllocError, Global};
 use std::test::Fail;
 
@@ -17,27 +21,62 @@ pub fn one_device(alloc: Global) -> Result<Parts, Fail> {
     Ok(parts)
 }
 
-/// An operation on a page or a block of a device.
+/// An operation on the one device, whose pages have 2,048 bytes, a spare of 64 and 34 free bytes; or flips.
 #[derive(Clone, Copy)]
 pub enum Ask {
-    IsBad(u32, u32),
-    Erase(u32, u32),
-    Read(u32, u32),
+    IsBad(u32),
+    Erase(u32),
+    Read(u32),
+    /// A page whose body and free bytes are all this byte.
+    Write(u32, u8),
+    RawRead(u32),
     /// A page of 2,112 bytes that are all the last one but for the first.
-    Write(u32, u32, u8, u8),
+    RawWrite(u32, u8, u8),
+    Stats,
+    /// Bits of a page of the chip.
+    Flip(u32, &'static [u32]),
+}
+
+/// A reply in short.
+#[derive(Clone, Copy, Debug, PartialEq, Eq)]
+pub enum Told {
+    Done,
+    OutOfRange,
+    BadBlock,
+    MarkerByte,
+    ProgramFailed,
+    State(u32),
+    /// The kind of a page, its corrected bits, the most of a step, its failed steps, and its first byte.
+    Page(PageKind, u32, u32, u32, u8),
+    /// The corrected bits, the failed steps, and the bad blocks of the device.
+    Counts(u64, u64, u32),
+    Another,
 }
 
 // The operation that is asked for.
 fn op_of(alloc: Global, ask: Ask) -> Result<Op, AllocError> {
+    let dev = 0;
     match ask {
-        Ask::IsBad(dev, block) => Ok(Op::IsBad { dev, block }),
-        Ask::Erase(dev, block) => Ok(Op::Erase { dev, block }),
-        Ask::Read(dev, page) => Ok(Op::RawRead { dev, page }),
-        Ask::Write(dev, page, first, rest) => {
+        Ask::IsBad(block) => Ok(Op::IsBad { dev, block }),
+        Ask::Erase(block) => Ok(Op::Erase { dev, block }),
+        Ask::Read(page) => Ok(Op::Read { dev, page }),
+        Ask::Write(page, byte) => {
+            let body = Bytes::filled(alloc, byte, 2048)?;
+            let free = Bytes::filled(alloc, byte, 34)?;
+            Ok(Op::Write {
+                dev,
+                page,
+                body,
+                free,
+            })
+        }
+        Ask::RawRead(page) => Ok(Op::RawRead { dev, page }),
+        Ask::RawWrite(page, first, rest) => {
             let mut image = Bytes::filled(alloc, rest, 2112)?;
             image.as_mut_slice()[0] = first;
             Ok(Op::RawWrite { dev, page, image })
         }
+        Ask::Stats | Ask::Flip(..) => Ok(Op::Stats { dev }),
     }
 }
 
@@ -51,56 +90,88 @@ fn has_device(g: &Geometry, parts: &Parts, dev: u32) -> bool
     }
 }
 
-// Whether a chip of these sizes takes the operation.
-fn can_begin(g: &Geometry, parts: &Parts, op: &Op) -> bool
-    ensures { IsTrue result → CanBegin g.now parts.now op.now }
+// Whether statistics have room for the counts of one more page.
+fn are_small(stats: Stats) -> bool
+    ensures { IsTrue result → AreSmall stats }
 {
+    stats.corrected < 1000 && stats.failed < 1000
+}
+
+// Whether a body and free bytes fill their places in a page.
+fn fills_places(g: &Geometry, body: &[u8], free: &[u8]) -> bool
+    ensures { IsTrue result → FillsPlaces g.now body.now free.now }
+{
+    body.len() == g.page as usize && 2 + free.len() == g.parity_start() as usize
+}
+
+// Whether a chip takes the operation.
+fn can_begin<F: Flash, C: PageCode>(chip: &Chip<F, C>, parts: &Parts, op: &Op) -> bool
+    ensures { IsTrue result → CanBegin (chip_state chip.now).geometry parts.now (chip_stage chip.now) op.now }
+{
+    let g = chip.geometry();
     match op {
-        Op::RawRead { dev, .. } => has_device(g, parts, *dev),
+        Op::Read { dev, .. } => has_device(&g, parts, *dev) && are_small(chip.stats(*dev)),
+        Op::Write {
+            dev,
+            body,
+            free,
+            ..
+        } => has_device(&g, parts, *dev) && fills_places(&g, body.as_slice(), free.as_slice()),
+        Op::RawRead { dev, .. } => has_device(&g, parts, *dev),
         Op::RawWrite { dev, image, .. } => {
-            has_device(g, parts, *dev) && image.as_slice().len() == g.raw_len() as usize
+            has_device(&g, parts, *dev) && image.as_slice().len() == g.raw_len() as usize
         }
-        Op::Erase { dev, .. } => has_device(g, parts, *dev),
-        Op::IsBad { dev, .. } => has_device(g, parts, *dev),
-        _ => false,
+        Op::Erase { dev, .. } => has_device(&g, parts, *dev),
+        Op::IsBad { dev, .. } => has_device(&g, parts, *dev),
+        Op::Stats { dev } => has_device(&g, parts, *dev),
+        Op::Mark { .. } => false,
     }
 }
 
-// The operation that is asked for, which a chip of these sizes takes.
-fn op_for(alloc: Global, g: &Geometry, parts: &Parts, ask: Ask) -> Result<Op, Fail>
-    ensures { IfOk result (λ op. CanBegin g.now parts.now op) }
+// The operation that is asked for, which the chip takes.
+fn op_for<F: Flash, C: PageCode>(
+    alloc: Global,
+    chip: &Chip<F, C>,
+    parts: &Parts,
+    ask: Ask,
+) -> Result<Op, Fail>
+    ensures { IfOk result (λ op. CanBegin (chip_state chip.now).geometry parts.now (chip_stage chip.now) op) }
 {
     let op = op_of(alloc, ask)?;
-    if !can_begin(g, parts, &op) {
+    if !can_begin(chip, parts, &op) {
         return Err("the chip does not take the operation".into());
     }
     Ok(op)
 }
 
-/// Performs an operation, and gives its reply.
-pub fn reply_to<F: Flash>(
-    chip: &mut Chip<F>,
+/// Performs an operation, and tells its reply in short; or flips bits.
+pub fn reply_to<F: Flash, C: PageCode>(
+    chip: &mut Chip<F, C>,
     alloc: Global,
     parts: &Parts,
     ask: Ask,
-) -> Result<Reply, Fail>
+) -> Result<Told, Fail>
     requires { is_resting (chip_stage chip.old) ≡ true }
-    ensures { chip_stage chip.new ≡ chip_stage chip.old }
+    ensures { is_resting (chip_stage chip.new) ≡ true }
 {
-    let op = op_for(alloc, &chip.geometry(), parts, ask)?;
-    Ok(perform(chip, parts, &op)?)
+    if let Ask::Flip(page, bits) = ask {
+        flip_all(chip, alloc, page, bits)?;
+        return Ok(Told::Done);
+    }
+    let op = op_for(alloc, chip, parts, ask)?;
+    Ok(in_short(&perform(chip, parts, &op)?))
 }
 
 /// Does the first event of an operation, and gives what is told of its failure.
-pub fn told_of<F: Flash>(
-    chip: &mut Chip<F>,
+pub fn told_of_failure<F: Flash, C: PageCode>(
+    chip: &mut Chip<F, C>,
     alloc: Global,
     parts: &Parts,
     ask: Ask,
 ) -> Result<Option<Fairness>, Fail>
     requires { is_resting (chip_stage chip.old) ≡ true }
 {
-    let op = op_for(alloc, &chip.geometry(), parts, ask)?;
+    let op = op_for(alloc, chip, parts, ask)?;
     chip.begin(parts, &op)?;
     if chip.next_event().is_none() {
         return Err("the operation has no event".into());
@@ -108,26 +179,67 @@ pub fn told_of<F: Flash>(
     Ok(chip.advance())
 }
 
-/// The name of a reply.
-pub fn named(reply: &Reply) -> &'static str {
-    match reply {
-        Reply::Done => "done",
-        Reply::OutOfRange => "out of range",
-        Reply::BadBlock => "bad block",
-        Reply::MarkerByte => "marker byte",
-        Reply::ProgramFailed => "program failed",
-        Reply::EraseFailed => "erase failed",
-        Reply::State(0) => "good",
-        Reply::State(3) => "factory bad",
-        Reply::Page { .. } => "page",
-        _ => "another",
+/// Flips bits of a page of a chip of 512 pages of 2,112 bytes.
+pub fn flip_all<F: Flash, C: PageCode>(
+    chip: &mut Chip<F, C>,
+    alloc: Global,
+    page: u32,
+    bits: &[u32],
+) -> Result<(), Fail>
+    ensures { chip_stage chip.new ≡ chip_stage chip.old }
+{
+    for bit in bits {
+        flip(chip, alloc, page, *bit)?;
     }
+    Ok(())
 }
 
-/// The first byte of the page that a reply has.
-pub fn first_byte(reply: &Reply) -> Option<u8> {
+// Flips a bit.
+fn flip<F: Flash, C: PageCode>(
+    chip: &mut Chip<F, C>,
+    alloc: Global,
+    page: u32,
+    bit: u32,
+) -> Result<(), Fail>
+    ensures { chip_stage chip.new ≡ chip_stage chip.old }
+{
+    if !has_bit(&chip.geometry(), page, bit) {
+        return Err("the chip has no such bit".into());
+    }
+    let mut bits = BlockList::new(alloc);
+    bits.push(bit)?;
+    chip.reserve(1, 1)?;
+    chip.flip(page, &bits);
+    Ok(())
+}
+
+// Whether a chip of 512 pages of 2,112 bytes has this bit.
+fn has_bit(g: &Geometry, page: u32, bit: u32) -> bool
+    ensures page { IsTrue result → page < page_count g.now }
+    ensures bit { IsTrue result → bit < 8 * raw_len g.now }
+{
+    let sizes = (g.blocks, g.pages_per_block, g.page, g.spare);
+    sizes == (8, 64, 2048, 64) && page < 512 && bit < 16896
+}
+
+// A reply in short.
+fn in_short(reply: &Reply) -> Told {
     match reply {
-        Reply::Page { image, .. } => image.as_slice().first().copied(),
-        _ => None,
+        Reply::Done => Told::Done,
+        Reply::OutOfRange => Told::OutOfRange,
+        Reply::BadBlock => Told::BadBlock,
+        Reply::MarkerByte => Told::MarkerByte,
+        Reply::ProgramFailed => Told::ProgramFailed,
+        Reply::State(state) => Told::State(*state),
+        Reply::Page { kind, read, image } => {
+            let first = image.as_slice().first().copied().unwrap_or(0);
+            Told::Page(*kind, read.corrected, read.greatest, read.failed, first)
+        }
+        Reply::Counts {
+            corrected,
+            failed,
+            bad,
+        } => Told::Counts(*corrected, *failed, *bad),
+        _ => Told::Another,
     }
 }

@@ -1,7 +1,5 @@
 // A simulated chip of which one program fails.
 ghost use Rattle.std.specs.Prelude.{◌≡◌, ◌<◌, ◌==◌, IfOk};
-ghost use Rattle.chip_sim.specs.State.{sim_state};
-ghost use Rattle.chip_tests.specs.Failure.{HasBytes};
 
 use chip_sim::SimChip;
 use nand_iface::{EraseFailed, Flash, ProgramFailed};
@@ -53,12 +51,11 @@ impl Failure {
     }
 }
 
-/// A simulated chip without bad blocks on which one program fails, at which no cell changes, and every other call is good.
+/// A simulated chip without bad blocks on which one program fails, with all of its bits done, and every other call is good.
 #[derive(Drop)]
 pub struct FailingFlash {
     chip: SimChip,
     failure: Failure,
-    ghost bytes: { HasBytes (sim_state chip) },
 }
 
 impl FailingFlash {
@@ -88,9 +85,8 @@ impl FailingFlash {
 impl Flash for FailingFlash {
     ghost use Rattle.std.specs.Prelude.{ℕ};
     ghost use Rattle.std.specs.Coded.{coded_ℕ};
-    ghost use Rattle.chip_sim.specs.State.{sim_room};
     ghost use Rattle.chip_tests.specs.Failure.{one_failure};
-    ghost use Rattle.chip_tests.specs.Failing.{failing_state, failing_room};
+    ghost use Rattle.chip_tests.specs.Failing.{failing_bit_room, failing_room, failing_state};
 
     ghost FaultState = { ℕ };
 
@@ -102,12 +98,14 @@ impl Flash for FailingFlash {
 
     ghost room = { failing_room };
 
+    ghost bit_room = { failing_bit_room };
+
     fn geometry(&self) -> Geometry {
         self.chip.geometry()
     }
 
-    fn reserve(&mut self, pages: u32) -> Result<(), AllocError> {
-        self.chip.reserve(pages)
+    fn reserve(&mut self, pages: u32, bits: u32) -> Result<(), AllocError> {
+        self.chip.reserve(pages, bits)
     }
 
     fn read_page(&self, page: u32, out: &mut [u8]) {
@@ -117,15 +115,29 @@ impl Flash for FailingFlash {
     fn program_page(&mut self, page: u32, image: &[u8]) -> Result<(), ProgramFailed> {
         let fails = self.failure.is_next();
         self.failure = self.failure.after_program(page);
+        let programmed = self.chip.program_page(page, image);
         if fails {
-            return Err(ProgramFailed);
+            Err(ProgramFailed)
+        } else {
+            programmed
         }
-        self.chip.program_page(page, image)
     }
 
     fn erase_block(&mut self, block: u32) -> Result<(), EraseFailed> {
         let pages_per_block = self.chip.geometry().pages_per_block;
         self.failure = self.failure.after_erase(pages_per_block, block);
         self.chip.erase_block(block)
+    }
+
+    fn flip(&mut self, page: u32, bits: &BlockList) {
+        self.chip.flip(page, bits);
+    }
+
+    fn flips(&self, page: u32, from: u32, to: u32) -> u32 {
+        self.chip.flips(page, from, to)
+    }
+
+    fn flipped_since(&self, page: u32) -> bool {
+        self.chip.flipped_since(page)
     }
 }

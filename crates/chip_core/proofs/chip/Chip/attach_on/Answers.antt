@@ -10,8 +10,13 @@ pub returns-then-scan-self-clause-stage : goal.returns-then-scan-self-clause-sta
 returns-then-scan-self-clause-stage g c =
     let known = c.args.self.now.known in
     let more : c.args.scan.next + 1 < known.geometry.blocks = rw (← c.set.ensures.geometry, ← c.read_marker-state.ensures.next) c.if-scan-self.true in
-    rw (c.set.ensures.geometry, c.set.ensures.states, c.read_marker-state.ensures.next, c.read_marker-state.ensures.state,
-    c.read_marker-state.ensures.quiet_so_far)
+    rw (
+      c.set.ensures.geometry,
+      c.set.ensures.states,
+      c.read_marker-state.ensures.next,
+      c.read_marker-state.ensures.state,
+      c.read_marker-state.ensures.quiet_so_far,
+    )
     (sym (goes_on known.geometry known.states c.args.scan.next (marker_page (g.F.Flash.state c.args.self.now.flash) c.args.scan.next)
     c.requires.fits.scan_fits.next
     known.all_there (c.args.scan.quiet_so_far && c.args.scan.quiet_now) more))

@@ -1,23 +1,13 @@
 use Rattle.std.proofs.Common.{◌≡◌, ◌∙◌, ap, arith, inl, inr}
-use Rattle.nand_model.specs.Chip.{Complete, EraseEvent, happens, sim_faults}
 use Rattle.nand_model.proofs.Bounds.{bounds}
 use Rattle.chip_sim.specs.State.{sim_state}
 use Rattle.chip_tests.specs.Failure.{after_erase}
 use Rattle.chip_tests.specs.Failing.{with_failure}
-use Rattle.chip_tests.proofs.Bytes.{erase-bytes, same-bytes}
 use Rattle.chip_tests.proofs.Steps.{erase-good}
 use Rattle.chip_tests.proofs.failing_flash.FailingFlashFlash.erase_block.Goals as goal
 
 pub after_erase-self-requires : goal.after_erase-self-requires
 after_erase-self-requires c = elim ((bounds c.geometry-pages_per_block.result).block) [ inl h ↦ omega (arith, h) | inr h ↦ omega (arith, h) ]
-
-pub invariant_of-self : goal.invariant_of-self
-invariant_of-self c =
-    let old = c.args.self.now in
-    record {
-      bytes = same-bytes (happens sim_faults (sim_state old.chip) (Complete (EraseEvent c.args.block))) (sim_state c.erase_block.new.self)
-          c.erase_block.ensures.state (erase-bytes old.chip.geometry (sim_state old.chip).pages c.args.block old.bytes);
-    }
 
 pub returns-clause-state : goal.returns-clause-state
 returns-clause-state c =

@@ -1,7 +1,7 @@
 use Rattle.std.proofs.Common.{◌≡◌, true}
 use Rattle.chip_model.specs.Stage.{is_resting}
 use Rattle.chip_core.specs.Chip.{chip_stage}
-use Rattle.chip_tests.proofs.simulated.performs_raw_operations.Given as goal
+use Rattle.chip_tests.proofs.simulated.performs_operations.Given as goal
 
 -- nothing is in flight
 abbrev pub invariant-loop-ask : goal.invariant-loop-ask
