@@ -6,22 +6,26 @@ use Rattle.ctl_core.proofs.flips.make_flips.Goals.{then-flip-event, else-flip-ev
 
 pub make_flip-requires-clause-there : goal.make_flip-requires-clause-there
 make_flip-requires-clause-there g c =
-    flip_there c.args.faults.now c.args.event c.loop-n.n (map kept_slot c.args.slots.now.items) c.loop-n.slots.items c.loop-n.invariant c.flip-flip.result.now c.flip-flip.ensures
+    flip_there c.args.faults.now c.args.event c.loop-n.n (map kept_slot c.args.slots.now.items) c.loop-n.slots.items c.loop-n.invariant c.flip-flip.result.now
+    c.flip-flip.ensures
 
 pub make_flip-requires-clause-room : goal.make_flip-requires-clause-room
 make_flip-requires-clause-room g c =
-    flip_room c.args.faults.now c.args.event c.loop-n.n (map kept_slot c.args.slots.now.items) c.loop-n.slots.items c.loop-n.invariant c.flip-flip.result.now c.flip-flip.ensures c.if-flip-event.true
+    flip_room c.args.faults.now c.args.event c.loop-n.n (map kept_slot c.args.slots.now.items) c.loop-n.slots.items c.loop-n.invariant c.flip-flip.result.now
+    c.flip-flip.ensures c.if-flip-event.true
 
 pub loop-n-preserved : goal.loop-n-preserved
 loop-n-preserved g c =
     elim c.if-flip-event.branch [
       | then-flip-event w ↦
           subst (λ s. FlipsLeft c.args.faults.now c.args.event (c.loop-n.n + 1) (map kept_slot c.args.slots.now.items) s.items) (sym w.slots-is)
-          (one_flipped c.args.faults.now c.args.event c.loop-n.n (map kept_slot c.args.slots.now.items) c.loop-n.slots.items c.loop-n.invariant c.flip-flip.result.now c.flip-flip.ensures
+          (one_flipped c.args.faults.now c.args.event c.loop-n.n (map kept_slot c.args.slots.now.items) c.loop-n.slots.items c.loop-n.invariant
+          c.flip-flip.result.now c.flip-flip.ensures
           w.if-flip-event.true w.make_flip.new.slots.items w.make_flip.ensures.chips w.make_flip.ensures.room)
       | else-flip-event w ↦
           subst (λ s. FlipsLeft c.args.faults.now c.args.event (c.loop-n.n + 1) (map kept_slot c.args.slots.now.items) s.items) (sym w.slots-is)
-          (none_flipped c.args.faults.now c.args.event c.loop-n.n (map kept_slot c.args.slots.now.items) c.loop-n.slots.items c.loop-n.invariant c.flip-flip.result.now c.flip-flip.ensures
+          (none_flipped c.args.faults.now c.args.event c.loop-n.n (map kept_slot c.args.slots.now.items) c.loop-n.slots.items c.loop-n.invariant
+          c.flip-flip.result.now c.flip-flip.ensures
           w.if-flip-event.false)
     ]
 
