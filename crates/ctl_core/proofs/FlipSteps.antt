@@ -16,7 +16,6 @@ use Rattle.ctl_core.specs.declared.bench.Slot.{Slot}
 use Rattle.ctl_core.specs.Bench.{HasRoom, kept_slot}
 use Rattle.ctl_core.specs.Flips.{CanFlip, bit_count, due_flips, kept_flip, kept_flips_before}
 use Rattle.ctl_core.specs.KeptChip.{KeptChip}
-use Rattle.ctl_core.proofs.Devices.{all_at}
 use Rattle.ctl_core.proofs.Flipped.{can_still_flip, flipped_at}
 use Rattle.ctl_core.proofs.OnCourse.{and_then_some, some_of}
 use Rattle.ctl_core.proofs.Positions.{mapped_length}
@@ -107,10 +106,6 @@ module _ {F C : Type 0} {flash : Ghosts F} where
   module _ (flips : List Flip) (event n : ℕ) (start : List (KeptChip flash.FaultState)) (slots : List (Slot F C flash))
       (left : FlipsLeft flips event n start slots)
       (flip : Flip) (at : slice_get flips n ≡ Some flip) where
-    -- the flip can be made
-    pub flip_there : CanFlip (map kept_slot slots) flip
-    flip_there = all_at (CanFlip (map kept_slot slots)) flips n flip left.there at
-
     module _ (due : flip.before ≡ event) where
       is_due_here : is_due event flip ≡ true
       is_due_here = eq-eqb flip.before event due
@@ -122,7 +117,7 @@ module _ {F C : Type 0} {flash : Ghosts F} where
           room_split (length (due_flips (drop n flips) event)) (bit_count (due_flips (drop n flips) event)) flip (due_flips (drop (n + 1) flips) event) slots
           counts.0 counts.1 left.room
 
-      -- and there is room for it
+      -- there is room for the flip
       pub flip_room : All (HasRoom 1 (length flip.bits)) slots
       flip_room = flip_rooms.1
 

@@ -20,7 +20,10 @@ pub fn attach_all<F: Flash, C: PageCode>(core: &mut Core<F, C>) -> Result<(), Al
 }
 
 /// A turn of a session, if it is one of this controller.
-pub fn take_turn<F: Flash, C: PageCode>(core: &mut Core<F, C>, session: u32) -> Result<Turn, AllocError>
+pub fn take_turn<F: Flash, C: PageCode>(
+    core: &mut Core<F, C>,
+    session: u32,
+) -> Result<Turn, AllocError>
     requires { unattached (course_of F.fault_model F.state core.old) ≡ None }
     ensures { unattached (course_of F.fault_model F.state core.new) ≡ None }
 {

@@ -91,12 +91,7 @@ fn tells(history: &History, quiet: [bool; 2], seen: [u8; 3]) -> bool {
 }
 
 // Attaches two chips of eight blocks, by events 1 to 8 and 9 to 16, and dumps the first page of chip 0 by events 17, 18 and 19. Whether that is told.
-fn shows(
-    alloc: Global,
-    flips: &[Turned],
-    quiet: [bool; 2],
-    seen: [u8; 3],
-) -> Result<bool, Fail> {
+fn shows(alloc: Global, flips: &[Turned], quiet: [bool; 2], seen: [u8; 3]) -> Result<bool, Fail> {
     let mut core = reading_core(alloc, faults_of(alloc, flips)?)?;
     attach_all(&mut core)?;
     for _ in 0..9u32 {

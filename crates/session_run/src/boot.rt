@@ -23,7 +23,10 @@ fn attach_all<F: Flash, C: PageCode>(core: &mut Core<F, C>) -> Result<(), AllocE
 }
 
 // Takes the turns of these sessions.
-fn take_turns<F: Flash, C: PageCode>(core: &mut Core<F, C>, sessions: &Schedule) -> Result<(), AllocError>
+fn take_turns<F: Flash, C: PageCode>(
+    core: &mut Core<F, C>,
+    sessions: &Schedule,
+) -> Result<(), AllocError>
     requires attached { unattached (course_of F.fault_model F.state core.old) ≡ None }
     requires own { All (HasSession core.old.boot) sessions.now }
     ensures course { OnOk result (course_of F.fault_model F.state core.new
@@ -77,7 +80,10 @@ fn take_round<F: Flash, C: PageCode>(core: &mut Core<F, C>) -> Result<(), AllocE
 /// Runs a controller's boot to its end: its chips are attached, the turns of the schedule are taken, and then those of all sessions in their order, round after round, until all is over.
 ///
 /// The controller has just been started, and the schedule names sessions of its own. It waits for nobody.
-pub fn replay<F: Flash, C: PageCode>(core: Core<F, C>, schedule: &Schedule) -> Result<Core<F, C>, AllocError>
+pub fn replay<F: Flash, C: PageCode>(
+    core: Core<F, C>,
+    schedule: &Schedule,
+) -> Result<Core<F, C>, AllocError>
     requires can { CanStart core.boot (starts_of F.state core) }
     requires attaches { core.attaches ≡ 0 }
     requires turns { core.turns ≡ [] }

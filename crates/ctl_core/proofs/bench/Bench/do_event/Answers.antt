@@ -11,21 +11,21 @@ use Rattle.ctl_core.proofs.bench.Bench.do_event.Goals as goal
 
 pub index_mut-requires : goal.index_mut-requires
 index_mut-requires g c =
-    let there = event_there c.args.faults.now (c.args.self.now.events + 1) c.args.self.now.slots.items c.make_due_flips.new.slots.items c.args.k
+    let there = event_there c.args.faults.now _ c.args.self.now.slots.items c.make_due_flips.new.slots.items c.args.k
     c.requires.event
     c.in_ok-make_due_flips.ensures.made in
     rw c.make_due_flips.new.slots.ok.0 there.5
 
 pub overflow_cast-k : goal.overflow_cast-k
 overflow_cast-k g c =
-    let there = event_there c.args.faults.now (c.args.self.now.events + 1) c.args.self.now.slots.items c.make_due_flips.new.slots.items c.args.k
+    let there = event_there c.args.faults.now _ c.args.self.now.slots.items c.make_due_flips.new.slots.items c.args.k
     c.requires.event
     c.in_ok-make_due_flips.ensures.made in
     omega (arith, there.4, c.requires.few)
 
 pub advance-requires-clause-event : goal.advance-requires-clause-event
 advance-requires-clause-event g c =
-    let there = event_there c.args.faults.now (c.args.self.now.events + 1) c.args.self.now.slots.items c.make_due_flips.new.slots.items c.args.k
+    let there = event_there c.args.faults.now _ c.args.self.now.slots.items c.make_due_flips.new.slots.items c.args.k
     c.requires.event
     c.in_ok-make_due_flips.ensures.made in
     let slot = kept_at kept_slot c.make_due_flips.new.slots.items c.args.k c.index_mut.result.now there.0 c.index_mut.ensures.value there.2 in
