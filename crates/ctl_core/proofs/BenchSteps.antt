@@ -38,25 +38,34 @@ get_last [] x = refl
 get_last (y ∷ ys) x = get_last ys x
 
 module _ {F C : Type 0} {flash : Ghosts F} (past : Past F) (bench : Bench F C flash) (session place : ℕ) (turn : IsAtTurn past session place bench)
-    (s : Session) (at : slice_get bench.sessions.items place ≡ Some s) (number : number_of s ≡ session) (k : ℕ) (slot : Slot F C flash) (slot_at : slice_get bench.slots.items k ≡ Some slot) where
-  pub stands_answer : (finished : Finished) (now_slot : Slot F C flash) (now_session : Session) (now_notes : List Note) → first_held_by session (kept_chips bench) ≡ Some k
+    (s : Session) (at : slice_get bench.sessions.items place ≡ Some s) (number : number_of s ≡ session) (k : ℕ) (slot : Slot F C flash)
+    (slot_at : slice_get bench.slots.items k ≡ Some slot) where
+  pub stands_answer : (finished : Finished) (now_slot : Slot F C flash) (now_session : Session) (now_notes : List Note)
+      → first_held_by session (kept_chips bench) ≡ Some k
       → finished_in (kept_slot slot).stage ≡ Some finished → kept_slot now_slot ≡ after_answer finished.known (kept_slot slot)
       → now_notes ≡ bench.notes.notes ++ Answered session finished.reply ∷ []
-      → ((sizes : Command → Geometry) (commands : List Command) (notes later : List Note) (run : SessionRun) (n : ℕ) (reply : Reply) → Mirrors sizes commands notes s run → IsWaiting s
+      → ((sizes : Command → Geometry) (commands : List Command) (notes later : List Note) (run : SessionRun) (n : ℕ) (reply : Reply)
+      → Mirrors sizes commands notes s run → IsWaiting s
       → slice_get later (length bench.notes.notes) ≡ Some (Answered n reply) → Mirrors sizes commands later now_session (with_reply sizes reply run))
-      → Follows past.boot (starts_of flash.state past) (next_course flash.fault_model flash.state past session) (map kept_slot (set bench.slots.items k now_slot)) bench.events now_notes (set bench.sessions.items place now_session)
+      → Follows past.boot (starts_of flash.state past) (next_course flash.fault_model flash.state past session)
+      (map kept_slot (set bench.slots.items k now_slot)) bench.events now_notes (set bench.sessions.items place now_session)
   stands_answer finished now_slot now_session now_notes held over is_slot is_notes replied_so =
-      let after = follows_answer flash.fault_model past.boot turn.on_course.conditions.uncut (starts_of flash.state past) (course_of flash.fault_model flash.state past) (kept_chips bench) bench.events bench.notes.notes bench.sessions.items
-      turn.on_course.stands turn.on_course.conditions.ascending (holds past bench turn.on_course) place k s now_session (set bench.sessions.items place now_session) (kept_slot slot) finished turn.attached at
+      let after = follows_answer flash.fault_model past.boot turn.on_course.conditions.uncut (starts_of flash.state past)
+      (course_of flash.fault_model flash.state past) (kept_chips bench) bench.events bench.notes.notes bench.sessions.items
+      turn.on_course.stands turn.on_course.conditions.ascending (holds past bench turn.on_course) place k s now_session
+      (set bench.sessions.items place now_session) (kept_slot slot) finished turn.attached at
       (ap (λ n. first_held_by n (kept_chips bench)) number ∙ held) (at_mapped kept_slot bench.slots.items k slot slot_at) over
       (set_changes bench.sessions.items place now_session (slice_get_within bench.sessions.items place s at))
-      (λ commands run m w. replied_so (sizes_in flash.state past) commands bench.notes.notes (bench.notes.notes ++ Answered (number_of s) finished.reply ∷ []) run (number_of s) finished.reply m w
+      (λ commands run m w. replied_so (sizes_in flash.state past) commands bench.notes.notes (bench.notes.notes ++ Answered (number_of s) finished.reply ∷ [])
+      run (number_of s) finished.reply m w
       (get_last bench.notes.notes (Answered (number_of s) finished.reply))) in
       follows_as past.boot (starts_of flash.state past) (next_course flash.fault_model flash.state past session)
       (change_at (kept_chips bench) k (after_answer finished.known)) (map kept_slot (set bench.slots.items k now_slot)) bench.events bench.events
-      (bench.notes.notes ++ Answered session finished.reply ∷ []) now_notes (set bench.sessions.items place now_session) (set bench.sessions.items place now_session)
+      (bench.notes.notes ++ Answered session finished.reply ∷ []) now_notes (set bench.sessions.items place now_session)
+      (set bench.sessions.items place now_session)
       (mapped_set kept_slot (after_answer finished.known) bench.slots.items k slot now_slot slot_at is_slot) refl is_notes refl
-      (subst (λ n. Follows past.boot (starts_of flash.state past) (next_course flash.fault_model flash.state past n) (change_at (kept_chips bench) k (after_answer finished.known)) bench.events
+      (subst (λ n. Follows past.boot (starts_of flash.state past) (next_course flash.fault_model flash.state past n)
+      (change_at (kept_chips bench) k (after_answer finished.known)) bench.events
       (bench.notes.notes ++ Answered n finished.reply ∷ []) (set bench.sessions.items place now_session)) number after)
 
   module _ (command : Command) (first : FirstLeft past bench session place turn s at number command) (same_chip : first.is_ready.part.chip ≡ k) where
@@ -76,7 +85,8 @@ module _ {F C : Type 0} {flash : Ghosts F} (past : Past F) (bench : Bench F C fl
 
     -- the operation that the session gives is the next one
     pub op_here : (op : Op) (commands : List Command) → commands_at past.boot place ≡ Some commands
-        → ((sizes : Command → Geometry) (run : SessionRun) → Mirrors sizes commands bench.notes.notes s run → First (λ c. sizes c ≡ (kept_slot slot).state.geometry) run.commands → next_op_of sizes run.commands run.replies ≡ Some op)
+        → ((sizes : Command → Geometry) (run : SessionRun) → Mirrors sizes commands bench.notes.notes s run
+        → First (λ c. sizes c ≡ (kept_slot slot).state.geometry) run.commands → next_op_of sizes run.commands run.replies ≡ Some op)
         → first.op ≡ op
     op_here op commands given gives =
         let p = own_place past bench session place turn s at number in
@@ -91,14 +101,16 @@ module _ {F C : Type 0} {flash : Ghosts F} (past : Past F) (bench : Bench F C fl
     can_run_here = subst (λ g. CanRun g command) sizes_here first.is_ready.can
 
     -- what the session's next command is run with
-    pub first_can_run : (commands : List Command) → commands_at past.boot place ≡ Some commands → First (CanRun (kept_slot slot).state.geometry) (commands_by commands (standing bench.notes.notes s))
+    pub first_can_run : (commands : List Command) → commands_at past.boot place ≡ Some commands
+        → First (CanRun (kept_slot slot).state.geometry) (commands_by commands (standing bench.notes.notes s))
     first_can_run commands given =
         subst (First (CanRun (kept_slot slot).state.geometry)) (run_left past bench session place turn s at number commands given)
         (subst (First (CanRun (kept_slot slot).state.geometry)) (sym first.left) can_run_here)
 
     pub can_begin_here : CanBegin (kept_slot slot).state.geometry past.boot.partitions (kept_slot slot).stage first.op
     can_begin_here =
-        let is_part : part_of past.boot.partitions (device_of first.op) ≡ Some first.is_ready.part = ap (part_of past.boot.partitions) first.device ∙ first.is_ready.part_is in
+        let is_part : part_of past.boot.partitions (device_of first.op) ≡ Some first.is_ready.part = ap (part_of past.boot.partitions) first.device
+        ∙ first.is_ready.part_is in
         let same_blocks = sym first.is_ready.sizes_are ∙ sizes_here in
         record {
           device = record {
@@ -112,8 +124,10 @@ module _ {F C : Type 0} {flash : Ghosts F} (past : Past F) (bench : Bench F C fl
 
     -- a mirror of the session's own commands
     resumed_so : (now_session : Session) (commands : List Command) → commands_at past.boot place ≡ Some commands
-        → ((sizes : Command → Geometry) (run : SessionRun) → Mirrors sizes commands bench.notes.notes s run → First (λ c. sizes c ≡ (kept_slot slot).state.geometry) run.commands → Mirrors sizes commands bench.notes.notes now_session run)
-        → (own : ℕ × List Command) (run : SessionRun) → slice_get past.boot.sessions place ≡ Some own → slice_get (course_of flash.fault_model flash.state past).sessions place ≡ Some run
+        → ((sizes : Command → Geometry) (run : SessionRun) → Mirrors sizes commands bench.notes.notes s run
+        → First (λ c. sizes c ≡ (kept_slot slot).state.geometry) run.commands → Mirrors sizes commands bench.notes.notes now_session run)
+        → (own : ℕ × List Command) (run : SessionRun) → slice_get past.boot.sessions place ≡ Some own
+        → slice_get (course_of flash.fault_model flash.state past).sessions place ≡ Some run
         → Mirrors (sizes_in flash.state past) own.1 bench.notes.notes s run → Mirrors (sizes_in flash.state past) own.1 bench.notes.notes now_session run
     resumed_so now_session commands given resumed own run own_at run_at mirrors =
         let o : commands_at past.boot place ≡ Some own.1 = ap (option_map (λ (x : ℕ × List Command). x.1)) own_at in
@@ -125,31 +139,45 @@ module _ {F C : Type 0} {flash : Ghosts F} (past : Past F) (bench : Bench F C fl
         (subst (λ (r : SessionRun). First (λ c. sizes_in flash.state past c ≡ (kept_slot slot).state.geometry) r.commands) run_same first_sizes))
 
     -- the session stands where it stood, ready to begin
-    pub stands_resumed : (now_session : Session) (commands : List Command) → commands_at past.boot place ≡ Some commands → first_held_by session (kept_chips bench) ≡ None
-        → ((sizes : Command → Geometry) (run : SessionRun) → Mirrors sizes commands bench.notes.notes s run → First (λ c. sizes c ≡ (kept_slot slot).state.geometry) run.commands → Mirrors sizes commands bench.notes.notes now_session run)
-        → Follows past.boot (starts_of flash.state past) (course_of flash.fault_model flash.state past) (kept_chips bench) bench.events bench.notes.notes (set bench.sessions.items place now_session)
+    pub stands_resumed : (now_session : Session) (commands : List Command) → commands_at past.boot place ≡ Some commands
+        → first_held_by session (kept_chips bench) ≡ None
+        → ((sizes : Command → Geometry) (run : SessionRun) → Mirrors sizes commands bench.notes.notes s run
+        → First (λ c. sizes c ≡ (kept_slot slot).state.geometry) run.commands → Mirrors sizes commands bench.notes.notes now_session run)
+        → Follows past.boot (starts_of flash.state past) (course_of flash.fault_model flash.state past) (kept_chips bench) bench.events bench.notes.notes
+        (set bench.sessions.items place now_session)
     stands_resumed now_session commands given free resumed =
-        follows_resumed flash.fault_model past.boot turn.on_course.conditions.uncut (starts_of flash.state past) (course_of flash.fault_model flash.state past) (kept_chips bench) bench.events bench.notes.notes bench.sessions.items
-        turn.on_course.stands turn.on_course.conditions.ascending (holds past bench turn.on_course) place s now_session (set bench.sessions.items place now_session) at
+        follows_resumed flash.fault_model past.boot turn.on_course.conditions.uncut (starts_of flash.state past)
+        (course_of flash.fault_model flash.state past) (kept_chips bench) bench.events bench.notes.notes bench.sessions.items
+        turn.on_course.stands turn.on_course.conditions.ascending (holds past bench turn.on_course) place s now_session
+        (set bench.sessions.items place now_session) at
         (ap (λ n. first_held_by n (kept_chips bench)) number ∙ free)
         (set_changes bench.sessions.items place now_session (slice_get_within bench.sessions.items place s at))
         (resumed_so now_session commands given resumed)
 
-    pub stands_begun : (now_slot : Slot F C flash) (now_session : Session) (now_notes : List Note) (commands : List Command) → commands_at past.boot place ≡ Some commands
-        → first_held_by session (kept_chips bench) ≡ None → slot.holder ≡ None → kept_slot now_slot ≡ after_begin past.boot.partitions session first.op (kept_slot slot)
+    pub stands_begun : (now_slot : Slot F C flash) (now_session : Session) (now_notes : List Note) (commands : List Command) → commands_at past.boot place
+        ≡ Some commands
+        → first_held_by session (kept_chips bench) ≡ None → slot.holder ≡ None → kept_slot now_slot
+        ≡ after_begin past.boot.partitions session first.op (kept_slot slot)
         → now_notes ≡ bench.notes.notes ++ Began session first.op ∷ [] → IsWaiting now_session
-        → ((sizes : Command → Geometry) (run : SessionRun) → Mirrors sizes commands bench.notes.notes s run → First (λ c. sizes c ≡ (kept_slot slot).state.geometry) run.commands → Mirrors sizes commands bench.notes.notes now_session run)
-        → Follows past.boot (starts_of flash.state past) (next_course flash.fault_model flash.state past session) (map kept_slot (set bench.slots.items k now_slot)) bench.events now_notes (set bench.sessions.items place now_session)
+        → ((sizes : Command → Geometry) (run : SessionRun) → Mirrors sizes commands bench.notes.notes s run
+        → First (λ c. sizes c ≡ (kept_slot slot).state.geometry) run.commands → Mirrors sizes commands bench.notes.notes now_session run)
+        → Follows past.boot (starts_of flash.state past) (next_course flash.fault_model flash.state past session)
+        (map kept_slot (set bench.slots.items k now_slot)) bench.events now_notes (set bench.sessions.items place now_session)
     stands_begun now_slot now_session now_notes commands given free no_holder is_slot is_notes waits resumed =
-        let after = follows_begin flash.fault_model past.boot turn.on_course.conditions.uncut (starts_of flash.state past) (course_of flash.fault_model flash.state past) (kept_chips bench) bench.events bench.notes.notes bench.sessions.items
-        turn.on_course.stands turn.on_course.conditions.ascending (holds past bench turn.on_course) place k s now_session (set bench.sessions.items place now_session) (kept_slot slot) first.op turn.attached at
+        let after = follows_begin flash.fault_model past.boot turn.on_course.conditions.uncut (starts_of flash.state past)
+        (course_of flash.fault_model flash.state past) (kept_chips bench) bench.events bench.notes.notes bench.sessions.items
+        turn.on_course.stands turn.on_course.conditions.ascending (holds past bench turn.on_course) place k s now_session
+        (set bench.sessions.items place now_session) (kept_slot slot) first.op turn.attached at
         (ap (λ n. first_held_by n (kept_chips bench)) number ∙ free) (at_mapped kept_slot bench.slots.items k slot slot_at) no_holder
         (set_changes bench.sessions.items place now_session (slice_get_within bench.sessions.items place s at)) waits
-        (ap (λ n. next_op (sizes_in flash.state past) (session_run (course_of flash.fault_model flash.state past) n)) number ∙ first.next) (first.chip ∙ ap Some same_chip)
+        (ap (λ n. next_op (sizes_in flash.state past) (session_run (course_of flash.fault_model flash.state past) n)) number ∙ first.next)
+        (first.chip ∙ ap Some same_chip)
         (resumed_so now_session commands given resumed) in
         follows_as past.boot (starts_of flash.state past) (next_course flash.fault_model flash.state past session)
-        (change_at (kept_chips bench) k (after_begin past.boot.partitions session first.op)) (map kept_slot (set bench.slots.items k now_slot)) bench.events bench.events
+        (change_at (kept_chips bench) k (after_begin past.boot.partitions session first.op)) (map kept_slot (set bench.slots.items k now_slot)) bench.events
+        bench.events
         (bench.notes.notes ++ Began session first.op ∷ []) now_notes (set bench.sessions.items place now_session) (set bench.sessions.items place now_session)
         (mapped_set kept_slot (after_begin past.boot.partitions session first.op) bench.slots.items k slot now_slot slot_at is_slot) refl is_notes refl
-        (subst (λ n. Follows past.boot (starts_of flash.state past) (next_course flash.fault_model flash.state past n) (change_at (kept_chips bench) k (after_begin past.boot.partitions n first.op)) bench.events
+        (subst (λ n. Follows past.boot (starts_of flash.state past) (next_course flash.fault_model flash.state past n)
+        (change_at (kept_chips bench) k (after_begin past.boot.partitions n first.op)) bench.events
         (bench.notes.notes ++ Began n first.op ∷ []) (set bench.sessions.items place now_session)) number after)

@@ -22,7 +22,8 @@ after_one_more (Then event rest) (a ∷ answers) answer = after_one_more (rest a
 -- a chip at rest begins an operation
 pub begun_at_rest : {W : Type 0} (partitions : Partitions) (c : ChipRun W) (known : Known) (session : ℕ) (op : Op) (k : Option Known) (p : Option Pending)
     → k ≡ Some known → p ≡ None
-    → stage_by partitions (with_pending c session op) k (Some (record { session = session; op = op; answers = [] })) ≡ stage_begun c.chip.geometry partitions op (stage_by partitions c k p)
+    → stage_by partitions (with_pending c session op) k (Some (record { session = session; op = op; answers = [] }))
+    ≡ stage_begun c.chip.geometry partitions op (stage_by partitions c k p)
 begun_at_rest partitions c known session op None p h i = cc
 begun_at_rest partitions c known session op (Some k) None h i = refl
 begun_at_rest partitions c known session op (Some k) (Some pending) h i = cc
@@ -43,7 +44,8 @@ module _ {W : Type 0} (partitions : Partitions) where
       → (known : Known) × (pending : Pending) × (c.known ≡ Some known) × (c.pending ≡ Some pending) × (finished_by partitions c known pending ≡ Some finished)
   works c finished h = works_by c finished c.known c.pending h
 
-  next_by : (c : ChipRun W) (k : Option Known) (p : Option Pending) → next_event_by partitions c.chip c.attach_answers k p ≡ stage_event (stage_by partitions c k p)
+  next_by : (c : ChipRun W) (k : Option Known) (p : Option Pending) → next_event_by partitions c.chip c.attach_answers k p
+      ≡ stage_event (stage_by partitions c k p)
   next_by c None p = refl
   next_by c (Some k) None = refl
   next_by c (Some k) (Some pending) = refl
@@ -77,7 +79,8 @@ module _ {W : Type 0} (partitions : Partitions) where
     attach_path_after : (c : ChipRun W) (e : PageEvent)
         → after_answers (c.attach_answers ++ answer_to model c.chip e ∷ []) (attach_path (happens model c.chip (Complete e)).geometry)
         ≡ path_after (answer_to model c.chip e) (after_answers c.attach_answers (attach_path c.chip.geometry))
-    attach_path_after c e = ap (λ g. after_answers (c.attach_answers ++ answer_to model c.chip e ∷ []) (attach_path g)) (geometry_happens model c.chip (Complete e))
+    attach_path_after c e = ap (λ g. after_answers (c.attach_answers ++ answer_to model c.chip e ∷ []) (attach_path g))
+        (geometry_happens model c.chip (Complete e))
         ∙ after_one_more (attach_path c.chip.geometry) c.attach_answers (answer_to model c.chip e)
 
     -- a chip after one more event, by what is known of it and pending on it
@@ -89,10 +92,12 @@ module _ {W : Type 0} (partitions : Partitions) where
     advanced_stage c e None p =
         attach_stands (advanced_by c e None p) (after_answers (c.attach_answers ++ answer_to model c.chip e ∷ []) (attach_path c.chip.geometry))
         (ap (λ g. after_answers (c.attach_answers ++ answer_to model c.chip e ∷ []) (attach_path g)) (geometry_happens model c.chip (Complete e)))
-        ∙ ap (λ x. attach_stage x (c.quiet && is_quiet c.chip.geometry c.chip.pages)) (after_one_more (attach_path c.chip.geometry) c.attach_answers (answer_to model c.chip e))
+        ∙ ap (λ x. attach_stage x (c.quiet && is_quiet c.chip.geometry c.chip.pages)) (after_one_more (attach_path c.chip.geometry) c.attach_answers
+        (answer_to model c.chip e))
     advanced_stage c e (Some known) None = refl
     advanced_stage c e (Some known) (Some pending) =
-        ap (λ g. Works known (after_answers (pending.answers ++ answer_to model c.chip e ∷ []) (operation_path g partitions known pending.op))) (geometry_happens model c.chip (Complete e))
+        ap (λ g. Works known (after_answers (pending.answers ++ answer_to model c.chip e ∷ []) (operation_path g partitions known pending.op)))
+        (geometry_happens model c.chip (Complete e))
         ∙ ap (λ x. Works known x) (after_one_more (operation_path c.chip.geometry partitions known pending.op) pending.answers (answer_to model c.chip e))
 
     advanced_holder : (c : ChipRun W) (e : PageEvent) (k : Option Known) (p : Option Pending)
@@ -133,9 +138,11 @@ module _ {W : Type 0} (partitions : Partitions) where
         ≡ news_notes k (news_after (is_quiet c.chip.geometry c.chip.pages) (answer_to model c.chip e) (stage_by partitions c known p) None)
     news_by k c e None p =
         ap (attach_notes_of k (c.quiet && is_quiet c.chip.geometry c.chip.pages)) (attach_path_after c e)
-        ∙ note_by k (c.quiet && is_quiet c.chip.geometry c.chip.pages) (path_after (answer_to model c.chip e) (after_answers c.attach_answers (attach_path c.chip.geometry)))
+        ∙ note_by k (c.quiet && is_quiet c.chip.geometry c.chip.pages) (path_after (answer_to model c.chip e)
+        (after_answers c.attach_answers (attach_path c.chip.geometry)))
     news_by k c e (Some known) None = refl
     news_by k c e (Some known) (Some pending) = refl
 
-    pub news_is : (k : ℕ) (c : ChipRun W) (e : PageEvent) → attach_notes k c (advanced model c e) ≡ news_notes k (after_event model e (kept_as partitions c)).news
+    pub news_is : (k : ℕ) (c : ChipRun W) (e : PageEvent) → attach_notes k c (advanced model c e)
+        ≡ news_notes k (after_event model e (kept_as partitions c)).news
     news_is k c e = news_by k c e c.known c.pending

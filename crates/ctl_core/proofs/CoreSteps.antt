@@ -33,7 +33,8 @@ use Rattle.ctl_core.proofs.PastSteps.{one_more_turn, one_more_attach, one_more_b
 use Rattle.ctl_core.proofs.Limits.{attached_there, place_there}
 
 -- a search in the slots is one in what is kept of them
-pub attaching_in_slots : {F C : Type 0} {flash : Ghosts F} (bench : Bench F C flash) → position (λ slot. not (is_attached (kept_slot slot).stage)) bench.slots.items ≡ first_attaching (kept_chips bench)
+pub attaching_in_slots : {F C : Type 0} {flash : Ghosts F} (bench : Bench F C flash) → position (λ slot. not (is_attached (kept_slot slot).stage))
+    bench.slots.items ≡ first_attaching (kept_chips bench)
 attaching_in_slots bench = position_kept _ _ kept_slot bench.slots.items (λ k slot h. refl)
 
 module _ {F C : Type 0} {flash : Ghosts F} (past : Past F) (bench : Bench F C flash) (on : IsOnCourse past bench) where
@@ -44,13 +45,16 @@ module _ {F C : Type 0} {flash : Ghosts F} (past : Past F) (bench : Bench F C fl
     attached_first = on.attached_first;
     attach_events = on.attach_events;
     all_busy = on.all_busy;
-    stands = follows_as past.boot (starts_of flash.state past) (course_of flash.fault_model flash.state past) (kept_chips bench) (kept_chips bench) bench.events bench.events
+    stands = follows_as past.boot (starts_of flash.state past) (course_of flash.fault_model flash.state past) (kept_chips bench) (kept_chips bench)
+        bench.events bench.events
         bench.notes.notes notes.notes bench.sessions.items bench.sessions.items refl refl same refl on.stands;
   }
 
   -- with other lists of the same turns and notes
-  pub relisted : (turns : List ℕ) (notes : NotesAndRoom) → turns ≡ past.turns → notes.notes ≡ bench.notes.notes → IsOnCourse (record past { turns = turns }) (record bench { notes = notes })
-  relisted turns notes same_turns same_notes = subst (λ ts. IsOnCourse (record past { turns = ts }) (record bench { notes = notes })) (sym same_turns) (renoted notes same_notes)
+  pub relisted : (turns : List ℕ) (notes : NotesAndRoom) → turns ≡ past.turns → notes.notes ≡ bench.notes.notes
+      → IsOnCourse (record past { turns = turns }) (record bench { notes = notes })
+  relisted turns notes same_turns same_notes = subst (λ ts. IsOnCourse (record past { turns = ts }) (record bench { notes = notes })) (sym same_turns)
+      (renoted notes same_notes)
 
   -- at the same course with other chips, notes or sessions
   pub stayed_on : (new : Bench F C flash) → StandsAt past (course_of flash.fault_model flash.state past) new → IsOnCourse past new
@@ -67,31 +71,42 @@ module _ {F C : Type 0} {flash : Ghosts F} (past : Past F) (bench : Bench F C fl
       → (x : KeptChip flash.FaultState) × (e : PageEvent) × (slice_get (kept_chips bench) k ≡ Some x) × (stage_event x.stage ≡ Some e)
   attach_there k h =
       let x = position_is (λ (y : KeptChip flash.FaultState). not (is_attached y.stage)) (kept_chips bench) k h in
-      let c = chip_there flash.fault_model past.boot on.conditions.uncut (starts_of flash.state past) (course_of flash.fault_model flash.state past) (kept_chips bench) bench.events bench.notes.notes bench.sessions.items on.stands k x.0 x.1 in
+      let c = chip_there flash.fault_model past.boot on.conditions.uncut (starts_of flash.state past) (course_of flash.fault_model flash.state past)
+      (kept_chips bench) bench.events bench.notes.notes bench.sessions.items on.stands k x.0 x.1 in
       let first : unattached (course_of flash.fault_model flash.state past) ≡ Some k = attached_there past bench on ∙ h in
       let unknown = position_is (λ (d : ChipRun flash.FaultState). is_none d.known) (course_of flash.fault_model flash.state past).chips k first in
       let same : unknown.0 ≡ c.0 = cc (unknown.1, c.1) in
-      let step = (attach_is_step flash.fault_model past.boot (starts_of flash.state past) (sizes_in flash.state past) past.attaches past.turns).event_else k on.stands.keeps.lit first in
-      let is : stage_event x.0.stage ≡ next_chip_event past.boot.partitions c.0 = sym (next_is past.boot.partitions c.0 ∙ ap (λ (y : KeptChip flash.FaultState). stage_event y.stage) c.2) in
-      let e = by_event c.0 c.1 first (ap (λ (d : ChipRun flash.FaultState). is_none d.known) (sym same) ∙ unknown.2) step (next_chip_event past.boot.partitions c.0) refl in
+      let step = (attach_is_step flash.fault_model past.boot (starts_of flash.state past) (sizes_in flash.state past) past.attaches past.turns).event_else k
+      on.stands.keeps.lit first in
+      let is : stage_event x.0.stage ≡ next_chip_event past.boot.partitions c.0 = sym (next_is past.boot.partitions c.0
+      ∙ ap (λ (y : KeptChip flash.FaultState). stage_event y.stage) c.2) in
+      let e = by_event c.0 c.1 first (ap (λ (d : ChipRun flash.FaultState). is_none d.known) (sym same) ∙ unknown.2) step
+      (next_chip_event past.boot.partitions c.0) refl in
       (x.0, e.0, x.1, is ∙ e.1)
     where
       by_known : (c : ChipRun flash.FaultState) (known : Option Known) (pending : Option Pending) → is_none known ≡ true
-          → with_answer past.boot.partitions (sizes_in flash.state past) (course_of flash.fault_model flash.state past) k c known pending ≡ course_of flash.fault_model flash.state past
+          → with_answer past.boot.partitions (sizes_in flash.state past) (course_of flash.fault_model flash.state past) k c known pending
+          ≡ course_of flash.fault_model flash.state past
       by_known c None pending h = refl
       by_known c (Some known) pending h = cc
 
-      by_event : (c : ChipRun flash.FaultState) → slice_get (course_of flash.fault_model flash.state past).chips k ≡ Some c → unattached (course_of flash.fault_model flash.state past) ≡ Some k → is_none c.known ≡ true
-          → (attach_step flash.fault_model past.boot (sizes_in flash.state past) (course_of flash.fault_model flash.state past)).events ≡ (course_of flash.fault_model flash.state past).events + 1
+      by_event : (c : ChipRun flash.FaultState) → slice_get (course_of flash.fault_model flash.state past).chips k ≡ Some c
+          → unattached (course_of flash.fault_model flash.state past) ≡ Some k → is_none c.known ≡ true
+          → (attach_step flash.fault_model past.boot (sizes_in flash.state past) (course_of flash.fault_model flash.state past)).events
+          ≡ (course_of flash.fault_model flash.state past).events + 1
           → (o : Option PageEvent) → next_chip_event past.boot.partitions c ≡ o → (e : PageEvent) × (o ≡ Some e)
       by_event c at first unknown counts (Some e) h = (e, refl)
       by_event c at first unknown counts None h =
-          let stays : attach_step flash.fault_model past.boot (sizes_in flash.state past) (course_of flash.fault_model flash.state past) ≡ course_of flash.fault_model flash.state past =
-          ap (λ b. if b then course_of flash.fault_model flash.state past else attach_first flash.fault_model past.boot (sizes_in flash.state past) (course_of flash.fault_model flash.state past) (unattached (course_of flash.fault_model flash.state past))) on.stands.keeps.lit
+          let stays : attach_step flash.fault_model past.boot (sizes_in flash.state past) (course_of flash.fault_model flash.state past)
+          ≡ course_of flash.fault_model flash.state past =
+          ap (λ b. if b then course_of flash.fault_model flash.state past else attach_first flash.fault_model past.boot (sizes_in flash.state past)
+          (course_of flash.fault_model flash.state past) (unattached (course_of flash.fault_model flash.state past))) on.stands.keeps.lit
           ∙ ap (attach_first flash.fault_model past.boot (sizes_in flash.state past) (course_of flash.fault_model flash.state past)) first
           ∙ ap (chip_step flash.fault_model past.boot (sizes_in flash.state past) (course_of flash.fault_model flash.state past) k) at
-          ∙ ap (event_or_answer flash.fault_model past.boot (sizes_in flash.state past) (course_of flash.fault_model flash.state past) k c) h ∙ by_known c c.known c.pending unknown in
-          let same : (course_of flash.fault_model flash.state past).events ≡ (course_of flash.fault_model flash.state past).events + 1 = ap (λ (d : Course flash.FaultState). d.events) (sym stays) ∙ counts in
+          ∙ ap (event_or_answer flash.fault_model past.boot (sizes_in flash.state past) (course_of flash.fault_model flash.state past) k c) h
+          ∙ by_known c c.known c.pending unknown in
+          let same : (course_of flash.fault_model flash.state past).events ≡ (course_of flash.fault_model flash.state past).events + 1 = ap
+          (λ (d : Course flash.FaultState). d.events) (sym stays) ∙ counts in
           absurd (omega (arith, same))
 
   -- no turn was taken while a chip is not attached
@@ -100,27 +115,35 @@ module _ {F C : Type 0} {flash : Ghosts F} (past : Past F) (bench : Bench F C fl
 
   -- one more attach step
   pub next_attach : (k : ℕ) → first_attaching (kept_chips bench) ≡ Some k
-      → course_of flash.fault_model flash.state (with_attach past) ≡ attach_step flash.fault_model past.boot (sizes_in flash.state past) (course_of flash.fault_model flash.state past)
+      → course_of flash.fault_model flash.state (with_attach past) ≡ attach_step flash.fault_model past.boot (sizes_in flash.state past)
+      (course_of flash.fault_model flash.state past)
   next_attach k h =
       ap (course_after flash.fault_model past.boot (starts_of flash.state past) (past.attaches + 1)) (no_turns k h)
       ∙ one_more_attach flash.fault_model past.boot (starts_of flash.state past) past.attaches
-      ∙ ap (λ ts. attach_step flash.fault_model past.boot (sizes_in flash.state past) (course_after flash.fault_model past.boot (starts_of flash.state past) past.attaches ts)) (sym (no_turns k h))
+      ∙ ap (λ ts. attach_step flash.fault_model past.boot (sizes_in flash.state past) (course_after flash.fault_model past.boot (starts_of flash.state past)
+      past.attaches ts)) (sym (no_turns k h))
 
-  attached_on : (k : ℕ) (x y : KeptChip flash.FaultState) (e : PageEvent) (new : Bench F C flash) → first_attaching (kept_chips bench) ≡ Some k → slice_get (kept_chips bench) k ≡ Some x
+  attached_on : (k : ℕ) (x y : KeptChip flash.FaultState) (e : PageEvent) (new : Bench F C flash) → first_attaching (kept_chips bench) ≡ Some k
+      → slice_get (kept_chips bench) k ≡ Some x
       → stage_event x.stage ≡ Some e → slice_get (kept_flips_before flash.fault_model past.boot.flips (bench.events + 1) (kept_chips bench)) k ≡ Some y
       → DidEvent past.boot.flips k y e bench new → IsOnCourse (with_attach past) new
   attached_on k x y e new first at has flipped did = record {
     conditions = on.conditions;
     stands = subst (λ course. StandsAt past course new) (sym (next_attach k first))
-        (follows_as past.boot (starts_of flash.state past) (attach_step flash.fault_model past.boot (sizes_in flash.state past) (course_of flash.fault_model flash.state past))
-        (change_at (kept_flips_before flash.fault_model past.boot.flips (bench.events + 1) (kept_chips bench)) k (λ z. with_news_told (after_event flash.fault_model e z))) (kept_chips new) (bench.events + 1) new.events
-        (bench.notes.notes ++ failure_notes k (bench.events + 1) e (failure_told flash.fault_model y.state e) ++ news_notes k (after_event flash.fault_model e y).news) new.notes.notes
+        (follows_as past.boot (starts_of flash.state past) (attach_step flash.fault_model past.boot (sizes_in flash.state past)
+        (course_of flash.fault_model flash.state past))
+        (change_at (kept_flips_before flash.fault_model past.boot.flips (bench.events + 1) (kept_chips bench)) k
+        (λ z. with_news_told (after_event flash.fault_model e z))) (kept_chips new) (bench.events + 1) new.events
+        (bench.notes.notes ++ failure_notes k (bench.events + 1) e (failure_told flash.fault_model y.state e) ++ news_notes k
+        (after_event flash.fault_model e y).news) new.notes.notes
         bench.sessions.items new.sessions.items did.chips did.events did.notes did.sessions
-        (follows_attach flash.fault_model past.boot on.conditions.uncut (starts_of flash.state past) (course_of flash.fault_model flash.state past) (kept_chips bench) bench.events bench.notes.notes bench.sessions.items
+        (follows_attach flash.fault_model past.boot on.conditions.uncut (starts_of flash.state past) (course_of flash.fault_model flash.state past)
+        (kept_chips bench) bench.events bench.notes.notes bench.sessions.items
         on.stands k x y e first at has flipped));
     attached_first = λ j h. no_turns k first;
     attach_events = counted;
-    all_busy = subst (λ ts. busy_turns flash.fault_model past.boot (starts_of flash.state past) ts (course_after flash.fault_model past.boot (starts_of flash.state past) (past.attaches + 1) []) ≡ ts) (sym (no_turns k first)) refl;
+    all_busy = subst (λ ts. busy_turns flash.fault_model past.boot (starts_of flash.state past) ts
+        (course_after flash.fault_model past.boot (starts_of flash.state past) (past.attaches + 1) []) ≡ ts) (sym (no_turns k first)) refl;
   }
     where
       here : course_of flash.fault_model flash.state past ≡ course_after flash.fault_model past.boot (starts_of flash.state past) past.attaches []
@@ -134,13 +157,15 @@ module _ {F C : Type 0} {flash : Ghosts F} (past : Past F) (bench : Bench F C fl
 
   -- the flips that are due are made, and the first chip that is not attached does its event
   pub attached_now : (k : ℕ) (new : Bench F C flash) → first_attaching (kept_chips bench) ≡ Some k → (flips : List Flip) → flips ≡ past.boot.flips
-      → ((y : KeptChip flash.FaultState) (e : PageEvent) → slice_get (kept_flips_before flash.fault_model flips (bench.events + 1) (kept_chips bench)) k ≡ Some y → stage_event y.stage ≡ Some e
+      → ((y : KeptChip flash.FaultState) (e : PageEvent) → slice_get (kept_flips_before flash.fault_model flips (bench.events + 1) (kept_chips bench)) k
+      ≡ Some y → stage_event y.stage ≡ Some e
       → DidEvent flips k y e bench new)
       → IsOnCourse (with_attach past) new
   attached_now k new first flips same did =
       let there = attach_there k first in
       let flipped = flipped_at flash.fault_model past.boot.flips (bench.events + 1) (kept_chips bench) k there.0 there.2 in
-      let now = subst (λ fs. (y : KeptChip flash.FaultState) (e : PageEvent) → slice_get (kept_flips_before flash.fault_model fs (bench.events + 1) (kept_chips bench)) k ≡ Some y
+      let now = subst (λ fs. (y : KeptChip flash.FaultState) (e : PageEvent) → slice_get
+      (kept_flips_before flash.fault_model fs (bench.events + 1) (kept_chips bench)) k ≡ Some y
       → stage_event y.stage ≡ Some e → DidEvent fs k y e bench new) same did in
       attached_on k there.0 flipped.0 there.1 new first there.2 there.3 flipped.1 (now flipped.0 there.1 flipped.1 (ap stage_event flipped.2.stage ∙ there.3))
 
@@ -148,8 +173,10 @@ module _ {F C : Type 0} {flash : Ghosts F} (past : Past F) (bench : Bench F C fl
   pub next_turn : (session : ℕ) → course_of flash.fault_model flash.state (with_turn past session) ≡ next_course flash.fault_model flash.state past session
   next_turn session = one_more_turn flash.fault_model past.boot (starts_of flash.state past) past.attaches past.turns session
 
-  pub next_attached : (session : ℕ) → unattached (course_of flash.fault_model flash.state past) ≡ None → unattached (course_of flash.fault_model flash.state (with_turn past session)) ≡ None
-  next_attached session h = ap unattached (next_turn session) ∙ stays_attached flash.fault_model past.boot on.conditions.uncut (sizes_in flash.state past) (course_of flash.fault_model flash.state past) session h
+  pub next_attached : (session : ℕ) → unattached (course_of flash.fault_model flash.state past) ≡ None
+      → unattached (course_of flash.fault_model flash.state (with_turn past session)) ≡ None
+  next_attached session h = ap unattached (next_turn session) ∙ stays_attached flash.fault_model past.boot on.conditions.uncut (sizes_in flash.state past)
+      (course_of flash.fault_model flash.state past) session h
 
   pub turned_on : (session : ℕ) (new : Bench F C flash) → unattached (course_of flash.fault_model flash.state past) ≡ None
       → is_idle past.boot.partitions (sizes_in flash.state past) (course_of flash.fault_model flash.state past) session ≡ false
@@ -159,7 +186,8 @@ module _ {F C : Type 0} {flash : Ghosts F} (past : Past F) (bench : Bench F C fl
     stands = subst (λ course. StandsAt past course new) (sym (next_turn session)) stands;
     attached_first = λ k h. let none : None ≡ Some k = sym (next_attached session attached) ∙ h in cc;
     attach_events = on.attach_events;
-    all_busy = one_more_busy flash.fault_model past.boot (starts_of flash.state past) past.turns session (course_after flash.fault_model past.boot (starts_of flash.state past) past.attaches []) busy
+    all_busy = one_more_busy flash.fault_model past.boot (starts_of flash.state past) past.turns session
+        (course_after flash.fault_model past.boot (starts_of flash.state past) past.attaches []) busy
         ∙ ap (λ zs. zs ++ session ∷ []) on.all_busy;
   }
 
@@ -168,7 +196,8 @@ module _ {F C : Type 0} {flash : Ghosts F} (past : Past F) (bench : Bench F C fl
       → is_idle past.boot.partitions (sizes_in flash.state past) (course_of flash.fault_model flash.state past) session ≡ true
       → next_course flash.fault_model flash.state past session ≡ course_of flash.fault_model flash.state past
   idle_turn session attached idle =
-      turn_is_idle flash.fault_model past.boot (sizes_in flash.state past) (course_of flash.fault_model flash.state past) session on.stands.keeps.lit attached idle
+      turn_is_idle flash.fault_model past.boot (sizes_in flash.state past) (course_of flash.fault_model flash.state past) session on.stands.keeps.lit attached
+      idle
 
   -- a session of the boot is one that is found
   pub has_found : (session : ℕ) → (o : Option ℕ) → o ≡ position (λ (s : Session). number_of s == session) bench.sessions.items
@@ -179,5 +208,6 @@ module _ {F C : Type 0} {flash : Ghosts F} (past : Past F) (bench : Bench F C fl
       there : HasSession past.boot session
       there =
           let s = position_is (λ (x : Session). number_of x == session) bench.sessions.items k (sym h) in
-          let p = placed (sizes_in flash.state past) past.boot.sessions bench.notes.notes bench.sessions.items (course_of flash.fault_model flash.state past).sessions on.stands.mirrors k s.0 s.1 in
+          let p = placed (sizes_in flash.state past) past.boot.sessions bench.notes.notes bench.sessions.items
+          (course_of flash.fault_model flash.state past).sessions on.stands.mirrors k s.0 s.1 in
           (k, ap (option_map (λ (x : ℕ × List Command). x.0)) p.begun_at ∙ ap Some (sym p.number ∙ eqb-true _ _ s.2))

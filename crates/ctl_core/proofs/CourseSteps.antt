@@ -45,8 +45,10 @@ module _ {W : Type 0} (partitions : Partitions) where
   unattached_is course = position_kept (λ (c : ChipRun W). is_none c.known) (λ (c : KeptChip W). not (is_attached c.stage)) (kept_as partitions) course.chips
       (λ k c h. attaching_by c c.known c.pending)
 
-  pub pending_is : (course : Course W) (session : ℕ) → unattached course ≡ None → pending_chip course session ≡ first_held_by session (all_kept partitions course.chips)
-  pending_is course session h = position_kept (λ (c : ChipRun W). is_pending_of session c.pending) (λ (c : KeptChip W). is_held_by session c.holder) (kept_as partitions) course.chips
+  pub pending_is : (course : Course W) (session : ℕ) → unattached course ≡ None → pending_chip course session
+      ≡ first_held_by session (all_kept partitions course.chips)
+  pending_is course session h = position_kept (λ (c : ChipRun W). is_pending_of session c.pending) (λ (c : KeptChip W). is_held_by session c.holder)
+      (kept_as partitions) course.chips
       (λ k c e. held_by_session session c.known c.pending (position_none (λ (d : ChipRun W). is_none d.known) course.chips h k c e))
 
   -- an attached chip that no session holds
@@ -60,18 +62,21 @@ module _ {W : Type 0} (partitions : Partitions) where
 abbrev idle_by : Bool → Option ℕ → Option ℕ → Bool → Bool
 idle_by dark first pending begins = dark || is_some first || (is_none pending && not begins)
 
-module _ {W : Type 0} (model : FaultModel W) (boot : Boot) (sizes : Command → Geometry) (course : Course W) (session : ℕ) (lit : course.dark ≡ false) (attached : unattached course ≡ None) where
+module _ {W : Type 0} (model : FaultModel W) (boot : Boot) (sizes : Command → Geometry) (course : Course W) (session : ℕ) (lit : course.dark ≡ false)
+    (attached : unattached course ≡ None) where
   pub busy_where_pending : (k : ℕ) → pending_chip course session ≡ Some k → is_idle boot.partitions sizes course session ≡ false
   busy_where_pending k h = λ j. idle_by (lit j) (attached j) (h j) (can_begin boot.partitions course (next_op sizes (session_run course session)))
 
-  pub busy_where_begins : can_begin boot.partitions course (next_op sizes (session_run course session)) ≡ true → is_idle boot.partitions sizes course session ≡ false
+  pub busy_where_begins : can_begin boot.partitions course (next_op sizes (session_run course session)) ≡ true → is_idle boot.partitions sizes course session
+      ≡ false
   busy_where_begins h = (λ j. idle_by (lit j) (attached j) (pending_chip course session) (h j)) ∙ never (is_none (pending_chip course session))
     where
       never : (b : Bool) → (b && false) ≡ false
       never true = refl
       never false = refl
 
-  pub idle_else : pending_chip course session ≡ None → can_begin boot.partitions course (next_op sizes (session_run course session)) ≡ false → is_idle boot.partitions sizes course session ≡ true
+  pub idle_else : pending_chip course session ≡ None → can_begin boot.partitions course (next_op sizes (session_run course session)) ≡ false
+      → is_idle boot.partitions sizes course session ≡ true
   idle_else h i = λ j. idle_by (lit j) (attached j) (h j) (i j)
 
   pub turn_goes_on : (k : ℕ) (c : ChipRun W) → pending_chip course session ≡ Some k → slice_get course.chips k ≡ Some c
@@ -81,7 +86,8 @@ module _ {W : Type 0} (model : FaultModel W) (boot : Boot) (sizes : Command → 
       ∙ ap (session_step model boot sizes course session) h ∙ ap (chip_step model boot sizes course k) at
 
   pub turn_begins : (k : ℕ) (c : ChipRun W) (op : Op) → pending_chip course session ≡ None → next_op sizes (session_run course session) ≡ Some op
-      → chip_of boot.partitions (device_of op) ≡ Some k → slice_get course.chips k ≡ Some c → c.pending ≡ None → turn_step model boot sizes course session ≡ began course session k op
+      → chip_of boot.partitions (device_of op) ≡ Some k → slice_get course.chips k ≡ Some c → c.pending ≡ None → turn_step model boot sizes course session
+      ≡ began course session k op
   turn_begins k c op h next of_chip at free =
       ap (λ b. turn_unless model boot b sizes course session) (busy_where_begins begins)
       ∙ ap (session_step model boot sizes course session) h
@@ -123,15 +129,18 @@ module _ {W : Type 0} (model : FaultModel W) (boot : Boot) (uncut : boot.cut ≡
       ∙ ap (event_or_answer model boot sizes course k c) next ∙ event_is k now e flipped
 
   -- a pending operation has an event
-  pub turn_event_is : (session k : ℕ) (c now : ChipRun W) (e : PageEvent) → course.dark ≡ false → unattached course ≡ None → pending_chip course session ≡ Some k
+  pub turn_event_is : (session k : ℕ) (c now : ChipRun W) (e : PageEvent) → course.dark ≡ false → unattached course ≡ None → pending_chip course session
+      ≡ Some k
       → slice_get course.chips k ≡ Some c → next_chip_event boot.partitions c ≡ Some e → slice_get after_flips k ≡ Some now
       → turn_step model boot sizes course session ≡ after_chip_event k now e
   turn_event_is session k c now e lit attached h at next flipped =
       turn_goes_on model boot sizes course session lit attached k c h at ∙ ap (event_or_answer model boot sizes course k c) next ∙ event_is k now e flipped
 
   -- a pending operation is answered
-  pub turn_answer_is : (session k : ℕ) (c : ChipRun W) (known : Known) (pending : Pending) (finished : Finished) → course.dark ≡ false → unattached course ≡ None → pending_chip course session ≡ Some k
-      → slice_get course.chips k ≡ Some c → next_chip_event boot.partitions c ≡ None → c.known ≡ Some known → c.pending ≡ Some pending → finished_by boot.partitions c known pending ≡ Some finished
+  pub turn_answer_is : (session k : ℕ) (c : ChipRun W) (known : Known) (pending : Pending) (finished : Finished) → course.dark ≡ false → unattached course
+      ≡ None → pending_chip course session ≡ Some k
+      → slice_get course.chips k ≡ Some c → next_chip_event boot.partitions c ≡ None → c.known ≡ Some known → c.pending ≡ Some pending
+      → finished_by boot.partitions c known pending ≡ Some finished
       → turn_step model boot sizes course session ≡ finish sizes course k c pending.session (Some finished)
   turn_answer_is session k c known pending finished lit attached h at next is_known is_pending over =
       turn_goes_on model boot sizes course session lit attached k c h at ∙ ap (event_or_answer model boot sizes course k c) next
@@ -147,13 +156,16 @@ module _ {W : Type 0} (model : FaultModel W) (boot : Boot) (uncut : boot.cut ≡
     lit = refl;
     of_chips =
         let flipped : kept_flips_before model boot.flips (events + 1) kept ≡ all_kept boot.partitions after_flips =
-        (λ j. kept_flips_before model boot.flips (keeps.of_events j + 1) (keeps.of_chips j)) ∙ sym (flips_kept model boot.partitions boot (course.events + 1) course.chips) in
+        (λ j. kept_flips_before model boot.flips (keeps.of_events j + 1) (keeps.of_chips j))
+        ∙ sym (flips_kept model boot.partitions boot (course.events + 1) course.chips) in
         ap (λ xs. change_at xs k (λ x. with_news_told (after_event model e x))) flipped
-        ∙ sym (mapped_change (kept_as boot.partitions) (λ old. advanced model c e) (λ x. with_news_told (after_event model e x)) after_flips k c at (kept_advanced boot.partitions model c e));
+        ∙ sym (mapped_change (kept_as boot.partitions) (λ old. advanced model c e) (λ x. with_news_told (after_event model e x)) after_flips k c at
+        (kept_advanced boot.partitions model c e));
     of_events = ap (λ n. n + 1) keeps.of_events;
     of_notes = let failed : failure_notes k (events + 1) e (failure_told model c.chip e) ≡ notes_of_advance model k (course.events + 1) c e =
         ap (λ n. failure_notes k (n + 1) e (failure_told model c.chip e)) keeps.of_events ∙ sym (failure_is boot.partitions model k (course.events + 1) c e) in
-        let news : news_notes k (after_event model e (kept_as boot.partitions c)).news ≡ attach_notes k c (advanced model c e) = sym (news_is boot.partitions model k c e) in
+        let news : news_notes k (after_event model e (kept_as boot.partitions c)).news ≡ attach_notes k c (advanced model c e) = sym
+        (news_is boot.partitions model k c e) in
         λ j. keeps.of_notes j ++ failed j ++ news j;
   }
 
@@ -164,7 +176,8 @@ module _ {W : Type 0} (model : FaultModel W) (boot : Boot) (uncut : boot.cut ≡
   begin_kept kept events notes session k op c known keeps at is_known free = record {
     lit = keeps.lit;
     of_chips = ap (λ xs. change_at xs k (after_begin boot.partitions session op)) keeps.of_chips
-        ∙ sym (mapped_change (kept_as boot.partitions) (λ d. with_pending d session op) (after_begin boot.partitions session op) course.chips k c at (begun boot.partitions c known session op is_known free));
+        ∙ sym (mapped_change (kept_as boot.partitions) (λ d. with_pending d session op) (after_begin boot.partitions session op) course.chips k c at
+        (begun boot.partitions c known session op is_known free));
     of_events = keeps.of_events;
     of_notes = ap (λ zs. zs ++ Began session op ∷ []) keeps.of_notes;
   }
@@ -172,11 +185,13 @@ module _ {W : Type 0} (model : FaultModel W) (boot : Boot) (uncut : boot.cut ≡
   -- what is kept after an operation is answered
   pub answer_kept : (kept : List (KeptChip W)) (events : ℕ) (notes : List Note) (session k : ℕ) (c : ChipRun W) (finished : Finished)
       → Keeps boot.partitions course kept events notes → slice_get course.chips k ≡ Some c
-      → Keeps boot.partitions (finish sizes course k c session (Some finished)) (change_at kept k (after_answer finished.known)) events (notes ++ Answered session finished.reply ∷ [])
+      → Keeps boot.partitions (finish sizes course k c session (Some finished)) (change_at kept k (after_answer finished.known)) events
+      (notes ++ Answered session finished.reply ∷ [])
   answer_kept kept events notes session k c finished keeps at = record {
     lit = keeps.lit;
     of_chips = ap (λ xs. change_at xs k (after_answer finished.known)) keeps.of_chips
-        ∙ sym (mapped_change (kept_as boot.partitions) (λ old. with_finished c finished) (after_answer finished.known) course.chips k c at (answered boot.partitions c finished));
+        ∙ sym (mapped_change (kept_as boot.partitions) (λ old. with_finished c finished) (after_answer finished.known) course.chips k c at
+        (answered boot.partitions c finished));
     of_events = keeps.of_events;
     of_notes = ap (λ zs. zs ++ Answered session finished.reply ∷ []) keeps.of_notes;
   }

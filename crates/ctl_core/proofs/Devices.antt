@@ -37,13 +37,15 @@ all_at P xs k x all h = subst P (get_or_from_slice_get xs k x x h) (all k x (sli
 pub part_at : (partitions : Partitions) (dev : ℕ) (part : Part) → part_of partitions dev ≡ Some part → (k : ℕ) × (slice_get partitions.parts k ≡ Some part)
 part_at partitions dev part h = by_test (nat_lt dev partitions.first) h
   where
-    by_test : (b : Bool) → (if b then None else slice_get partitions.parts (dev - partitions.first)) ≡ Some part → (k : ℕ) × (slice_get partitions.parts k ≡ Some part)
+    by_test : (b : Bool) → (if b then None else slice_get partitions.parts (dev - partitions.first)) ≡ Some part → (k : ℕ)
+        × (slice_get partitions.parts k ≡ Some part)
     by_test true e = cc
     by_test false e = (dev - partitions.first, e)
 
 module _ {W : Type 0} (model : FaultModel W) (boot : Boot) (starts : List (ChipState W)) (course : Course W) (holds : Holds model boot starts course) where
   -- a chip that was there at the start is in the course, with its sizes
-  pub chip_stays : (k : ℕ) (s : ChipState W) → slice_get starts k ≡ Some s → (c : ChipRun W) × (slice_get course.chips k ≡ Some c) × (c.chip.geometry ≡ s.geometry)
+  pub chip_stays : (k : ℕ) (s : ChipState W) → slice_get starts k ≡ Some s → (c : ChipRun W) × (slice_get course.chips k ≡ Some c)
+      × (c.chip.geometry ≡ s.geometry)
   chip_stays k s h = let log = log_of model boot starts course holds in by_places log.0 (slice_get starts k) (slice_get course.chips k) h refl (log.2 k)
     where
       by_places : (log : Log) (os : Option (ChipState W)) (oc : Option (ChipRun W)) → os ≡ Some s → slice_get course.chips k ≡ oc
@@ -52,8 +54,12 @@ module _ {W : Type 0} (model : FaultModel W) (boot : Boot) (starts : List (ChipS
       by_places log None oc e f a = cc
       by_places log (Some t) None e f a = absurd a
       by_places log (Some t) (Some c) e f a =
-          let same : t ≡ s = cc in
-          (c, f, ap (λ (x : ChipState W). x.geometry) a.now_is ∙ geometry_after model t (events_in (by_log model boot starts log k t)) ∙ ap (λ (x : ChipState W). x.geometry) same)
+          let same : t ≡ s = cc in (
+            c,
+            f,
+            ap (λ (x : ChipState W). x.geometry) a.now_is ∙ geometry_after model t (events_in (by_log model boot starts log k t))
+                ∙ ap (λ (x : ChipState W). x.geometry) same,
+          )
 
   -- a command with its device and its chip
   pub record Ready (command : Command) : Type 0 where
@@ -69,10 +75,13 @@ module _ {W : Type 0} (model : FaultModel W) (boot : Boot) (starts : List (ChipS
     pub can : CanRun (sizes_of boot starts command) command
 
   -- each command of a boot that can be started is such a one
-  pub ready : CanStart boot starts → (i n : ℕ) (own : ℕ × List Command) (command : Command) → slice_get boot.sessions i ≡ Some own → slice_get own.1 n ≡ Some command → Ready command
+  pub ready : CanStart boot starts → (i n : ℕ) (own : ℕ × List Command) (command : Command) → slice_get boot.sessions i ≡ Some own → slice_get own.1 n
+      ≡ Some command → Ready command
   ready start i n own command h g =
-      let device = all_at (IsOfDevice boot.partitions) own.1 n command (all_at (λ (s : ℕ × List Command). All (IsOfDevice boot.partitions) s.1) boot.sessions i own start.devices h) g in
-      let can = all_at (λ c. CanRun (sizes_of boot starts c) c) own.1 n command (all_at (λ (s : ℕ × List Command). All (λ c. CanRun (sizes_of boot starts c) c) s.1) boot.sessions i own start.runnable h) g in
+      let device = all_at (IsOfDevice boot.partitions) own.1 n command (all_at (λ (s : ℕ × List Command). All (IsOfDevice boot.partitions) s.1) boot.sessions
+      i own start.devices h) g in
+      let can = all_at (λ c. CanRun (sizes_of boot starts c) c) own.1 n command (all_at
+      (λ (s : ℕ × List Command). All (λ c. CanRun (sizes_of boot starts c) c) s.1) boot.sessions i own start.runnable h) g in
       let place = part_at boot.partitions (command_device command) device.0 device.1 in
       let chip = all_at (IsOnChip starts) boot.partitions.parts place.0 device.0 start.parts place.1 in
       let stays = chip_stays device.0.chip chip.0 chip.1 in
@@ -87,7 +96,8 @@ module _ {W : Type 0} (model : FaultModel W) (boot : Boot) (starts : List (ChipS
         same_sizes = stays.2;
         sizes_are = ap (λ o. geometry_of_chip (map (λ (c : ChipState W). c.geometry) starts) (chip_of_part o)) device.1
             ∙ get_or_from_slice_get (map (λ (c : ChipState W). c.geometry) starts) device.0.chip chip.0.geometry small_chip
-            (slice_get-map (λ (c : ChipState W). c.geometry) starts device.0.chip ∙ ap (λ (o : Option (ChipState W)). option_map (λ (c : ChipState W). c.geometry) o) chip.1);
+            (slice_get-map (λ (c : ChipState W). c.geometry) starts device.0.chip ∙ ap (λ (o : Option (ChipState W)). option_map
+            (λ (c : ChipState W). c.geometry) o) chip.1);
         can = can;
       }
 
@@ -104,12 +114,15 @@ drop_all P n xs all k d h =
     subst P (sym (get_or-drop n xs k d)) (all (n + k) d (omega (arith, length-drop n xs, h)))
 
 -- commands that are not over ask for an operation
-asks : (sizes : Command → Geometry) (command : Command) (rest : List Command) (replies : List Reply) (script : Option Script) → CanRun (sizes command) command → GoesOn sizes (command ∷ rest) replies script
+asks : (sizes : Command → Geometry) (command : Command) (rest : List Command) (replies : List Reply) (script : Option Script) → CanRun (sizes command) command
+    → GoesOn sizes (command ∷ rest) replies script
     → (op : Op) × (next_op_of sizes (command ∷ rest) replies ≡ Some op)
 asks sizes command rest replies None can goes =
-    let n = an_op (next_step (sizes command) command []) (asks_first (sizes command) command can) in (n.0, ap (λ rs. op_of_next (next_step (sizes command) command rs)) goes ∙ ap op_of_next n.1)
+    let n = an_op (next_step (sizes command) command []) (asks_first (sizes command) command can) in
+    (n.0, ap (λ rs. op_of_next (next_step (sizes command) command rs)) goes ∙ ap op_of_next n.1)
 asks sizes command rest replies (Some (End outcome)) can goes =
-    let n = an_op (next_step (sizes command) command []) (asks_first (sizes command) command can) in (n.0, ap (λ rs. op_of_next (next_step (sizes command) command rs)) goes ∙ ap op_of_next n.1)
+    let n = an_op (next_step (sizes command) command []) (asks_first (sizes command) command can) in
+    (n.0, ap (λ rs. op_of_next (next_step (sizes command) command rs)) goes ∙ ap op_of_next n.1)
 asks sizes command rest replies (Some (Ask op go_on)) can goes = (op, ap (λ s. op_of_next (next_in s)) (sym goes))
 
 -- a session's next operation, by its commands that are left
@@ -117,5 +130,6 @@ pub next_of : (sizes : Command → Geometry) (commands : List Command) (notes : 
     → (command : Command) (rest : List Command) → run.commands ≡ command ∷ rest → CanRun (sizes command) command
     → (op : Op) × (next_op_of sizes run.commands run.replies ≡ Some op)
 next_of sizes commands notes s run m command rest h can =
-    let a = asks sizes command rest run.replies (standing notes s).script can (subst (λ cs. GoesOn sizes cs run.replies (standing notes s).script) h m.shows.goes_on) in
+    let a = asks sizes command rest run.replies (standing notes s).script can (subst (λ cs. GoesOn sizes cs run.replies (standing notes s).script) h
+    m.shows.goes_on) in
     (a.0, ap (λ cs. next_op_of sizes cs run.replies) h ∙ a.1)

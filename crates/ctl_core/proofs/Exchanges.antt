@@ -21,7 +21,8 @@ module _ {W : Type 0} (model : FaultModel W) (boot : Boot) (starts : List (ChipS
 
   -- the session of a course, from the notes
   pub session_is : (course : Course W) → Holds model boot starts course → (number : ℕ) (commands : List Command) → Contains boot.sessions (number, commands)
-      → session_run course number ≡ Some (session_after (sizes_of boot starts) (session_at_start boot starts number commands) (exchanges_of number course.notes))
+      → session_run course number ≡ Some (session_after (sizes_of boot starts) (session_at_start boot starts number commands)
+      (exchanges_of number course.notes))
   session_is course holds number commands has =
       let law = all_sessions course holds number in
       let follow = law.follow commands once has in

@@ -39,7 +39,8 @@ pub moved_on : {A B : Type 0} (f : A → B) (xs : List A) (x : A) (y : B) (ys : 
 moved_on f [] x y ys h = ap (λ z. z ∷ ys) h
 moved_on f (z ∷ xs) x y ys h = ap (λ zs. f z ∷ zs) (moved_on f xs x y ys h)
 
-pub pushed_at : {A : Type 0} (xs : List A) (x : A) (i : ℕ) (y : A) → slice_get (xs ++ x ∷ []) i ≡ Some y → (slice_get xs i ≡ Some y) ⊎ ((i ≡ length xs) × (x ≡ y))
+pub pushed_at : {A : Type 0} (xs : List A) (x : A) (i : ℕ) (y : A) → slice_get (xs ++ x ∷ []) i ≡ Some y
+    → (slice_get xs i ≡ Some y) ⊎ ((i ≡ length xs) × (x ≡ y))
 pushed_at [] x zero y h = inr (refl, cc)
 pushed_at [] x (suc i) y h = cc
 pushed_at (z ∷ xs) x zero y h = inl h
@@ -111,7 +112,8 @@ module _ {F C : Type 0} {flash : Ghosts F} (past : Past F) (bench : Bench F C fl
           ap is_finished (on.stands.mirrors.each k b.0 s.0 run b.1 s.1 at).1.shows.left ∙ h.0 refl k b.0 s.0 b.1 s.1
   done_there false h = by_all (list_all (λ (s : SessionRun). is_finished s.commands) (course_of flash.fault_model flash.state past).sessions) refl
     where
-      all_done : list_all (λ (s : SessionRun). is_finished s.commands) (course_of flash.fault_model flash.state past).sessions ≡ true → AreAllDone past.boot.sessions bench.notes.notes bench.sessions.items
+      all_done : list_all (λ (s : SessionRun). is_finished s.commands) (course_of flash.fault_model flash.state past).sessions ≡ true
+          → AreAllDone past.boot.sessions bench.notes.notes bench.sessions.items
       all_done all k b s at there =
           let within = slice_get_within past.boot.sessions k b at in
           let r = item_at (course_of flash.fault_model flash.state past).sessions k (omega (arith, within, on.stands.mirrors.runs_many)) in
@@ -125,11 +127,15 @@ module _ {F C : Type 0} {flash : Ghosts F} (past : Past F) (bench : Bench F C fl
   pub over_where_done : (none done : Bool) (o : Option ℕ) → o ≡ first_attaching (kept_chips bench) → is_some o ≡ not none → none ≡ true
       → IsTrue done ↔ AreAllDone past.boot.sessions bench.notes.notes bench.sessions.items → done ≡ is_over (course_of flash.fault_model flash.state past)
   over_where_done none done o first same absent all =
-      let attached : unattached (course_of flash.fault_model flash.state past) ≡ None = attached_there past bench on ∙ sym first ∙ (same_none o none same).0 absent in
+      let attached : unattached (course_of flash.fault_model flash.state past) ≡ None = attached_there past bench on ∙ sym first
+      ∙ (same_none o none same).0 absent in
       let known : list_all (λ (c : ChipRun flash.FaultState). is_some c.known) (course_of flash.fault_model flash.state past).chips ≡ true =
-      all_true (λ (c : ChipRun flash.FaultState). is_some c.known) (course_of flash.fault_model flash.state past).chips (λ k c at. is_known c (all_known (course_of flash.fault_model flash.state past) attached k c at)) in
-      over_by (course_of flash.fault_model flash.state past).dark (list_all (λ (c : ChipRun flash.FaultState). is_some c.known) (course_of flash.fault_model flash.state past).chips) done on.stands.keeps.lit known
-      ∙ ap (λ b. (course_of flash.fault_model flash.state past).dark || (list_all (λ (c : ChipRun flash.FaultState). is_some c.known) (course_of flash.fault_model flash.state past).chips && b)) (done_there done all)
+      all_true (λ (c : ChipRun flash.FaultState). is_some c.known) (course_of flash.fault_model flash.state past).chips
+      (λ k c at. is_known c (all_known (course_of flash.fault_model flash.state past) attached k c at)) in
+      over_by (course_of flash.fault_model flash.state past).dark (list_all (λ (c : ChipRun flash.FaultState). is_some c.known)
+      (course_of flash.fault_model flash.state past).chips) done on.stands.keeps.lit known
+      ∙ ap (λ b. (course_of flash.fault_model flash.state past).dark || (list_all (λ (c : ChipRun flash.FaultState). is_some c.known)
+      (course_of flash.fault_model flash.state past).chips && b)) (done_there done all)
     where
       known_some : {K : Type 0} (o : Option K) → is_none o ≡ false → is_some o ≡ true
       known_some None h = cc
@@ -144,7 +150,8 @@ module _ {F C : Type 0} {flash : Ghosts F} (past : Past F) (bench : Bench F C fl
       let k = (same_none o none same).1 there in
       let some : unattached (course_of flash.fault_model flash.state past) ≡ Some k.0 = attached_there past bench on ∙ sym first ∙ k.1 in
       let c = position_is (λ (d : ChipRun flash.FaultState). is_none d.known) (course_of flash.fault_model flash.state past).chips k.0 some in
-      there ∙ not_over_by (course_of flash.fault_model flash.state past).dark (list_all (λ (c : ChipRun flash.FaultState). is_some c.known) (course_of flash.fault_model flash.state past).chips)
+      there ∙ not_over_by (course_of flash.fault_model flash.state past).dark (list_all (λ (c : ChipRun flash.FaultState). is_some c.known)
+      (course_of flash.fault_model flash.state past).chips)
       (list_all (λ (s : SessionRun). is_finished s.commands) (course_of flash.fault_model flash.state past).sessions) on.stands.keeps.lit
       (one_false (λ (c : ChipRun flash.FaultState). is_some c.known) (course_of flash.fault_model flash.state past).chips k.0 c.0 c.1 (unknown c.0.known c.2))
     where
@@ -159,7 +166,8 @@ kept_at_start partitions (s ∷ starts) = ap (λ zs. kept_first s ∷ zs) (kept_
 
 -- a controller at its start
 pub start_on : {F C : Type 0} {flash : Ghosts F} (boot : Boot) (flashes : List F) (bench : Bench F C flash) → CanStart boot (map flash.state flashes)
-    → map kept_slot bench.slots.items ≡ map kept_first (map flash.state flashes) → AreFresh boot.sessions bench.sessions.items → bench.events ≡ 0 → bench.notes.notes ≡ []
+    → map kept_slot bench.slots.items ≡ map kept_first (map flash.state flashes) → AreFresh boot.sessions bench.sessions.items → bench.events ≡ 0
+    → bench.notes.notes ≡ []
     → IsOnCourse (at_start boot flashes) bench
 start_on {F} {C} {flash} boot flashes bench start slots fresh events notes = record {
   conditions = start;
@@ -186,12 +194,17 @@ start_on {F} {C} {flash} boot flashes bench start slots fresh events notes = rec
     begin : ℕ × List Command → SessionRun
     begin s = without_finished (sizes_of boot (map flash.state flashes)) s.0 s.1 [] []
 
-    each_one : (i : ℕ) (b : ℕ × List Command) (s : Session) (run : SessionRun) → slice_get boot.sessions i ≡ Some b → slice_get bench.sessions.items i ≡ Some s → slice_get (map begin boot.sessions) i ≡ Some run
+    each_one : (i : ℕ) (b : ℕ × List Command) (s : Session) (run : SessionRun) → slice_get boot.sessions i ≡ Some b → slice_get bench.sessions.items i
+        ≡ Some s → slice_get (map begin boot.sessions) i ≡ Some run
         → (number_of s ≡ b.0) × Mirrors (sizes_of boot (map flash.state flashes)) b.1 bench.notes.notes s run
     each_one i b s run at there is =
         let r = mapped_at begin boot.sessions i run is in
         let own : r.0 ≡ b = cc (r.1, at) in
         let same : begin b ≡ run = ap begin (sym own) ∙ r.2 in
-        let runnable = all_at (λ (x : ℕ × List Command). All (λ c. CanRun (sizes_of boot (map flash.state flashes) c) c) x.1) boot.sessions i b start.runnable at in
-        let m = fresh.each i b s at there (sizes_of boot (map flash.state flashes)) b.1 bench.notes.notes runnable in
-        (sym m.shows.number ∙ number_stays (sizes_of boot (map flash.state flashes)) b.0 b.1 [] [], subst (Mirrors (sizes_of boot (map flash.state flashes)) b.1 bench.notes.notes s) same m)
+        let runnable = all_at (λ (x : ℕ × List Command). All (λ c. CanRun (sizes_of boot (map flash.state flashes) c) c) x.1) boot.sessions i b start.runnable
+        at in
+        let m = fresh.each i b s at there (sizes_of boot (map flash.state flashes)) b.1 bench.notes.notes runnable in (
+          sym m.shows.number ∙ number_stays (sizes_of boot (map flash.state flashes)) b.0 b.1 [] [],
+          subst
+              (Mirrors (sizes_of boot (map flash.state flashes)) b.1 bench.notes.notes s) same m,
+        )

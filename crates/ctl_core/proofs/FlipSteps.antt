@@ -16,7 +16,6 @@ use Rattle.ctl_core.specs.declared.bench.Slot.{Slot}
 use Rattle.ctl_core.specs.Bench.{HasRoom, kept_slot}
 use Rattle.ctl_core.specs.Flips.{CanFlip, bit_count, due_flips, kept_flip, kept_flips_before}
 use Rattle.ctl_core.specs.KeptChip.{KeptChip}
-use Rattle.ctl_core.proofs.Devices.{all_at}
 use Rattle.ctl_core.proofs.Flipped.{can_still_flip, flipped_at}
 use Rattle.ctl_core.proofs.OnCourse.{and_then_some, some_of}
 use Rattle.ctl_core.proofs.Positions.{mapped_length}
@@ -61,7 +60,8 @@ counted_here flips event n flip at is =
     (ap length here ∙ longer, ap bit_count here ∙ sum_by-cons (λ (f : Flip). length f.bits) flip (due_flips (drop (n + 1) flips) event))
 
 -- what holds of all items once one of them is changed
-all_set : {A : Type 0} (P Q : A → Type 0) (xs : List A) (k : ℕ) (x new : A) → slice_get xs k ≡ Some x → (P x → Q new) → ((y : A) → P y → Q y) → All P xs → All Q (set xs k new)
+all_set : {A : Type 0} (P Q : A → Type 0) (xs : List A) (k : ℕ) (x new : A) → slice_get xs k ≡ Some x → (P x → Q new) → ((y : A) → P y → Q y) → All P xs
+    → All Q (set xs k new)
 all_set P Q [] k x new at here other all j d h = absurd (omega arith)
 all_set P Q (y ∷ ys) zero x new at here other all zero d h = let same : y ≡ x = cc in here (subst P same (all zero d (omega arith)))
 all_set P Q (y ∷ ys) zero x new at here other all (suc j) d h = other (get_or ys j d) (all (suc j) d h)
@@ -80,7 +80,8 @@ first_set P (y ∷ ys) (suc k) new within now before (suc j) d h =
 
 module _ {F C : Type 0} {flash : Ghosts F} where
   -- the room of a flip and of those after it
-  pub room_split : (pages bits : ℕ) (flip : Flip) (rest : List Flip) (slots : List (Slot F C flash)) → pages ≡ 1 + length rest → bits ≡ length flip.bits + bit_count rest
+  pub room_split : (pages bits : ℕ) (flip : Flip) (rest : List Flip) (slots : List (Slot F C flash)) → pages ≡ 1 + length rest → bits
+      ≡ length flip.bits + bit_count rest
       → All (HasRoom pages bits) slots → All (HasRoom (1 + length rest) (length flip.bits + bit_count rest)) slots × All (HasRoom 1 (length flip.bits)) slots
   room_split pages bits flip rest slots more more_bits all = (
     λ k d h. let r = all k d h in record { spare = omega (arith, r.spare); bits_room = omega (arith, r.bits_room) },
@@ -99,14 +100,12 @@ module _ {F C : Type 0} {flash : Ghosts F} where
   pub record FlipsLeft (flips : List Flip) (event n : ℕ) (start : List (KeptChip flash.FaultState)) (slots : List (Slot F C flash)) : Type 0 where
     pub there : All (CanFlip (map kept_slot slots)) flips
     pub room : All (HasRoom (length (due_flips (drop n flips) event)) (bit_count (due_flips (drop n flips) event))) slots
-    pub so_far : fold (kept_flip flash.fault_model) (map kept_slot slots) (due_flips (drop n flips) event) ≡ kept_flips_before flash.fault_model flips event start
+    pub so_far : fold (kept_flip flash.fault_model) (map kept_slot slots) (due_flips (drop n flips) event)
+        ≡ kept_flips_before flash.fault_model flips event start
 
-  module _ (flips : List Flip) (event n : ℕ) (start : List (KeptChip flash.FaultState)) (slots : List (Slot F C flash)) (left : FlipsLeft flips event n start slots)
+  module _ (flips : List Flip) (event n : ℕ) (start : List (KeptChip flash.FaultState)) (slots : List (Slot F C flash))
+      (left : FlipsLeft flips event n start slots)
       (flip : Flip) (at : slice_get flips n ≡ Some flip) where
-    -- the flip can be made
-    pub flip_there : CanFlip (map kept_slot slots) flip
-    flip_there = all_at (CanFlip (map kept_slot slots)) flips n flip left.there at
-
     module _ (due : flip.before ≡ event) where
       is_due_here : is_due event flip ≡ true
       is_due_here = eq-eqb flip.before event due
@@ -115,9 +114,10 @@ module _ {F C : Type 0} {flash : Ghosts F} where
           × All (HasRoom 1 (length flip.bits)) slots
       flip_rooms =
           let counts = counted_here flips event n flip at is_due_here in
-          room_split (length (due_flips (drop n flips) event)) (bit_count (due_flips (drop n flips) event)) flip (due_flips (drop (n + 1) flips) event) slots counts.0 counts.1 left.room
+          room_split (length (due_flips (drop n flips) event)) (bit_count (due_flips (drop n flips) event)) flip (due_flips (drop (n + 1) flips) event) slots
+          counts.0 counts.1 left.room
 
-      -- and there is room for it
+      -- there is room for the flip
       pub flip_room : All (HasRoom 1 (length flip.bits)) slots
       flip_room = flip_rooms.1
 
@@ -126,7 +126,8 @@ module _ {F C : Type 0} {flash : Ghosts F} where
           → ((pages bits : ℕ) → All (HasRoom (1 + pages) (length flip.bits + bits)) slots → All (HasRoom pages bits) now)
           → FlipsLeft flips event (n + 1) start now
       one_flipped now chips room = record {
-        there = λ k d h. subst (λ cs. CanFlip cs (get_or flips k d)) (sym chips) (can_still_flip flash.fault_model (map kept_slot slots) flip (get_or flips k d) (left.there k d h));
+        there = λ k d h. subst (λ cs. CanFlip cs (get_or flips k d)) (sym chips) (can_still_flip flash.fault_model (map kept_slot slots) flip
+            (get_or flips k d) (left.there k d h));
         room = room (length (due_flips (drop (n + 1) flips) event)) (bit_count (due_flips (drop (n + 1) flips) event)) flip_rooms.0;
         so_far = ap (λ cs. fold (kept_flip flash.fault_model) cs (due_flips (drop (n + 1) flips) event)) chips
             ∙ ap (fold (kept_flip flash.fault_model) (map kept_slot slots)) (sym (due_here flips event n flip at is_due_here)) ∙ left.so_far;
@@ -134,13 +135,15 @@ module _ {F C : Type 0} {flash : Ghosts F} where
 
     -- a flip that is not due is passed over
     pub none_flipped : (flip.before ≡ event → ⊥) → FlipsLeft flips event (n + 1) start slots
-    none_flipped other = subst (λ due. All (HasRoom (length due) (bit_count due)) slots → fold (kept_flip flash.fault_model) (map kept_slot slots) due ≡ kept_flips_before flash.fault_model flips event start
+    none_flipped other = subst (λ due. All (HasRoom (length due) (bit_count due)) slots → fold (kept_flip flash.fault_model) (map kept_slot slots) due
+        ≡ kept_flips_before flash.fault_model flips event start
         → FlipsLeft flips event (n + 1) start slots)
         (sym (due_later flips event n flip at (ne_eqb flip.before event other)))
         (λ room so_far. record { there = left.there; room = room; so_far = so_far }) left.room left.so_far
 
   -- at its end all flips are made
-  pub all_flipped : (flips : List Flip) (event n : ℕ) (start : List (KeptChip flash.FaultState)) (slots : List (Slot F C flash)) → FlipsLeft flips event n start slots → length flips ≤ n
+  pub all_flipped : (flips : List Flip) (event n : ℕ) (start : List (KeptChip flash.FaultState)) (slots : List (Slot F C flash))
+      → FlipsLeft flips event n start slots → length flips ≤ n
       → map kept_slot slots ≡ kept_flips_before flash.fault_model flips event start
   all_flipped flips event n start slots left end =
       ap (fold (kept_flip flash.fault_model) (map kept_slot slots)) (sym (due_at_end flips event n end)) ∙ left.so_far
@@ -149,7 +152,8 @@ module _ {F C : Type 0} {flash : Ghosts F} where
   pub event_there : (flips : List Flip) (event : ℕ) (before now : List (Slot F C flash)) (k : ℕ)
       → IsSome (option_and_then (λ (c : KeptChip flash.FaultState). stage_event c.stage) (slice_get (map kept_slot before) k))
       → map kept_slot now ≡ kept_flips_before flash.fault_model flips event (map kept_slot before)
-      → (x : KeptChip flash.FaultState) × (e : PageEvent) × (slice_get (map kept_slot now) k ≡ Some x) × (stage_event x.stage ≡ Some e) × (k < length before) × (k < length now)
+      → (x : KeptChip flash.FaultState) × (e : PageEvent) × (slice_get (map kept_slot now) k ≡ Some x) × (stage_event x.stage ≡ Some e) × (k < length before)
+      × (k < length now)
   event_there flips event before now k some made =
       let e = some_of (option_and_then (λ (c : KeptChip flash.FaultState). stage_event c.stage) (slice_get (map kept_slot before) k)) some in
       let x = and_then_some (λ (c : KeptChip flash.FaultState). stage_event c.stage) (slice_get (map kept_slot before) k) e.0 e.1 in

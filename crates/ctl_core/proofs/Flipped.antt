@@ -42,10 +42,16 @@ module _ {W : Type 0} (model : FaultModel W) where
       by_case : (flip.chip ≡ k) ⊎ (flip.chip ≡ k → ⊥) → (y : KeptChip W) × (slice_get (kept_flip model chips flip) k ≡ Some y) × IsFlipped x y
       by_case (inl e) = (
         with_bits_turned model flip x,
-        ap (λ j. slice_get (change_at chips j (with_bits_turned model flip)) k) e ∙ change_here chips k (with_bits_turned model flip) ∙ ap (option_map (with_bits_turned model flip)) at,
+        ap (λ j. slice_get (change_at chips j (with_bits_turned model flip)) k) e ∙ change_here chips k (with_bits_turned model flip)
+            ∙ ap (option_map (with_bits_turned model flip)) at,
         record { stage = refl; news = refl; holder = refl; geometry = geometry_after model x.state (flip_events flip.page flip.bits) },
       )
-      by_case (inr n) = (x, change_elsewhere chips flip.chip k (with_bits_turned model flip) n ∙ at, record { stage = refl; news = refl; holder = refl; geometry = refl })
+      by_case (inr n) = (
+        x,
+        change_elsewhere chips flip.chip k (with_bits_turned model flip) n
+            ∙ at,
+        record { stage = refl; news = refl; holder = refl; geometry = refl },
+      )
 
   flipped_by : (flips : List Flip) (chips : List (KeptChip W)) (k : ℕ) (x : KeptChip W) → slice_get chips k ≡ Some x
       → (y : KeptChip W) × (slice_get (fold (kept_flip model) chips flips) k ≡ Some y) × IsFlipped x y
@@ -74,7 +80,8 @@ module _ {W : Type 0} (model : FaultModel W) where
       let now = flipped_once chips flip other.chip c at in
       (now.0, now.1, subst (λ g. FitsBits g other.page other.bits) (sym now.2.geometry) fits)
 
-  wait_by : (flips : List Flip) (chips : List (KeptChip W)) (sessions : List Session) → HoldersWait chips sessions → HoldersWait (fold (kept_flip model) chips flips) sessions
+  wait_by : (flips : List Flip) (chips : List (KeptChip W)) (sessions : List Session) → HoldersWait chips sessions
+      → HoldersWait (fold (kept_flip model) chips flips) sessions
   wait_by [] chips sessions wait = wait
   wait_by (flip ∷ flips) chips sessions wait =
       wait_by flips (kept_flip model chips flip) sessions (wait_on chips sessions wait flip.chip (with_bits_turned model flip) (λ c. refl))
@@ -85,13 +92,17 @@ module _ {W : Type 0} (model : FaultModel W) where
   wait_flipped flips event chips sessions wait = wait_by (due_flips flips event) chips sessions wait
 
   module _ (partitions : Partitions) (boot : Boot) where
-    stage_stays : (c : ChipRun W) (flip : Flip) (k : Option Known) (p : Option Pending) → stage_by partitions (with_flips model c flip.page flip.bits) k p ≡ stage_by partitions c k p
-    stage_stays c flip None p = ap (λ g. Attaches (after_answers c.attach_answers (attach_path g)) c.quiet) (geometry_after model c.chip (flip_events flip.page flip.bits))
+    stage_stays : (c : ChipRun W) (flip : Flip) (k : Option Known) (p : Option Pending) → stage_by partitions (with_flips model c flip.page flip.bits) k p
+        ≡ stage_by partitions c k p
+    stage_stays c flip None p = ap (λ g. Attaches (after_answers c.attach_answers (attach_path g)) c.quiet)
+        (geometry_after model c.chip (flip_events flip.page flip.bits))
     stage_stays c flip (Some known) None = refl
     stage_stays c flip (Some known) (Some pending) =
-        ap (λ g. Works known (after_answers pending.answers (operation_path g partitions known pending.op))) (geometry_after model c.chip (flip_events flip.page flip.bits))
+        ap (λ g. Works known (after_answers pending.answers (operation_path g partitions known pending.op)))
+        (geometry_after model c.chip (flip_events flip.page flip.bits))
 
-    kept_flipped : (c : ChipRun W) (flip : Flip) → kept_as partitions (with_flips model c flip.page flip.bits) ≡ with_bits_turned model flip (kept_as partitions c)
+    kept_flipped : (c : ChipRun W) (flip : Flip) → kept_as partitions (with_flips model c flip.page flip.bits)
+        ≡ with_bits_turned model flip (kept_as partitions c)
     kept_flipped c flip = λ j. record {
       state = (with_flips model c flip.page flip.bits).chip;
       stage = stage_stays c flip c.known c.pending j;
@@ -99,12 +110,14 @@ module _ {W : Type 0} (model : FaultModel W) where
       holder = holder_by c.known c.pending;
     }
 
-    kept_by : (flips : List Flip) (chips : List (ChipRun W)) → all_kept partitions (fold (with_flip model boot) chips flips) ≡ fold (kept_flip model) (all_kept partitions chips) flips
+    kept_by : (flips : List Flip) (chips : List (ChipRun W)) → all_kept partitions (fold (with_flip model boot) chips flips)
+        ≡ fold (kept_flip model) (all_kept partitions chips) flips
     kept_by [] chips = refl
     kept_by (flip ∷ flips) chips =
         kept_by flips (with_flip model boot chips flip)
         ∙ ap (λ xs. fold (kept_flip model) xs flips)
-        (mapped_change_all (kept_as partitions) (λ c. with_flips model c flip.page flip.bits) (with_bits_turned model flip) chips flip.chip (λ c. kept_flipped c flip))
+        (mapped_change_all (kept_as partitions) (λ c. with_flips model c flip.page flip.bits) (with_bits_turned model flip) chips flip.chip
+        (λ c. kept_flipped c flip))
 
     -- what is kept of the chips of a course after the flips that are due
     pub flips_kept : (event : ℕ) (chips : List (ChipRun W))

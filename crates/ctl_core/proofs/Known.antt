@@ -46,19 +46,23 @@ module _ {W : Type 0} (model : FaultModel W) (boot : Boot) where
   flips_known : (flips : List Flip) (chips : List (ChipRun W)) → AllKnown chips → AllKnown (fold (with_flip model boot) chips flips)
   flips_known [] chips h = h
   flips_known (flip ∷ flips) chips h =
-      flips_known flips (with_flip model boot chips flip) (known_change chips flip.chip (λ c. with_flips model c flip.page flip.bits) h (λ c at. h flip.chip c at))
+      flips_known flips (with_flip model boot chips flip) (known_change chips flip.chip (λ c. with_flips model c flip.page flip.bits) h
+      (λ c at. h flip.chip c at))
 
-  there_after : (flips : List Flip) (chips : List (ChipRun W)) (k : ℕ) (c : ChipRun W) → slice_get chips k ≡ Some c → (d : ChipRun W) × (slice_get (fold (with_flip model boot) chips flips) k ≡ Some d)
+  there_after : (flips : List Flip) (chips : List (ChipRun W)) (k : ℕ) (c : ChipRun W) → slice_get chips k ≡ Some c → (d : ChipRun W)
+      × (slice_get (fold (with_flip model boot) chips flips) k ≡ Some d)
   there_after [] chips k c at = (c, at)
   there_after (flip ∷ flips) chips k c at =
       let now = changed_there chips k flip.chip (λ d. with_flips model d flip.page flip.bits) c at in
       there_after flips (with_flip model boot chips flip) k now.0 now.1
 
-module _ {W : Type 0} (model : FaultModel W) (boot : Boot) (uncut : boot.cut ≡ None) (sizes : Command → Geometry) (course : Course W) (known : AllKnown course.chips) where
+module _ {W : Type 0} (model : FaultModel W) (boot : Boot) (uncut : boot.cut ≡ None) (sizes : Command → Geometry) (course : Course W)
+    (known : AllKnown course.chips) where
   advanced_known : (c : ChipRun W) (e : PageEvent) → is_none c.known ≡ false → is_none (advanced model c e).known ≡ false
   advanced_known c e h = by_known c.known h
     where
-      by_known : (k : Option Known) → is_none k ≡ false → is_none (answered_by (record c { known = k }) (happens model c.chip (Complete e)) (answer_to model c.chip e) k).known ≡ false
+      by_known : (k : Option Known) → is_none k ≡ false → is_none (answered_by (record c { known = k }) (happens model c.chip (Complete e))
+          (answer_to model c.chip e) k).known ≡ false
       by_known None i = cc
       by_known (Some x) i = refl
 
@@ -66,7 +70,8 @@ module _ {W : Type 0} (model : FaultModel W) (boot : Boot) (uncut : boot.cut ≡
   flipped_known : AllKnown (with_flips_before model boot (course.events + 1) course.chips)
   flipped_known = flips_known model boot (due_flips boot.flips (course.events + 1)) course.chips known
 
-  flipped_there : (k : ℕ) (c : ChipRun W) → slice_get course.chips k ≡ Some c → (d : ChipRun W) × (slice_get (with_flips_before model boot (course.events + 1) course.chips) k ≡ Some d)
+  flipped_there : (k : ℕ) (c : ChipRun W) → slice_get course.chips k ≡ Some c → (d : ChipRun W)
+      × (slice_get (with_flips_before model boot (course.events + 1) course.chips) k ≡ Some d)
   flipped_there k c at = there_after model boot (due_flips boot.flips (course.events + 1)) course.chips k c at
 
   finish_known : (k : ℕ) (c : ChipRun W) (session : ℕ) (o : Option Finished) → AllKnown (finish sizes course k c session o).chips
@@ -78,7 +83,8 @@ module _ {W : Type 0} (model : FaultModel W) (boot : Boot) (uncut : boot.cut ≡
   answer_known k c (Some x) None = known
   answer_known k c (Some x) (Some pending) = finish_known k c pending.session (finished_by boot.partitions c x pending)
 
-  next_known : (k : ℕ) (c : ChipRun W) (o : Option PageEvent) → slice_get course.chips k ≡ Some c → AllKnown (event_or_answer model boot sizes course k c o).chips
+  next_known : (k : ℕ) (c : ChipRun W) (o : Option PageEvent) → slice_get course.chips k ≡ Some c
+      → AllKnown (event_or_answer model boot sizes course k c o).chips
   next_known k c None at = answer_known k c c.known c.pending
   next_known k c (Some e) at =
       let now = flipped_there k c at in
@@ -120,4 +126,5 @@ module _ {W : Type 0} (model : FaultModel W) (boot : Boot) (uncut : boot.cut ≡
 -- a turn leaves all chips attached
 pub stays_attached : {W : Type 0} (model : FaultModel W) (boot : Boot) (uncut : boot.cut ≡ None) (sizes : Command → Geometry) (course : Course W) (session : ℕ)
     → unattached course ≡ None → unattached (turn_step model boot sizes course session) ≡ None
-stays_attached model boot uncut sizes course session h = none_unattached (turn_step model boot sizes course session) (turn_known model boot uncut sizes course (all_known course h) session)
+stays_attached model boot uncut sizes course session h = none_unattached (turn_step model boot sizes course session)
+    (turn_known model boot uncut sizes course (all_known course h) session)

@@ -25,7 +25,8 @@ module _ {F C : Type 0} {flash : Ghosts F} (past : Past F) (bench : Bench F C fl
   last_ends = same_mapped end_of_run (end_by_notes past.boot (starts_of flash.state past) (course_of flash.fault_model flash.state past).notes)
       (course_of flash.fault_model flash.state past).sessions past.boot.sessions on.stands.mirrors.runs_many same_end
     where
-      same_end : (i : ℕ) (run : SessionRun) (own : ℕ × List Command) → slice_get (course_of flash.fault_model flash.state past).sessions i ≡ Some run → slice_get past.boot.sessions i ≡ Some own
+      same_end : (i : ℕ) (run : SessionRun) (own : ℕ × List Command) → slice_get (course_of flash.fault_model flash.state past).sessions i ≡ Some run
+          → slice_get past.boot.sessions i ≡ Some own
           → end_of_run run ≡ end_by_notes past.boot (starts_of flash.state past) (course_of flash.fault_model flash.state past).notes own
       same_end i run own at begun =
           let within = slice_get_within past.boot.sessions i own begun in
@@ -33,6 +34,8 @@ module _ {F C : Type 0} {flash : Ghosts F} (past : Past F) (bench : Bench F C fl
           let number = (on.stands.mirrors.each i own s.0 run begun s.1 at).0 in
           let here : session_run (course_of flash.fault_model flash.state past) own.0 ≡ Some run =
           ap (session_run (course_of flash.fault_model flash.state past)) (sym number)
-          ∙ found (sizes_in flash.state past) past.boot.sessions bench.notes.notes bench.sessions.items (course_of flash.fault_model flash.state past).sessions on.stands.mirrors on.conditions.ascending i s.0 run s.1 at in
-          ap end_of_run (same_Some _ _ (sym here ∙ session_is flash.fault_model past.boot (starts_of flash.state past) (one_number_each past.boot.sessions on.conditions.ascending)
+          ∙ found (sizes_in flash.state past) past.boot.sessions bench.notes.notes bench.sessions.items
+          (course_of flash.fault_model flash.state past).sessions on.stands.mirrors on.conditions.ascending i s.0 run s.1 at in
+          ap end_of_run (same_Some _ _ (sym here ∙ session_is flash.fault_model past.boot (starts_of flash.state past)
+          (one_number_each past.boot.sessions on.conditions.ascending)
           (course_of flash.fault_model flash.state past) (holds past bench on) own.0 own.1 (contains_at past.boot.sessions i own begun)))

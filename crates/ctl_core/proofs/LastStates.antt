@@ -49,7 +49,8 @@ mapped_push f [] x = refl
 mapped_push f (y ∷ xs) x = ap (λ zs. f y ∷ zs) (mapped_push f xs x)
 
 -- one more item of a sum
-pub sum_more : {A B : Type 0} (g : B → ℕ) (f : A → B) (xs : List A) (i : ℕ) (x : A) → i < length xs → x ≡ get_or xs i x → sum_by g (map f (take (i + 1) xs)) ≡ sum_by g (map f (take i xs)) + g (f x)
+pub sum_more : {A B : Type 0} (g : B → ℕ) (f : A → B) (xs : List A) (i : ℕ) (x : A) → i < length xs → x ≡ get_or xs i x → sum_by g (map f (take (i + 1) xs))
+    ≡ sum_by g (map f (take i xs)) + g (f x)
 sum_more g f xs i x h is =
     ap (λ zs. sum_by g (map f zs)) (take_more xs i x h) ∙ ap (sum_by g) (mapped_push f (take i xs) (get_or xs i x))
     ∙ sum_by_push g (map f (take i xs)) (f (get_or xs i x)) ∙ ap (λ y. sum_by g (map f (take i xs)) + g (f y)) (sym is)
@@ -62,7 +63,8 @@ same_mapped f g [] (y ∷ ys) l h = absurd (omega (arith, l))
 same_mapped f g (x ∷ xs) [] l h = absurd (omega (arith, l))
 same_mapped f g (x ∷ xs) (y ∷ ys) l h = λ d. h zero x y refl refl d ∷ same_mapped f g xs ys (omega (arith, l)) (λ i a b e k. h (suc i) a b e k) d
 
-pub same_sums : {A B : Type 0} (f : A → B) (g : B → ℕ) (h : A → ℕ) (xs : List A) → ((i : ℕ) (x : A) → slice_get xs i ≡ Some x → g (f x) ≡ h x) → sum_by g (map f xs) ≡ sum_by h xs
+pub same_sums : {A B : Type 0} (f : A → B) (g : B → ℕ) (h : A → ℕ) (xs : List A) → ((i : ℕ) (x : A) → slice_get xs i ≡ Some x → g (f x) ≡ h x)
+    → sum_by g (map f xs) ≡ sum_by h xs
 same_sums f g h [] same = refl
 same_sums f g h (x ∷ xs) same =
     sum_by-cons g (f x) (map f xs) ∙ (λ d. same zero x refl d + same_sums f g h xs (λ i y e. same (suc i) y e) d) ∙ sym (sum_by-cons h x xs)
@@ -74,13 +76,16 @@ states_kept : {W : Type 0} (partitions : Partitions) (chips : List (ChipRun W)) 
 states_kept partitions [] = refl
 states_kept partitions (c ∷ chips) = ap (λ zs. c.chip ∷ zs) (states_kept partitions chips)
 
-pub statistics_by : {W : Type 0} (partitions : Partitions) (c : ChipRun W) (known : Option Known) (pending : Option Pending) (dev : ℕ) → stage_statistics (stage_by partitions c known pending) dev ≡ statistics_known known dev
+pub statistics_by : {W : Type 0} (partitions : Partitions) (c : ChipRun W) (known : Option Known) (pending : Option Pending) (dev : ℕ)
+    → stage_statistics (stage_by partitions c known pending) dev ≡ statistics_known known dev
 statistics_by partitions c None pending dev = refl
 statistics_by partitions c (Some known) None dev = refl
 statistics_by partitions c (Some known) (Some pending) dev = refl
 
-statistics_kept : {W : Type 0} (partitions : Partitions) (chips : List (ChipRun W)) (k dev : ℕ) → kept_statistics_on (slice_get (all_kept partitions chips) k) dev ≡ statistics_on (slice_get chips k) dev
-statistics_kept {W} partitions chips k dev = ap (λ (o : Option (KeptChip W)). kept_statistics_on o dev) (slice_get-map (kept_as partitions) chips k) ∙ by_place (slice_get chips k)
+statistics_kept : {W : Type 0} (partitions : Partitions) (chips : List (ChipRun W)) (k dev : ℕ)
+    → kept_statistics_on (slice_get (all_kept partitions chips) k) dev ≡ statistics_on (slice_get chips k) dev
+statistics_kept {W} partitions chips k dev = ap (λ (o : Option (KeptChip W)). kept_statistics_on o dev) (slice_get-map (kept_as partitions) chips k)
+    ∙ by_place (slice_get chips k)
   where
     by_place : (o : Option (ChipRun W)) → kept_statistics_on (option_map (kept_as partitions) o) dev ≡ statistics_on o dev
     by_place None = refl
@@ -111,18 +116,23 @@ module _ {F C : Type 0} {flash : Ghosts F} (past : Past F) (bench : Bench F C fl
   pub parts_there : All (λ (part : Part). part.chip < length bench.slots.items) past.boot.partitions.parts
   parts_there k d h =
       let part : Part = get_or past.boot.partitions.parts k d in
-      let chip = all_at (IsOnChip (starts_of flash.state past)) past.boot.partitions.parts k part on.conditions.parts (slice_get-get_or past.boot.partitions.parts k d h) in
-      let stays = chip_stays flash.fault_model past.boot (starts_of flash.state past) (course_of flash.fault_model flash.state past) (holds past bench on) part.chip chip.0 chip.1 in
+      let chip = all_at (IsOnChip (starts_of flash.state past)) past.boot.partitions.parts k part on.conditions.parts
+      (slice_get-get_or past.boot.partitions.parts k d h) in
+      let stays = chip_stays flash.fault_model past.boot (starts_of flash.state past) (course_of flash.fault_model flash.state past) (holds past bench on)
+      part.chip chip.0 chip.1 in
       (slot_there past bench on part.chip stays.0 stays.1).1
 
   pub last_states : map kept_state (kept_chips bench) ≡ end_states (course_of flash.fault_model flash.state past)
   last_states = ap (map kept_state) on.stands.keeps.of_chips ∙ states_kept past.boot.partitions (course_of flash.fault_model flash.state past).chips
 
-  pub last_outcomes : map (λ (s : Session). end_of false (standing bench.notes.notes s)) bench.sessions.items ≡ map end_of_run (course_of flash.fault_model flash.state past).sessions
-  last_outcomes = same_mapped (λ (s : Session). end_of false (standing bench.notes.notes s)) end_of_run bench.sessions.items (course_of flash.fault_model flash.state past).sessions
+  pub last_outcomes : map (λ (s : Session). end_of false (standing bench.notes.notes s)) bench.sessions.items
+      ≡ map end_of_run (course_of flash.fault_model flash.state past).sessions
+  last_outcomes = same_mapped (λ (s : Session). end_of false (standing bench.notes.notes s)) end_of_run bench.sessions.items
+      (course_of flash.fault_model flash.state past).sessions
       (on.stands.mirrors.many ∙ sym on.stands.mirrors.runs_many) same_end
     where
-      same_end : (i : ℕ) (s : Session) (run : SessionRun) → slice_get bench.sessions.items i ≡ Some s → slice_get (course_of flash.fault_model flash.state past).sessions i ≡ Some run
+      same_end : (i : ℕ) (s : Session) (run : SessionRun) → slice_get bench.sessions.items i ≡ Some s
+          → slice_get (course_of flash.fault_model flash.state past).sessions i ≡ Some run
           → end_of false (standing bench.notes.notes s) ≡ end_of_run run
       same_end i s run at there =
           let within = slice_get_within bench.sessions.items i s at in
@@ -130,49 +140,75 @@ module _ {F C : Type 0} {flash : Ghosts F} (past : Past F) (bench : Bench F C fl
           let m = (on.stands.mirrors.each i b.0 s run b.1 at there).1 in
           λ d. record { session = sym m.shows.number d; cut = false; outcomes = sym m.shows.outcomes d }
 
-  pub last_statistics : kept_statistics past.boot.partitions (kept_chips bench) (device_numbers past.boot.partitions) ≡ device_statistics past.boot.partitions (course_of flash.fault_model flash.state past)
+  pub last_statistics : kept_statistics past.boot.partitions (kept_chips bench) (device_numbers past.boot.partitions)
+      ≡ device_statistics past.boot.partitions (course_of flash.fault_model flash.state past)
   last_statistics =
       ap (λ cs. kept_statistics past.boot.partitions cs (device_numbers past.boot.partitions)) on.stands.keeps.of_chips
-      ∙ same_mapped (λ dev. (dev, kept_statistics_at (all_kept past.boot.partitions (course_of flash.fault_model flash.state past).chips) (chip_of past.boot.partitions dev) dev))
-      (λ dev. (dev, statistics_at (course_of flash.fault_model flash.state past) (chip_of past.boot.partitions dev) dev)) (device_numbers past.boot.partitions) (device_numbers past.boot.partitions) refl same_device
+      ∙ same_mapped (λ dev. (
+        dev,
+        kept_statistics_at (all_kept past.boot.partitions (course_of flash.fault_model flash.state past).chips)
+            (chip_of past.boot.partitions dev) dev,
+      ))
+      (λ dev. (dev, statistics_at (course_of flash.fault_model flash.state past) (chip_of past.boot.partitions dev) dev))
+      (device_numbers past.boot.partitions) (device_numbers past.boot.partitions) refl same_device
     where
-      by_chip : (o : Option ℕ) (dev : ℕ) → kept_statistics_at (all_kept past.boot.partitions (course_of flash.fault_model flash.state past).chips) o dev ≡ statistics_at (course_of flash.fault_model flash.state past) o dev
+      by_chip : (o : Option ℕ) (dev : ℕ) → kept_statistics_at (all_kept past.boot.partitions (course_of flash.fault_model flash.state past).chips) o dev
+          ≡ statistics_at (course_of flash.fault_model flash.state past) o dev
       by_chip None dev = refl
       by_chip (Some k) dev = statistics_kept past.boot.partitions (course_of flash.fault_model flash.state past).chips k dev
 
       same_device : (i : ℕ) (x y : ℕ) → slice_get (device_numbers past.boot.partitions) i ≡ Some x → slice_get (device_numbers past.boot.partitions) i ≡ Some y
-          → ◌≡◌ {A = ℕ × Stats} (x, kept_statistics_at (all_kept past.boot.partitions (course_of flash.fault_model flash.state past).chips) (chip_of past.boot.partitions x) x)
+          → ◌≡◌ {A = ℕ × Stats} (
+            x,
+            kept_statistics_at (all_kept past.boot.partitions (course_of flash.fault_model flash.state past).chips)
+                (chip_of past.boot.partitions x) x,
+          )
           (y, statistics_at (course_of flash.fault_model flash.state past) (chip_of past.boot.partitions y) y)
       same_device i x y h g =
           let same : x ≡ y = cc (h, g) in
-          (λ d. (x, by_chip (chip_of past.boot.partitions x) x d)) ∙ ap (λ z. (z, statistics_at (course_of flash.fault_model flash.state past) (chip_of past.boot.partitions z) z)) same
+          (λ d. (x, by_chip (chip_of past.boot.partitions x) x d)) ∙ ap (λ z. (
+            z,
+            statistics_at (course_of flash.fault_model flash.state past)
+                (chip_of past.boot.partitions z) z,
+          )) same
 
   -- nothing is pending where all is over
-  none_pending : is_over (course_of flash.fault_model flash.state past) ≡ true → (k : ℕ) (c : ChipRun flash.FaultState) → slice_get (course_of flash.fault_model flash.state past).chips k ≡ Some c
+  none_pending : is_over (course_of flash.fault_model flash.state past) ≡ true → (k : ℕ) (c : ChipRun flash.FaultState)
+      → slice_get (course_of flash.fault_model flash.state past).chips k ≡ Some c
       → (is_some c.known ≡ true) × (c.pending ≡ None)
   none_pending over k c at =
-      let parts = over_parts (course_of flash.fault_model flash.state past).dark (list_all (λ (d : ChipRun flash.FaultState). is_some d.known) (course_of flash.fault_model flash.state past).chips)
-      (list_all (λ (s : SessionRun). is_finished s.commands) (course_of flash.fault_model flash.state past).sessions) on.stands.keeps.lit over in
-      (true_at (λ (d : ChipRun flash.FaultState). is_some d.known) (course_of flash.fault_model flash.state past).chips k c parts.0 at, by_pending parts.1 c.pending refl)
+      let parts = over_parts (course_of flash.fault_model flash.state past).dark (list_all (λ (d : ChipRun flash.FaultState). is_some d.known)
+      (course_of flash.fault_model flash.state past).chips)
+      (list_all (λ (s : SessionRun). is_finished s.commands) (course_of flash.fault_model flash.state past).sessions) on.stands.keeps.lit over in (
+        true_at (λ (d : ChipRun flash.FaultState). is_some d.known) (course_of flash.fault_model flash.state past).chips k c parts.0 at,
+        by_pending parts.1
+            c.pending refl,
+      )
     where
       no_op : (replies : List Reply) (op : Op) (cs : List Command) → is_finished cs ≡ true → next_op_of (sizes_in flash.state past) cs replies ≡ Some op → ⊥
       no_op replies op [] h e = cc
       no_op replies op (command ∷ rest) h e = cc
 
-      by_pending : list_all (λ (s : SessionRun). is_finished s.commands) (course_of flash.fault_model flash.state past).sessions ≡ true → (p : Option Pending) → c.pending ≡ p → c.pending ≡ None
+      by_pending : list_all (λ (s : SessionRun). is_finished s.commands) (course_of flash.fault_model flash.state past).sessions ≡ true → (p : Option Pending)
+          → c.pending ≡ p → c.pending ≡ None
       by_pending done None h = h
       by_pending done (Some pending) h =
-          let n = pending_is_next flash.fault_model past.boot (starts_of flash.state past) (course_of flash.fault_model flash.state past) on.stands.keeps.lit (holds past bench on)
+          let n = pending_is_next flash.fault_model past.boot (starts_of flash.state past) (course_of flash.fault_model flash.state past) on.stands.keeps.lit
+          (holds past bench on)
           (one_number_each past.boot.sessions on.conditions.ascending) k pending.session c pending at h refl in
           absurd (no_op n.0.replies pending.op n.0.commands
-          (found_passes (λ (s : SessionRun). is_finished s.commands) (λ (s : SessionRun). s.number == pending.session) (course_of flash.fault_model flash.state past).sessions n.0 done n.1) n.2)
+          (found_passes (λ (s : SessionRun). is_finished s.commands) (λ (s : SessionRun). s.number == pending.session)
+          (course_of flash.fault_model flash.state past).sessions n.0 done n.1) n.2)
 
-  pub last_bad : is_over (course_of flash.fault_model flash.state past) ≡ true → sum_by kept_bad_blocks (kept_chips bench) ≡ all_bad_blocks past.boot.partitions (course_of flash.fault_model flash.state past)
+  pub last_bad : is_over (course_of flash.fault_model flash.state past) ≡ true → sum_by kept_bad_blocks (kept_chips bench)
+      ≡ all_bad_blocks past.boot.partitions (course_of flash.fault_model flash.state past)
   last_bad over =
       ap (sum_by kept_bad_blocks) on.stands.keeps.of_chips
-      ∙ same_sums (kept_as past.boot.partitions) kept_bad_blocks (λ (c : ChipRun flash.FaultState). bad_blocks past.boot.partitions c) (course_of flash.fault_model flash.state past).chips same_bad
+      ∙ same_sums (kept_as past.boot.partitions) kept_bad_blocks (λ (c : ChipRun flash.FaultState). bad_blocks past.boot.partitions c)
+      (course_of flash.fault_model flash.state past).chips same_bad
     where
-      same_bad : (i : ℕ) (c : ChipRun flash.FaultState) → slice_get (course_of flash.fault_model flash.state past).chips i ≡ Some c → kept_bad_blocks (kept_as past.boot.partitions c) ≡ bad_blocks past.boot.partitions c
+      same_bad : (i : ℕ) (c : ChipRun flash.FaultState) → slice_get (course_of flash.fault_model flash.state past).chips i ≡ Some c
+          → kept_bad_blocks (kept_as past.boot.partitions c) ≡ bad_blocks past.boot.partitions c
       same_bad i c at =
           let n = none_pending over i c at in
           ap (λ p. bad_blocks_in (stage_table (stage_by past.boot.partitions c c.known p))) n.1 ∙ bad_by past.boot.partitions c c.known n.0

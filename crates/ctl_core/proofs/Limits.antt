@@ -38,18 +38,22 @@ use Rattle.ctl_core.proofs.Turns.{chip_there, unattached_there, found_held}
 use Rattle.ctl_core.proofs.OnCourse.{holds, mapped_some}
 
 -- a chip of a course was there at the start
-chips_began : {W : Type 0} (model : FaultModel W) (boot : Boot) (starts : List (ChipState W)) (course : Course W) → Holds model boot starts course → (k : ℕ) (c : ChipRun W)
+chips_began : {W : Type 0} (model : FaultModel W) (boot : Boot) (starts : List (ChipState W)) (course : Course W) → Holds model boot starts course
+    → (k : ℕ) (c : ChipRun W)
     → slice_get course.chips k ≡ Some c → k < length starts
 chips_began model boot starts course holds k c at =
     let log = log_of model boot starts course holds in
-    let p = place_start (EndOf model boot starts (by_log model boot starts log.0) k) (notes_of_chip boot.partitions k course.notes) (slice_get starts k) (slice_get course.chips k) c at (log.2 k) in
+    let p = place_start (EndOf model boot starts (by_log model boot starts log.0) k) (notes_of_chip boot.partitions k course.notes) (slice_get starts k)
+    (slice_get course.chips k) c at (log.2 k) in
     slice_get_within starts k p.0 p.1
 
-no_more_chips : {W : Type 0} (model : FaultModel W) (boot : Boot) (starts : List (ChipState W)) (course : Course W) → Holds model boot starts course → length course.chips ≤ length starts
+no_more_chips : {W : Type 0} (model : FaultModel W) (boot : Boot) (starts : List (ChipState W)) (course : Course W) → Holds model boot starts course
+    → length course.chips ≤ length starts
 no_more_chips {W} model boot starts course holds = by_order (cases_lt (length starts) (length course.chips))
   where
     by_order : (length starts < length course.chips) ⊎ (length course.chips ≤ length starts) → length course.chips ≤ length starts
-    by_order (inl l) = let c = item_at course.chips (length starts) l in absurd (let below = chips_began model boot starts course holds (length starts) c.0 c.1 in omega (arith, below))
+    by_order (inl l) = let c = item_at course.chips (length starts) l in absurd (let below = chips_began model boot starts course holds (length starts) c.0
+        c.1 in omega (arith, below))
     by_order (inr h) = h
 
 blocks_few : {W : Type 0} (starts : List (ChipState W)) → blocks_of starts ≤ length starts * 4096
@@ -60,7 +64,8 @@ blocks_few {W} starts = sum_by-le (λ (s : ChipState W). s.geometry.blocks) 4096
     small g = (bounds_of g.page g.spare g.pages_per_block g.blocks g.t g.bbt g.threshold g.in_bounds).blocks_high
 
 -- a session that holds a chip has an operation in flight there
-working_by : {W : Type 0} (partitions : Partitions) (c : ChipRun W) (k : Option Known) (p : Option Pending) (by : ℕ) → holder_by k p ≡ Some by → is_working (stage_by partitions c k p) ≡ true
+working_by : {W : Type 0} (partitions : Partitions) (c : ChipRun W) (k : Option Known) (p : Option Pending) (by : ℕ) → holder_by k p ≡ Some by
+    → is_working (stage_by partitions c k p) ≡ true
 working_by partitions c None p by h = cc
 working_by partitions c (Some known) None by h = cc
 working_by partitions c (Some known) (Some pending) by h = refl
@@ -68,7 +73,8 @@ working_by partitions c (Some known) (Some pending) by h = refl
 module _ {F C : Type 0} {flash : Ghosts F} (past : Past F) (bench : Bench F C flash) (on : IsOnCourse past bench) where
   pub few_slots : length bench.slots.items ≤ 8
   few_slots =
-      let kept : length (kept_chips bench) ≡ length (course_of flash.fault_model flash.state past).chips = ap length on.stands.keeps.of_chips ∙ mapped_length (kept_as past.boot.partitions) (course_of flash.fault_model flash.state past).chips in
+      let kept : length (kept_chips bench) ≡ length (course_of flash.fault_model flash.state past).chips = ap length on.stands.keeps.of_chips
+      ∙ mapped_length (kept_as past.boot.partitions) (course_of flash.fault_model flash.state past).chips in
       let all : length (kept_chips bench) ≡ length bench.slots.items = mapped_length kept_slot bench.slots.items in
       let chips = no_more_chips flash.fault_model past.boot (starts_of flash.state past) (course_of flash.fault_model flash.state past) (holds past bench on) in
       omega (arith, kept, all, chips, on.conditions.few)
@@ -76,8 +82,10 @@ module _ {F C : Type 0} {flash : Ghosts F} (past : Past F) (bench : Bench F C fl
   -- the turns of the list
   pub few_turns : length past.turns ≤ 8 * boot_cost past.boot (starts_of flash.state past) + 7 * length past.started
   few_turns =
-      let busy = busy_few flash.fault_model past.boot (starts_of flash.state past) past.attaches past.turns on.conditions.runnable (one_number_each past.boot.sessions on.conditions.ascending) in
-      let same : length (busy_turns flash.fault_model past.boot (starts_of flash.state past) past.turns (course_after flash.fault_model past.boot (starts_of flash.state past) past.attaches [])) ≡ length past.turns =
+      let busy = busy_few flash.fault_model past.boot (starts_of flash.state past) past.attaches past.turns on.conditions.runnable
+      (one_number_each past.boot.sessions on.conditions.ascending) in
+      let same : length (busy_turns flash.fault_model past.boot (starts_of flash.state past) past.turns
+      (course_after flash.fault_model past.boot (starts_of flash.state past) past.attaches [])) ≡ length past.turns =
       ap length on.all_busy in
       let starts : length (starts_of flash.state past) ≡ length past.started = mapped_length flash.state past.started in
       omega (arith, busy, same, starts)
@@ -93,14 +101,29 @@ module _ {F C : Type 0} {flash : Ghosts F} (past : Past F) (bench : Bench F C fl
   -- the events
   pub few_events : bench.events < 2 ^ 32 - 1
   few_events =
-      let events = events_few flash.fault_model past.boot (starts_of flash.state past) past.turns (course_after flash.fault_model past.boot (starts_of flash.state past) past.attaches []) in
-      let same : length (busy_turns flash.fault_model past.boot (starts_of flash.state past) past.turns (course_after flash.fault_model past.boot (starts_of flash.state past) past.attaches [])) ≡ length past.turns =
+      let events = events_few flash.fault_model past.boot (starts_of flash.state past) past.turns
+      (course_after flash.fault_model past.boot (starts_of flash.state past) past.attaches []) in
+      let same : length (busy_turns flash.fault_model past.boot (starts_of flash.state past) past.turns
+      (course_after flash.fault_model past.boot (starts_of flash.state past) past.attaches [])) ≡ length past.turns =
       ap length on.all_busy in
       let starts : length (starts_of flash.state past) ≡ length past.started = mapped_length flash.state past.started in
-      omega (arith, events, same, starts, on.attach_events, few_attaches, few_blocks, few_turns, on.conditions.cheap, on.conditions.few, on.stands.keeps.of_events)
+      omega (
+        arith,
+        events,
+        same,
+        starts,
+        on.attach_events,
+        few_attaches,
+        few_blocks,
+        few_turns,
+        on.conditions.cheap,
+        on.conditions.few,
+        on.stands.keeps.of_events,
+      )
 
   pub attached_there : unattached (course_of flash.fault_model flash.state past) ≡ first_attaching (kept_chips bench)
-  attached_there = unattached_there flash.fault_model past.boot on.conditions.uncut (starts_of flash.state past) (course_of flash.fault_model flash.state past) (kept_chips bench) bench.events bench.notes.notes bench.sessions.items on.stands
+  attached_there = unattached_there flash.fault_model past.boot on.conditions.uncut (starts_of flash.state past)
+      (course_of flash.fault_model flash.state past) (kept_chips bench) bench.events bench.notes.notes bench.sessions.items on.stands
 
   -- a session of the boot is found
   pub place_there : (session : ℕ) → HasSession past.boot session → position (λ (s : Session). number_of s == session) bench.sessions.items ≡ None → ⊥
@@ -115,7 +138,8 @@ module _ {F C : Type 0} {flash : Ghosts F} (past : Past F) (bench : Bench F C fl
       cc (yes, no)
 
   pub at_turn : (session place : ℕ) → unattached (course_of flash.fault_model flash.state past) ≡ None
-      → position (λ (s : Session). number_of s == session) bench.sessions.items ≡ Some place → (place < length bench.sessions.items) × IsAtTurn past session place bench
+      → position (λ (s : Session). number_of s == session) bench.sessions.items ≡ Some place → (place < length bench.sessions.items)
+      × IsAtTurn past session place bench
   at_turn session place attached here =
       let s = position_is (λ (x : Session). number_of x == session) bench.sessions.items place here in (
         slice_get_within bench.sessions.items place s.0 s.1,
@@ -131,9 +155,11 @@ module _ {F C : Type 0} {flash : Ghosts F} (past : Past F) (bench : Bench F C fl
       → option_map (λ (c : KeptChip flash.FaultState). is_working c.stage) (slice_get (kept_chips bench) k) ≡ Some true
   held_works session k h =
       let x = position_is (λ (y : KeptChip flash.FaultState). is_held_by session y.holder) (kept_chips bench) k h in
-      let holder = found_held flash.fault_model past.boot on.conditions.uncut (starts_of flash.state past) (course_of flash.fault_model flash.state past) (kept_chips bench) bench.events bench.notes.notes bench.sessions.items on.stands
+      let holder = found_held flash.fault_model past.boot on.conditions.uncut (starts_of flash.state past) (course_of flash.fault_model flash.state past)
+      (kept_chips bench) bench.events bench.notes.notes bench.sessions.items on.stands
       on.conditions.ascending (holds past bench on) session k x.0 h x.1 in
-      let c = chip_there flash.fault_model past.boot on.conditions.uncut (starts_of flash.state past) (course_of flash.fault_model flash.state past) (kept_chips bench) bench.events bench.notes.notes bench.sessions.items on.stands k x.0 x.1 in
+      let c = chip_there flash.fault_model past.boot on.conditions.uncut (starts_of flash.state past) (course_of flash.fault_model flash.state past)
+      (kept_chips bench) bench.events bench.notes.notes bench.sessions.items on.stands k x.0 x.1 in
       ap (option_map (λ (y : KeptChip flash.FaultState). is_working y.stage)) x.1
       ∙ ap Some (ap (λ (y : KeptChip flash.FaultState). is_working y.stage) (sym c.2)
       ∙ working_by past.boot.partitions c.0 c.0.known c.0.pending session (ap (λ (y : KeptChip flash.FaultState). y.holder) c.2 ∙ holder))
@@ -147,5 +173,6 @@ module _ {F C : Type 0} {flash : Ghosts F} (past : Past F) (bench : Bench F C fl
       (x.0, x.1, here.1, x.2)
 
 -- a search in the slots is one in what is kept of them
-pub held_in_slots : {F C : Type 0} {flash : Ghosts F} (bench : Bench F C flash) (session : ℕ) → position (λ slot. is_held_by session slot.holder) bench.slots.items ≡ first_held_by session (kept_chips bench)
+pub held_in_slots : {F C : Type 0} {flash : Ghosts F} (bench : Bench F C flash) (session : ℕ)
+    → position (λ slot. is_held_by session slot.holder) bench.slots.items ≡ first_held_by session (kept_chips bench)
 held_in_slots bench session = position_kept _ _ kept_slot bench.slots.items (λ k slot h. refl)

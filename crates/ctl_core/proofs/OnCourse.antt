@@ -110,55 +110,71 @@ module _ {F C : Type 0} {flash : Ghosts F} (past : Past F) (bench : Bench F C fl
       → (slice_get (kept_chips bench) k ≡ Some (kept_as past.boot.partitions c)) × (k < length bench.slots.items)
   slot_there k c h =
       let there : slice_get (kept_chips bench) k ≡ Some (kept_as past.boot.partitions c) =
-      ap (λ xs. slice_get xs k) on.stands.keeps.of_chips ∙ at_mapped (kept_as past.boot.partitions) (course_of flash.fault_model flash.state past).chips k c h in
-      (there, (let within : k < length (kept_chips bench) = slice_get_within (kept_chips bench) k (kept_as past.boot.partitions c) there in omega (arith, mapped_length kept_slot bench.slots.items)))
+      ap (λ xs. slice_get xs k) on.stands.keeps.of_chips ∙ at_mapped (kept_as past.boot.partitions) (course_of flash.fault_model flash.state past).chips k c h
+      in (
+        there,
+        (let within : k < length (kept_chips bench) = slice_get_within (kept_chips bench) k (kept_as past.boot.partitions c) there in omega
+            (arith, mapped_length kept_slot bench.slots.items)),
+      )
 
   -- a flip of the boot is one of a chip in a slot
   pub can_flip : All (CanFlip (kept_chips bench)) past.boot.flips
   can_flip k d h =
       let flip : Flip = get_or past.boot.flips k d in
       let start = on.conditions.flips k d h in
-      let stays = chip_stays flash.fault_model past.boot (starts_of flash.state past) (course_of flash.fault_model flash.state past) holds flip.chip start.0 start.1 in
+      let stays = chip_stays flash.fault_model past.boot (starts_of flash.state past) (course_of flash.fault_model flash.state past) holds flip.chip start.0
+      start.1 in
       let there = slot_there flip.chip stays.0 stays.1 in
       (kept_as past.boot.partitions stays.0, there.0, subst (λ g. FitsBits g flip.page flip.bits) (sym stays.2) start.2)
 
   -- a step that does an event
   stands_event : (session k : ℕ) (x y : KeptChip flash.FaultState) (e : PageEvent) (new : Bench F C flash) → first_attaching (kept_chips bench) ≡ None
       → first_held_by session (kept_chips bench) ≡ Some k → slice_get (kept_chips bench) k ≡ Some x → stage_event x.stage ≡ Some e
-      → slice_get (kept_flips_before flash.fault_model past.boot.flips (bench.events + 1) (kept_chips bench)) k ≡ Some y → DidEvent past.boot.flips k y e bench new
+      → slice_get (kept_flips_before flash.fault_model past.boot.flips (bench.events + 1) (kept_chips bench)) k ≡ Some y
+      → DidEvent past.boot.flips k y e bench new
       → StandsAt past (next_course flash.fault_model flash.state past session) new
   stands_event session k x y e new attached held at has flipped did =
       follows_as past.boot (starts_of flash.state past) (next_course flash.fault_model flash.state past session)
-      (change_at (kept_flips_before flash.fault_model past.boot.flips (bench.events + 1) (kept_chips bench)) k (λ z. with_news_told (after_event flash.fault_model e z))) (kept_chips new) (bench.events + 1) new.events
-      (bench.notes.notes ++ failure_notes k (bench.events + 1) e (failure_told flash.fault_model y.state e) ++ news_notes k (after_event flash.fault_model e y).news) new.notes.notes
+      (change_at (kept_flips_before flash.fault_model past.boot.flips (bench.events + 1) (kept_chips bench)) k
+      (λ z. with_news_told (after_event flash.fault_model e z))) (kept_chips new) (bench.events + 1) new.events
+      (bench.notes.notes ++ failure_notes k (bench.events + 1) e (failure_told flash.fault_model y.state e) ++ news_notes k
+      (after_event flash.fault_model e y).news) new.notes.notes
       bench.sessions.items new.sessions.items did.chips did.events did.notes did.sessions
-      (follows_turn_event flash.fault_model past.boot on.conditions.uncut (starts_of flash.state past) (course_of flash.fault_model flash.state past) (kept_chips bench) bench.events bench.notes.notes bench.sessions.items
+      (follows_turn_event flash.fault_model past.boot on.conditions.uncut (starts_of flash.state past) (course_of flash.fault_model flash.state past)
+      (kept_chips bench) bench.events bench.notes.notes bench.sessions.items
       on.stands session k x y e attached held at has flipped)
 
   pub stands_now : (session k : ℕ) (x : KeptChip flash.FaultState) (e : PageEvent) (new : Bench F C flash) → first_attaching (kept_chips bench) ≡ None
-      → first_held_by session (kept_chips bench) ≡ Some k → slice_get (kept_chips bench) k ≡ Some x → stage_event x.stage ≡ Some e → (flips : List Flip) → flips ≡ past.boot.flips
-      → ((y : KeptChip flash.FaultState) (e : PageEvent) → slice_get (kept_flips_before flash.fault_model flips (bench.events + 1) (kept_chips bench)) k ≡ Some y → stage_event y.stage ≡ Some e
+      → first_held_by session (kept_chips bench) ≡ Some k → slice_get (kept_chips bench) k ≡ Some x → stage_event x.stage ≡ Some e → (flips : List Flip)
+      → flips ≡ past.boot.flips
+      → ((y : KeptChip flash.FaultState) (e : PageEvent) → slice_get (kept_flips_before flash.fault_model flips (bench.events + 1) (kept_chips bench)) k
+      ≡ Some y → stage_event y.stage ≡ Some e
       → DidEvent flips k y e bench new)
       → StandsAt past (next_course flash.fault_model flash.state past session) new
   stands_now session k x e new attached held at has flips same did =
       let flipped = flipped_at flash.fault_model past.boot.flips (bench.events + 1) (kept_chips bench) k x at in
-      let now = subst (λ fs. (y : KeptChip flash.FaultState) (e : PageEvent) → slice_get (kept_flips_before flash.fault_model fs (bench.events + 1) (kept_chips bench)) k ≡ Some y
+      let now = subst (λ fs. (y : KeptChip flash.FaultState) (e : PageEvent) → slice_get
+      (kept_flips_before flash.fault_model fs (bench.events + 1) (kept_chips bench)) k ≡ Some y
       → stage_event y.stage ≡ Some e → DidEvent fs k y e bench new) same did in
       stands_event session k x flipped.0 e new attached held at has flipped.1 (now flipped.0 e flipped.1 (ap stage_event flipped.2.stage ∙ has))
 
   -- a bench that differs in its room stands where it stood
   pub stands_alike : (course : Course flash.FaultState) (new : Bench F C flash) → StandsAt past course bench → StandsAlike bench new → StandsAt past course new
   stands_alike course new stands alike =
-      follows_as past.boot (starts_of flash.state past) course (kept_chips bench) (kept_chips new) bench.events new.events bench.notes.notes new.notes.notes bench.sessions.items new.sessions.items
+      follows_as past.boot (starts_of flash.state past) course (kept_chips bench) (kept_chips new) bench.events new.events bench.notes.notes new.notes.notes
+      bench.sessions.items new.sessions.items
       alike.chips alike.events alike.notes alike.sessions stands
 
   -- a session that holds a chip has commands left
-  pub held_not_done : (session k : ℕ) → first_held_by session (kept_chips bench) ≡ Some k → is_done (course_of flash.fault_model flash.state past) session ≡ false
+  pub held_not_done : (session k : ℕ) → first_held_by session (kept_chips bench) ≡ Some k → is_done (course_of flash.fault_model flash.state past) session
+      ≡ false
   held_not_done session k h =
       let x = position_is (λ (y : KeptChip flash.FaultState). is_held_by session y.holder) (kept_chips bench) k h in
-      let holder = found_held flash.fault_model past.boot on.conditions.uncut (starts_of flash.state past) (course_of flash.fault_model flash.state past) (kept_chips bench) bench.events bench.notes.notes bench.sessions.items on.stands
+      let holder = found_held flash.fault_model past.boot on.conditions.uncut (starts_of flash.state past) (course_of flash.fault_model flash.state past)
+      (kept_chips bench) bench.events bench.notes.notes bench.sessions.items on.stands
       on.conditions.ascending holds session k x.0 h x.1 in
-      let n = held_next flash.fault_model past.boot on.conditions.uncut (starts_of flash.state past) (course_of flash.fault_model flash.state past) (kept_chips bench) bench.events bench.notes.notes bench.sessions.items on.stands
+      let n = held_next flash.fault_model past.boot on.conditions.uncut (starts_of flash.state past) (course_of flash.fault_model flash.state past)
+      (kept_chips bench) bench.events bench.notes.notes bench.sessions.items on.stands
       on.conditions.ascending holds k session x.0 x.1 holder in
       ap has_no_command n.2 ∙ asks_on n.0.replies n.1 n.0.commands n.3
     where
@@ -177,25 +193,30 @@ module _ {F C : Type 0} {flash : Ghosts F} (past : Past F) (bench : Bench F C fl
 
   module _ (s : Session) (at : slice_get bench.sessions.items place ≡ Some s) (number : number_of s ≡ session) where
     pub own_place : Placed (sizes_in flash.state past) past.boot.sessions bench.notes.notes (course_of flash.fault_model flash.state past).sessions place s
-    own_place = placed (sizes_in flash.state past) past.boot.sessions bench.notes.notes bench.sessions.items (course_of flash.fault_model flash.state past).sessions turn.on_course.stands.mirrors place s at
+    own_place = placed (sizes_in flash.state past) past.boot.sessions bench.notes.notes bench.sessions.items
+        (course_of flash.fault_model flash.state past).sessions turn.on_course.stands.mirrors place s at
 
     pub run_found : session_run (course_of flash.fault_model flash.state past) session ≡ Some own_place.run
     run_found = ap (session_run (course_of flash.fault_model flash.state past)) (sym number)
-        ∙ found (sizes_in flash.state past) past.boot.sessions bench.notes.notes bench.sessions.items (course_of flash.fault_model flash.state past).sessions turn.on_course.stands.mirrors
+        ∙ found (sizes_in flash.state past) past.boot.sessions bench.notes.notes bench.sessions.items (course_of flash.fault_model flash.state past).sessions
+        turn.on_course.stands.mirrors
         turn.on_course.conditions.ascending place s own_place.run at own_place.run_at
 
     -- the commands that are handed to the session are its own
     pub own_commands : (commands : List Command) → commands_at past.boot place ≡ Some commands → own_place.own.1 ≡ commands
-    own_commands commands h = let own : commands_at past.boot place ≡ Some own_place.own.1 = ap (option_map (λ (x : ℕ × List Command). x.1)) own_place.begun_at in cc (own, h)
+    own_commands commands h = let own : commands_at past.boot place ≡ Some own_place.own.1 = ap (option_map (λ (x : ℕ × List Command). x.1))
+        own_place.begun_at in cc (own, h)
 
-    pub run_left : (commands : List Command) → commands_at past.boot place ≡ Some commands → own_place.run.commands ≡ commands_by commands (standing bench.notes.notes s)
+    pub run_left : (commands : List Command) → commands_at past.boot place ≡ Some commands → own_place.run.commands
+        ≡ commands_by commands (standing bench.notes.notes s)
     run_left commands h = own_place.mirrors.shows.left ∙ ap (λ cs. commands_by cs (standing bench.notes.notes s)) (own_commands commands h)
 
     -- the first command that is not finished
     pub record FirstLeft (command : Command) : Type 0 where
       pub rest : List Command
       pub left : own_place.run.commands ≡ command ∷ rest
-      pub is_ready : Ready flash.fault_model past.boot (starts_of flash.state past) (course_of flash.fault_model flash.state past) (holds past bench turn.on_course) command
+      pub is_ready : Ready flash.fault_model past.boot (starts_of flash.state past) (course_of flash.fault_model flash.state past)
+          (holds past bench turn.on_course) command
       pub op : Op
       pub next : next_op (sizes_in flash.state past) (session_run (course_of flash.fault_model flash.state past) session) ≡ Some op
       pub device : device_of op ≡ command_device command
@@ -207,12 +228,15 @@ module _ {F C : Type 0} {flash : Ghosts F} (past : Past F) (bench : Bench F C fl
         let f = first_of_list own_place.run.commands command h in
         let own_at : slice_get own_place.own.1 (length (outcomes_by (standing bench.notes.notes s))) ≡ Some command =
         first_at (length (outcomes_by (standing bench.notes.notes s))) own_place.own.1 command f.0 (sym own_place.mirrors.shows.left ∙ f.1) in
-        let r = ready flash.fault_model past.boot (starts_of flash.state past) (course_of flash.fault_model flash.state past) (holds past bench turn.on_course) turn.on_course.conditions
+        let r = ready flash.fault_model past.boot (starts_of flash.state past) (course_of flash.fault_model flash.state past)
+        (holds past bench turn.on_course) turn.on_course.conditions
         place (length (outcomes_by (standing bench.notes.notes s))) own_place.own command own_place.begun_at own_at in
         let o = next_of (sizes_in flash.state past) own_place.own.1 bench.notes.notes s own_place.run own_place.mirrors command f.0 f.1 r.can in
-        let all = drop_all (λ c. CanRun (sizes_in flash.state past c) c) (length (outcomes_by (standing bench.notes.notes s))) own_place.own.1 own_place.mirrors.runnable in
+        let all = drop_all (λ c. CanRun (sizes_in flash.state past c) c) (length (outcomes_by (standing bench.notes.notes s))) own_place.own.1
+        own_place.mirrors.runnable in
         let taken = subst (First (λ c. (device_of o.0 ≡ command_device c) × IsTaken (sizes_in flash.state past c) o.0)) f.1
-        (next_taken (sizes_in flash.state past) own_place.run o.0 (subst (All (λ c. CanRun (sizes_in flash.state past c) c)) (sym own_place.mirrors.shows.left) all) o.1) in
+        (next_taken (sizes_in flash.state past) own_place.run o.0 (subst (All (λ c. CanRun (sizes_in flash.state past c) c))
+        (sym own_place.mirrors.shows.left) all) o.1) in
         record {
           rest = f.0;
           left = f.1;
@@ -225,13 +249,15 @@ module _ {F C : Type 0} {flash : Ghosts F} (past : Past F) (bench : Bench F C fl
         }
 
     -- the chip of the next operation, by the command that comes next
-    pub chip_next : (command : Command) (first : FirstLeft command) → Some first.is_ready.part.chip ≡ next_chip past.boot.partitions (sizes_in flash.state past) (course_of flash.fault_model flash.state past) session
+    pub chip_next : (command : Command) (first : FirstLeft command) → Some first.is_ready.part.chip
+        ≡ next_chip past.boot.partitions (sizes_in flash.state past) (course_of flash.fault_model flash.state past) session
     chip_next command first = sym (ap (option_and_then (λ (op : Op). chip_of past.boot.partitions (device_of op))) first.next ∙ first.chip)
 
     pub not_done : (command : Command) (first : FirstLeft command) → false ≡ is_done (course_of flash.fault_model flash.state past) session
     not_done command first = sym (ap has_no_command run_found ∙ ap is_finished first.left)
 
-    pub done_where_none : own_place.run.commands ≡ [] → (next_chip past.boot.partitions (sizes_in flash.state past) (course_of flash.fault_model flash.state past) session ≡ None)
+    pub done_where_none : own_place.run.commands ≡ [] → (next_chip past.boot.partitions (sizes_in flash.state past)
+        (course_of flash.fault_model flash.state past) session ≡ None)
         × (is_done (course_of flash.fault_model flash.state past) session ≡ true)
     done_where_none h =
         let none : next_op (sizes_in flash.state past) (session_run (course_of flash.fault_model flash.state past) session) ≡ None =
@@ -256,7 +282,8 @@ module _ {F C : Type 0} {flash : Ghosts F} (past : Past F) (bench : Bench F C fl
         → (next_chip past.boot.partitions (sizes_in flash.state past) (course_of flash.fault_model flash.state past) session ≡ None)
         × (is_done (course_of flash.fault_model flash.state past) session ≡ true)
     none_next commands lent h copied none = done_where_none
-        (no_first own_place.run.commands (none_lent lent (slice_get own_place.run.commands 0) (copied ∙ ap (λ cs. slice_get cs 0) (sym (run_left commands h))) none))
+        (no_first own_place.run.commands (none_lent lent (slice_get own_place.run.commands 0) (copied ∙ ap (λ cs. slice_get cs 0) (sym (run_left commands h)))
+        none))
 
     pub some_next : (commands : List Command) (lent : Option (Bor Command)) (command : Bor Command) → commands_at past.boot place ≡ Some commands
         → option_copied lent ≡ slice_get (commands_by commands (standing bench.notes.notes s)) 0 → lent ≡ Some command → FirstLeft command.now
@@ -264,77 +291,99 @@ module _ {F C : Type 0} {flash : Ghosts F} (past : Past F) (bench : Bench F C fl
         (some_lent lent (slice_get own_place.run.commands 0) command (copied ∙ ap (λ cs. slice_get cs 0) (sym (run_left commands h))) some)
 
     -- the part of its device, as it is lent
-    pub part_next : (command : Command) (first : FirstLeft command) (partitions : Partitions) (dev : ℕ) (lent : Option (Bor Part)) → partitions ≡ past.boot.partitions → dev ≡ command_device command
+    pub part_next : (command : Command) (first : FirstLeft command) (partitions : Partitions) (dev : ℕ) (lent : Option (Bor Part)) → partitions
+        ≡ past.boot.partitions → dev ≡ command_device command
         → option_copied lent ≡ part_of partitions dev → option_copied lent ≡ Some first.is_ready.part
     part_next command first partitions dev lent p d copied = copied ∙ (λ i. part_of (p i) (d i)) ∙ first.is_ready.part_is
 
   -- the answers of a turn
   pub answers_done : is_done (course_of flash.fault_model flash.state past) session ≡ true
       → Done ≡ turn_answer past.boot.partitions (sizes_in flash.state past) (course_of flash.fault_model flash.state past) session
-  answers_done h = sym (ap (λ b. done_or b (held_or_did (held_by past.boot.partitions (sizes_in flash.state past) (course_of flash.fault_model flash.state past) session))) h)
+  answers_done h = sym (ap (λ b. done_or b (held_or_did (held_by past.boot.partitions (sizes_in flash.state past)
+      (course_of flash.fault_model flash.state past) session))) h)
 
-  answers_else : (p : Option ℕ) (k : Option ℕ) → is_done (course_of flash.fault_model flash.state past) session ≡ false → pending_chip (course_of flash.fault_model flash.state past) session ≡ p
+  answers_else : (p : Option ℕ) (k : Option ℕ) → is_done (course_of flash.fault_model flash.state past) session ≡ false
+      → pending_chip (course_of flash.fault_model flash.state past) session ≡ p
       → next_chip past.boot.partitions (sizes_in flash.state past) (course_of flash.fault_model flash.state past) session ≡ k
-      → held_or_did (held_unless_pending (course_of flash.fault_model flash.state past) p k) ≡ turn_answer past.boot.partitions (sizes_in flash.state past) (course_of flash.fault_model flash.state past) session
+      → held_or_did (held_unless_pending (course_of flash.fault_model flash.state past) p k)
+      ≡ turn_answer past.boot.partitions (sizes_in flash.state past) (course_of flash.fault_model flash.state past) session
   answers_else p k h i j = sym ((λ d. done_or (h d) (held_or_did (held_unless_pending (course_of flash.fault_model flash.state past) (i d) (j d)))))
 
   pending_is_none : first_held_by session (kept_chips bench) ≡ None → pending_chip (course_of flash.fault_model flash.state past) session ≡ None
-  pending_is_none h = pending_there flash.fault_model past.boot turn.on_course.conditions.uncut (starts_of flash.state past) (course_of flash.fault_model flash.state past) (kept_chips bench) bench.events bench.notes.notes bench.sessions.items
+  pending_is_none h = pending_there flash.fault_model past.boot turn.on_course.conditions.uncut (starts_of flash.state past)
+      (course_of flash.fault_model flash.state past) (kept_chips bench) bench.events bench.notes.notes bench.sessions.items
       turn.on_course.stands session turn.attached ∙ h
 
   pub answers_did_pending : (k : ℕ) → is_done (course_of flash.fault_model flash.state past) session ≡ false → first_held_by session (kept_chips bench) ≡ Some k
       → Did ≡ turn_answer past.boot.partitions (sizes_in flash.state past) (course_of flash.fault_model flash.state past) session
-  answers_did_pending k h i = answers_else (Some k) (next_chip past.boot.partitions (sizes_in flash.state past) (course_of flash.fault_model flash.state past) session) h
-      (pending_there flash.fault_model past.boot turn.on_course.conditions.uncut (starts_of flash.state past) (course_of flash.fault_model flash.state past) (kept_chips bench) bench.events bench.notes.notes bench.sessions.items
+  answers_did_pending k h i = answers_else (Some k) (next_chip past.boot.partitions (sizes_in flash.state past) (course_of flash.fault_model flash.state past)
+      session) h
+      (pending_there flash.fault_model past.boot turn.on_course.conditions.uncut (starts_of flash.state past) (course_of flash.fault_model flash.state past)
+      (kept_chips bench) bench.events bench.notes.notes bench.sessions.items
       turn.on_course.stands session turn.attached ∙ i) refl
 
   -- a chip in a slot, as the course has it
   chip_of_slot : (k : ℕ) (slot : Slot F C flash) → slice_get bench.slots.items k ≡ Some slot
-      → (c : ChipRun flash.FaultState) × (slice_get (course_of flash.fault_model flash.state past).chips k ≡ Some c) × (kept_as past.boot.partitions c ≡ kept_slot slot)
-  chip_of_slot k slot h = chip_there flash.fault_model past.boot turn.on_course.conditions.uncut (starts_of flash.state past) (course_of flash.fault_model flash.state past) (kept_chips bench) bench.events bench.notes.notes bench.sessions.items
+      → (c : ChipRun flash.FaultState) × (slice_get (course_of flash.fault_model flash.state past).chips k ≡ Some c)
+      × (kept_as past.boot.partitions c ≡ kept_slot slot)
+  chip_of_slot k slot h = chip_there flash.fault_model past.boot turn.on_course.conditions.uncut (starts_of flash.state past)
+      (course_of flash.fault_model flash.state past) (kept_chips bench) bench.events bench.notes.notes bench.sessions.items
       turn.on_course.stands k (kept_slot slot) (at_mapped kept_slot bench.slots.items k slot h)
 
   idle_where_blocked : first_held_by session (kept_chips bench) ≡ None
-      → can_begin past.boot.partitions (course_of flash.fault_model flash.state past) (next_op (sizes_in flash.state past) (session_run (course_of flash.fault_model flash.state past) session)) ≡ false
+      → can_begin past.boot.partitions (course_of flash.fault_model flash.state past) (next_op (sizes_in flash.state past)
+      (session_run (course_of flash.fault_model flash.state past) session)) ≡ false
       → is_idle past.boot.partitions (sizes_in flash.state past) (course_of flash.fault_model flash.state past) session ≡ true
   idle_where_blocked i blocked =
-      let attached = unattached_there flash.fault_model past.boot turn.on_course.conditions.uncut (starts_of flash.state past) (course_of flash.fault_model flash.state past) (kept_chips bench) bench.events bench.notes.notes bench.sessions.items
+      let attached = unattached_there flash.fault_model past.boot turn.on_course.conditions.uncut (starts_of flash.state past)
+      (course_of flash.fault_model flash.state past) (kept_chips bench) bench.events bench.notes.notes bench.sessions.items
       turn.on_course.stands ∙ turn.attached in
-      idle_else flash.fault_model past.boot (sizes_in flash.state past) (course_of flash.fault_model flash.state past) session turn.on_course.stands.keeps.lit attached (pending_is_none i) blocked
+      idle_else flash.fault_model past.boot (sizes_in flash.state past) (course_of flash.fault_model flash.state past) session turn.on_course.stands.keeps.lit
+      attached (pending_is_none i) blocked
 
-  pub busy_pending : (k : ℕ) → first_held_by session (kept_chips bench) ≡ Some k → is_idle past.boot.partitions (sizes_in flash.state past) (course_of flash.fault_model flash.state past) session ≡ false
+  pub busy_pending : (k : ℕ) → first_held_by session (kept_chips bench) ≡ Some k → is_idle past.boot.partitions (sizes_in flash.state past)
+      (course_of flash.fault_model flash.state past) session ≡ false
   busy_pending k h =
-      let attached = unattached_there flash.fault_model past.boot turn.on_course.conditions.uncut (starts_of flash.state past) (course_of flash.fault_model flash.state past) (kept_chips bench) bench.events bench.notes.notes bench.sessions.items
+      let attached = unattached_there flash.fault_model past.boot turn.on_course.conditions.uncut (starts_of flash.state past)
+      (course_of flash.fault_model flash.state past) (kept_chips bench) bench.events bench.notes.notes bench.sessions.items
       turn.on_course.stands ∙ turn.attached in
-      busy_where_pending flash.fault_model past.boot (sizes_in flash.state past) (course_of flash.fault_model flash.state past) session turn.on_course.stands.keeps.lit attached k
-      (pending_there flash.fault_model past.boot turn.on_course.conditions.uncut (starts_of flash.state past) (course_of flash.fault_model flash.state past) (kept_chips bench) bench.events bench.notes.notes bench.sessions.items
+      busy_where_pending flash.fault_model past.boot (sizes_in flash.state past) (course_of flash.fault_model flash.state past) session
+      turn.on_course.stands.keeps.lit attached k
+      (pending_there flash.fault_model past.boot turn.on_course.conditions.uncut (starts_of flash.state past) (course_of flash.fault_model flash.state past)
+      (kept_chips bench) bench.events bench.notes.notes bench.sessions.items
       turn.on_course.stands session turn.attached ∙ h)
 
   -- nothing is done where the next operation cannot begin
   stays_where_blocked : first_held_by session (kept_chips bench) ≡ None
-      → can_begin past.boot.partitions (course_of flash.fault_model flash.state past) (next_op (sizes_in flash.state past) (session_run (course_of flash.fault_model flash.state past) session)) ≡ false
+      → can_begin past.boot.partitions (course_of flash.fault_model flash.state past) (next_op (sizes_in flash.state past)
+      (session_run (course_of flash.fault_model flash.state past) session)) ≡ false
       → next_course flash.fault_model flash.state past session ≡ course_of flash.fault_model flash.state past
   stays_where_blocked i blocked = turn_is_idle_by (idle_where_blocked i blocked)
     where
       turn_is_idle_by : is_idle past.boot.partitions (sizes_in flash.state past) (course_of flash.fault_model flash.state past) session ≡ true
           → next_course flash.fault_model flash.state past session ≡ course_of flash.fault_model flash.state past
       turn_is_idle_by h =
-          let attached = unattached_there flash.fault_model past.boot turn.on_course.conditions.uncut (starts_of flash.state past) (course_of flash.fault_model flash.state past) (kept_chips bench) bench.events bench.notes.notes bench.sessions.items
+          let attached = unattached_there flash.fault_model past.boot turn.on_course.conditions.uncut (starts_of flash.state past)
+          (course_of flash.fault_model flash.state past) (kept_chips bench) bench.events bench.notes.notes bench.sessions.items
           turn.on_course.stands ∙ turn.attached in
-          turn_is_idle flash.fault_model past.boot (sizes_in flash.state past) (course_of flash.fault_model flash.state past) session turn.on_course.stands.keeps.lit attached h
+          turn_is_idle flash.fault_model past.boot (sizes_in flash.state past) (course_of flash.fault_model flash.state past) session
+          turn.on_course.stands.keeps.lit attached h
 
   -- a chip that no session holds is at rest
   pub rests_here : (k : ℕ) (slot : Slot F C flash) → slice_get bench.slots.items k ≡ Some slot → slot.holder ≡ None → is_resting (chip_stage slot.chip) ≡ true
   rests_here k slot at holder =
       let c = chip_of_slot k slot at in
-      let attached = unattached_there flash.fault_model past.boot turn.on_course.conditions.uncut (starts_of flash.state past) (course_of flash.fault_model flash.state past) (kept_chips bench) bench.events bench.notes.notes bench.sessions.items
+      let attached = unattached_there flash.fault_model past.boot turn.on_course.conditions.uncut (starts_of flash.state past)
+      (course_of flash.fault_model flash.state past) (kept_chips bench) bench.events bench.notes.notes bench.sessions.items
       turn.on_course.stands ∙ turn.attached in
       let known = position_none (λ (d : ChipRun flash.FaultState). is_none d.known) (course_of flash.fault_model flash.state past).chips attached k c.0 c.1 in
       let r = resting past.boot.partitions c.0 known (ap (λ (y : KeptChip flash.FaultState). y.holder) c.2 ∙ holder) in
       ap (λ (y : KeptChip flash.FaultState). is_resting y.stage) (sym c.2) ∙ (λ d. is_resting (stage_by past.boot.partitions c.0 (r.1 d) (r.2 d)))
 
-  pub answers_held : (k by : ℕ) (slot : Slot F C flash) → is_done (course_of flash.fault_model flash.state past) session ≡ false → first_held_by session (kept_chips bench) ≡ None
-      → next_chip past.boot.partitions (sizes_in flash.state past) (course_of flash.fault_model flash.state past) session ≡ Some k → slice_get bench.slots.items k ≡ Some slot → slot.holder ≡ Some by
+  pub answers_held : (k by : ℕ) (slot : Slot F C flash) → is_done (course_of flash.fault_model flash.state past) session ≡ false
+      → first_held_by session (kept_chips bench) ≡ None
+      → next_chip past.boot.partitions (sizes_in flash.state past) (course_of flash.fault_model flash.state past) session ≡ Some k
+      → slice_get bench.slots.items k ≡ Some slot → slot.holder ≡ Some by
       → (Held by ≡ turn_answer past.boot.partitions (sizes_in flash.state past) (course_of flash.fault_model flash.state past) session)
       × (next_course flash.fault_model flash.state past session ≡ course_of flash.fault_model flash.state past)
       × (is_idle past.boot.partitions (sizes_in flash.state past) (course_of flash.fault_model flash.state past) session ≡ true)
@@ -342,28 +391,38 @@ module _ {F C : Type 0} {flash : Ghosts F} (past : Past F) (bench : Bench F C fl
       let c = chip_of_slot k slot at in
       let p = holding past.boot.partitions c.0 by (ap (λ (y : KeptChip flash.FaultState). y.holder) c.2 ∙ holder) in
       let found : session_at (course_of flash.fault_model flash.state past) (Some k) ≡ Some by = ap session_on c.1 ∙ ap session_of p.1 ∙ ap Some p.2 in
-      let op = and_then_some (λ (op : Op). chip_of past.boot.partitions (device_of op)) (next_op (sizes_in flash.state past) (session_run (course_of flash.fault_model flash.state past) session)) k j in
-      let blocked : can_begin past.boot.partitions (course_of flash.fault_model flash.state past) (next_op (sizes_in flash.state past) (session_run (course_of flash.fault_model flash.state past) session)) ≡ false =
-      ap (can_begin past.boot.partitions (course_of flash.fault_model flash.state past)) op.1 ∙ ap (is_free_at (course_of flash.fault_model flash.state past)) op.2 ∙ ap is_free c.1 ∙ ap (λ (q : Option Pending). is_none q) p.1 in
+      let op = and_then_some (λ (op : Op). chip_of past.boot.partitions (device_of op))
+      (next_op (sizes_in flash.state past) (session_run (course_of flash.fault_model flash.state past) session)) k j in
+      let blocked : can_begin past.boot.partitions (course_of flash.fault_model flash.state past)
+      (next_op (sizes_in flash.state past) (session_run (course_of flash.fault_model flash.state past) session)) ≡ false =
+      ap (can_begin past.boot.partitions (course_of flash.fault_model flash.state past)) op.1
+      ∙ ap (is_free_at (course_of flash.fault_model flash.state past)) op.2 ∙ ap is_free c.1 ∙ ap (λ (q : Option Pending). is_none q) p.1 in
       (ap held_or_did (sym found) ∙ answers_else None (Some k) h (pending_is_none i) j, stays_where_blocked i blocked, idle_where_blocked i blocked)
 
   -- a session that holds no chip begins on a free chip
-  pub answers_did_begin : (k : ℕ) (slot : Slot F C flash) → is_done (course_of flash.fault_model flash.state past) session ≡ false → first_held_by session (kept_chips bench) ≡ None
-      → next_chip past.boot.partitions (sizes_in flash.state past) (course_of flash.fault_model flash.state past) session ≡ Some k → slice_get bench.slots.items k ≡ Some slot → slot.holder ≡ None
+  pub answers_did_begin : (k : ℕ) (slot : Slot F C flash) → is_done (course_of flash.fault_model flash.state past) session ≡ false
+      → first_held_by session (kept_chips bench) ≡ None
+      → next_chip past.boot.partitions (sizes_in flash.state past) (course_of flash.fault_model flash.state past) session ≡ Some k
+      → slice_get bench.slots.items k ≡ Some slot → slot.holder ≡ None
       → (Did ≡ turn_answer past.boot.partitions (sizes_in flash.state past) (course_of flash.fault_model flash.state past) session)
       × (is_idle past.boot.partitions (sizes_in flash.state past) (course_of flash.fault_model flash.state past) session ≡ false)
   answers_did_begin k slot h i j at holder =
       let c = chip_of_slot k slot at in
-      let attached = unattached_there flash.fault_model past.boot turn.on_course.conditions.uncut (starts_of flash.state past) (course_of flash.fault_model flash.state past) (kept_chips bench) bench.events bench.notes.notes bench.sessions.items
+      let attached = unattached_there flash.fault_model past.boot turn.on_course.conditions.uncut (starts_of flash.state past)
+      (course_of flash.fault_model flash.state past) (kept_chips bench) bench.events bench.notes.notes bench.sessions.items
       turn.on_course.stands ∙ turn.attached in
       let known = position_none (λ (d : ChipRun flash.FaultState). is_none d.known) (course_of flash.fault_model flash.state past).chips attached k c.0 c.1 in
       let r = resting past.boot.partitions c.0 known (ap (λ (y : KeptChip flash.FaultState). y.holder) c.2 ∙ holder) in
       let found : session_at (course_of flash.fault_model flash.state past) (Some k) ≡ None = ap session_on c.1 ∙ ap session_of r.2 in
-      let op = and_then_some (λ (op : Op). chip_of past.boot.partitions (device_of op)) (next_op (sizes_in flash.state past) (session_run (course_of flash.fault_model flash.state past) session)) k j in
-      let begins : can_begin past.boot.partitions (course_of flash.fault_model flash.state past) (next_op (sizes_in flash.state past) (session_run (course_of flash.fault_model flash.state past) session)) ≡ true =
-      ap (can_begin past.boot.partitions (course_of flash.fault_model flash.state past)) op.1 ∙ ap (is_free_at (course_of flash.fault_model flash.state past)) op.2 ∙ ap is_free c.1 ∙ ap (λ (q : Option Pending). is_none q) r.2 in (
+      let op = and_then_some (λ (op : Op). chip_of past.boot.partitions (device_of op))
+      (next_op (sizes_in flash.state past) (session_run (course_of flash.fault_model flash.state past) session)) k j in
+      let begins : can_begin past.boot.partitions (course_of flash.fault_model flash.state past)
+      (next_op (sizes_in flash.state past) (session_run (course_of flash.fault_model flash.state past) session)) ≡ true =
+      ap (can_begin past.boot.partitions (course_of flash.fault_model flash.state past)) op.1
+      ∙ ap (is_free_at (course_of flash.fault_model flash.state past)) op.2 ∙ ap is_free c.1 ∙ ap (λ (q : Option Pending). is_none q) r.2 in (
         ap held_or_did (sym found) ∙ answers_else None (Some k) h (pending_is_none i) j,
-        busy_where_begins flash.fault_model past.boot (sizes_in flash.state past) (course_of flash.fault_model flash.state past) session turn.on_course.stands.keeps.lit attached begins,
+        busy_where_begins flash.fault_model past.boot (sizes_in flash.state past) (course_of flash.fault_model flash.state past) session
+            turn.on_course.stands.keeps.lit attached begins,
       )
 
   -- nothing is done where no command is left
@@ -374,10 +433,12 @@ module _ {F C : Type 0} {flash : Ghosts F} (past : Past F) (bench : Bench F C fl
       let blocked = blocked_by (session_run (course_of flash.fault_model flash.state past) session) h in
       (stays_where_blocked i blocked, idle_where_blocked i blocked)
     where
-      by_commands : (run : SessionRun) (cs : List Command) → is_finished cs ≡ true → can_begin past.boot.partitions (course_of flash.fault_model flash.state past) (next_op_of (sizes_in flash.state past) cs run.replies) ≡ false
+      by_commands : (run : SessionRun) (cs : List Command) → is_finished cs ≡ true → can_begin past.boot.partitions
+          (course_of flash.fault_model flash.state past) (next_op_of (sizes_in flash.state past) cs run.replies) ≡ false
       by_commands run [] e = refl
       by_commands run (command ∷ rest) e = cc
 
-      blocked_by : (o : Option SessionRun) → has_no_command o ≡ true → can_begin past.boot.partitions (course_of flash.fault_model flash.state past) (next_op (sizes_in flash.state past) o) ≡ false
+      blocked_by : (o : Option SessionRun) → has_no_command o ≡ true → can_begin past.boot.partitions (course_of flash.fault_model flash.state past)
+          (next_op (sizes_in flash.state past) o) ≡ false
       blocked_by None e = refl
       blocked_by (Some run) e = by_commands run run.commands e

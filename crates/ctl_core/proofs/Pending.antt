@@ -17,7 +17,8 @@ module _ {W : Type 0} (model : FaultModel W) (boot : Boot) (starts : List (ChipS
   asked_here k session c pending at h same = ap asked_on at ∙ ap asked_by h ∙ ap (λ n. Some (n, pending.op)) same
 
   -- the pending operation of a session is its next one
-  pub pending_is_next : Holds model boot starts course → HaveOneNumberEach boot.sessions → (k session : ℕ) (c : ChipRun W) (pending : Pending) → slice_get course.chips k ≡ Some c
+  pub pending_is_next : Holds model boot starts course → HaveOneNumberEach boot.sessions → (k session : ℕ) (c : ChipRun W) (pending : Pending)
+      → slice_get course.chips k ≡ Some c
       → c.pending ≡ Some pending → pending.session ≡ session
       → (s : SessionRun) × (session_run course session ≡ Some s) × (next_op_of (sizes_of boot starts) s.commands s.replies ≡ Some pending.op)
   pending_is_next holds numbers k session c pending at h same =
@@ -29,7 +30,8 @@ module _ {W : Type 0} (model : FaultModel W) (boot : Boot) (starts : List (ChipS
       (follow.run, follow.found, follow.next pending.op asks)
 
   -- a session has a pending operation on one chip alone
-  pub pending_once : Holds model boot starts course → (j k session : ℕ) (c d : ChipRun W) (one other : Pending) → slice_get course.chips j ≡ Some c → c.pending ≡ Some one → one.session ≡ session
+  pub pending_once : Holds model boot starts course → (j k session : ℕ) (c d : ChipRun W) (one other : Pending) → slice_get course.chips j ≡ Some c
+      → c.pending ≡ Some one → one.session ≡ session
       → slice_get course.chips k ≡ Some d → d.pending ≡ Some other → other.session ≡ session → j ≡ k
   pending_once holds j k session c d one other at h same there i also =
       let law = (live holds).sessions session in

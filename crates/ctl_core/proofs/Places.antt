@@ -39,7 +39,8 @@ pub found_only : {A : Type 0} (test : A → Bool) (xs : List A) (i : ℕ) (x : A
     → ((j : ℕ) (y : A) → slice_get xs j ≡ Some y → test y ≡ true → j ≡ i) → find test xs ≡ Some x
 found_only test [] i x h t only = cc
 found_only test (y ∷ ys) zero x h t only = let same : y ≡ x = cc in cond-true _ _ _ (ap test same ∙ t) ∙ ap Some same
-found_only {A} test (y ∷ ys) (suc i) x h t only = by_test (test y) refl (found_only test ys i x h t (λ j z e s. let k : suc j ≡ suc i = only (suc j) z e s in omega arith))
+found_only {A} test (y ∷ ys) (suc i) x h t only = by_test (test y) refl (found_only test ys i x h t
+    (λ j z e s. let k : suc j ≡ suc i = only (suc j) z e s in omega arith))
   where
     by_test : (b : Bool) → test y ≡ b → find test ys ≡ Some x → find test (y ∷ ys) ≡ Some x
     by_test true e later = absurd (let k : zero ≡ suc i = only zero y refl e in omega arith)
@@ -55,7 +56,8 @@ changed_at {A} xs k j f y h = by_case (cases_eq k j)
     here (Some x) e g = let some : slice_get (change_at xs k f) k ≡ Some (f x) = rw change_here (rw e refl) in (x, e, cc)
 
     by_case : (k ≡ j) ⊎ (k ≡ j → ⊥) → ((x : A) × (k ≡ j) × (slice_get xs k ≡ Some x) × (y ≡ f x)) ⊎ ((k ≡ j → ⊥) × (slice_get xs j ≡ Some y))
-    by_case (inl e) = let found = here (slice_get xs k) refl (subst (λ n. slice_get (change_at xs k f) n ≡ Some y) (sym e) h) in inl (found.0, e, found.1, found.2)
+    by_case (inl e) = let found = here (slice_get xs k) refl (subst (λ n. slice_get (change_at xs k f) n ≡ Some y) (sym e) h) in inl
+        (found.0, e, found.1, found.2)
     by_case (inr n) = inr (n, sym (change_elsewhere xs k j f n) ∙ h)
 
 -- a place within a list

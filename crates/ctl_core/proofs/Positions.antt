@@ -9,7 +9,8 @@ same_or_len : {A B : Type 0} (p : A → Bool) (q : B → Bool) (f : A → B) (xs
     → position_or_len p xs ≡ position_or_len q (map f xs)
 same_or_len p q f [] h = refl
 same_or_len p q f (x ∷ xs) h =
-    ap (λ b. cond (not b) (1 + position_or_len p xs) 0) (h zero x refl) ∙ ap (λ n. cond (not (q (f x))) (1 + n) 0) (same_or_len p q f xs (λ k y e. h (suc k) y e))
+    ap (λ b. cond (not b) (1 + position_or_len p xs) 0) (h zero x refl) ∙ ap (λ n. cond (not (q (f x))) (1 + n) 0)
+    (same_or_len p q f xs (λ k y e. h (suc k) y e))
 
 pub mapped_length : {A B : Type 0} (f : A → B) (xs : List A) → length (map f xs) ≡ length xs
 mapped_length f [] = refl
@@ -22,7 +23,8 @@ position_kept p q f xs h =
     ap (λ n. cond (ltb n (length xs)) (Some n) None) (same_or_len p q f xs h)
     ∙ ap (λ n. cond (ltb (position_or_len q (map f xs)) n) (Some (position_or_len q (map f xs))) None) (sym (mapped_length f xs))
 
-pub mapped_change : {A B : Type 0} (f : A → B) (change : A → A) (then_change : B → B) (xs : List A) (k : ℕ) (x : A) → slice_get xs k ≡ Some x → f (change x) ≡ then_change (f x)
+pub mapped_change : {A B : Type 0} (f : A → B) (change : A → A) (then_change : B → B) (xs : List A) (k : ℕ) (x : A) → slice_get xs k ≡ Some x → f (change x)
+    ≡ then_change (f x)
     → map f (change_at xs k change) ≡ change_at (map f xs) k then_change
 mapped_change f change then_change [] k x h e = refl
 mapped_change f change then_change (y ∷ ys) zero x h e =

@@ -20,7 +20,8 @@ use Rattle.ctl_core.specs.Sessions.{AreAscending, SessionsMirror, HoldersWait}
 use Rattle.ctl_core.proofs.Places.{OneChanged, found_only, item_at, changed_at}
 
 -- a number stands at one place alone
-pub one_place : (begun : List (ℕ × List Command)) → AreAscending begun → (i j : ℕ) (a b : ℕ × List Command) → slice_get begun i ≡ Some a → slice_get begun j ≡ Some b → a.0 ≡ b.0 → i ≡ j
+pub one_place : (begun : List (ℕ × List Command)) → AreAscending begun → (i j : ℕ) (a b : ℕ × List Command) → slice_get begun i ≡ Some a → slice_get begun j
+    ≡ Some b → a.0 ≡ b.0 → i ≡ j
 one_place begun up i j a b h g same = by_order (cases_order i j)
   where
     by_order : (i ≡ j) ⊎ ((i < j) ⊎ (j < i)) → i ≡ j
@@ -37,15 +38,17 @@ one_number_each begun up n a b h g =
     let pairs : (n, a) ≡ (n, b) = cc in ap (λ (x : ℕ × List Command). x.1) pairs
 
 -- a session with what belongs to it
-pub record Placed (sizes : Command → Geometry) (begun : List (ℕ × List Command)) (notes : List Note) (runs : List SessionRun) (i : ℕ) (s : Session) : Type 0 where
-  pub own : ℕ × List Command
-  pub run : SessionRun
-  pub begun_at : slice_get begun i ≡ Some own
-  pub run_at : slice_get runs i ≡ Some run
-  pub number : number_of s ≡ own.0
-  pub mirrors : Mirrors sizes own.1 notes s run
+pub record Placed (sizes : Command → Geometry) (begun : List (ℕ × List Command)) (notes : List Note) (runs : List SessionRun) (i : ℕ) (s : Session) : Type 0
+  where
+    pub own : ℕ × List Command
+    pub run : SessionRun
+    pub begun_at : slice_get begun i ≡ Some own
+    pub run_at : slice_get runs i ≡ Some run
+    pub number : number_of s ≡ own.0
+    pub mirrors : Mirrors sizes own.1 notes s run
 
-module _ (sizes : Command → Geometry) (begun : List (ℕ × List Command)) (notes : List Note) (sessions : List Session) (runs : List SessionRun) (all : SessionsMirror sizes begun notes sessions runs) where
+module _ (sizes : Command → Geometry) (begun : List (ℕ × List Command)) (notes : List Note) (sessions : List Session) (runs : List SessionRun)
+    (all : SessionsMirror sizes begun notes sessions runs) where
   pub placed : (i : ℕ) (s : Session) → slice_get sessions i ≡ Some s → Placed sizes begun notes runs i s
   placed i s h =
       let within : i < length sessions = slice_get_within sessions i s h in
@@ -56,7 +59,8 @@ module _ (sizes : Command → Geometry) (begun : List (ℕ × List Command)) (no
 
   -- the number of a session of the course is that of the session at its place
   pub run_number : (i : ℕ) (s : Session) (run : SessionRun) → slice_get sessions i ≡ Some s → slice_get runs i ≡ Some run → run.number ≡ number_of s
-  run_number i s run h g = let p = placed i s h in let same : p.run ≡ run = cc (p.run_at) in ap (λ (r : SessionRun). r.number) (sym same) ∙ p.mirrors.shows.number
+  run_number i s run h g = let p = placed i s h in let same : p.run ≡ run = cc (p.run_at) in ap (λ (r : SessionRun). r.number) (sym same)
+      ∙ p.mirrors.shows.number
 
   module _ (up : AreAscending begun) where
     -- two sessions with one number stand at one place
@@ -65,7 +69,8 @@ module _ (sizes : Command → Geometry) (begun : List (ℕ × List Command)) (no
         let p = placed i s h in let q = placed j t g in
         one_place begun up i j p.own q.own p.begun_at q.begun_at (sym p.number ∙ same ∙ q.number)
 
-    pub found : (i : ℕ) (s : Session) (run : SessionRun) → slice_get sessions i ≡ Some s → slice_get runs i ≡ Some run → find (λ (t : SessionRun). t.number == number_of s) runs ≡ Some run
+    pub found : (i : ℕ) (s : Session) (run : SessionRun) → slice_get sessions i ≡ Some s → slice_get runs i ≡ Some run
+        → find (λ (t : SessionRun). t.number == number_of s) runs ≡ Some run
     found i s run h g = found_only (λ (t : SessionRun). t.number == number_of s) runs i run g (eq-eqb _ _ (run_number i s run h g)) only
       where
         only : (j : ℕ) (r : SessionRun) → slice_get runs j ≡ Some r → (r.number == number_of s) ≡ true → j ≡ i
@@ -75,8 +80,10 @@ module _ (sizes : Command → Geometry) (begun : List (ℕ × List Command)) (no
             same_place j i t.0 s t.1 h (sym (run_number j t.0 r t.1 at) ∙ eqb-true _ _ same)
 
     -- a session's reply has come, and there are more notes
-    pub one_replied : (i : ℕ) (s new : Session) (changed : List Session) (more : List Note) (reply : Reply) → slice_get sessions i ≡ Some s → OneChanged sessions i new changed
-        → ((own : ℕ × List Command) (run : SessionRun) → slice_get begun i ≡ Some own → slice_get runs i ≡ Some run → Mirrors sizes own.1 (notes ++ more) new (with_reply sizes reply run))
+    pub one_replied : (i : ℕ) (s new : Session) (changed : List Session) (more : List Note) (reply : Reply) → slice_get sessions i ≡ Some s
+        → OneChanged sessions i new changed
+        → ((own : ℕ × List Command) (run : SessionRun) → slice_get begun i ≡ Some own → slice_get runs i ≡ Some run
+        → Mirrors sizes own.1 (notes ++ more) new (with_reply sizes reply run))
         → SessionsMirror sizes begun (notes ++ more) changed (replied sizes (number_of s) reply runs)
     one_replied i s new changed more reply h o mirrors = record {
       many = o.many ∙ all.many;
@@ -99,7 +106,8 @@ module _ (sizes : Command → Geometry) (begun : List (ℕ × List Command)) (no
                 let here : Some new ≡ Some t = sym o.here ∙ ap (slice_get changed) e ∙ there in
                 let same : new ≡ t = cc in
                 let mapped : slice_get (replied sizes (number_of s) reply runs) i ≡ Some (with_reply sizes reply p.run) =
-                slice_get-map _ runs i ∙ ap (option_map _) p.run_at ∙ ap (λ b. Some (if b then with_reply sizes reply p.run else p.run)) (eq-eqb _ _ (run_number i s p.run h p.run_at)) in
+                slice_get-map _ runs i ∙ ap (option_map _) p.run_at ∙ ap (λ b. Some (if b then with_reply sizes reply p.run else p.run))
+                (eq-eqb _ _ (run_number i s p.run h p.run_at)) in
                 let runs_same : Some (with_reply sizes reply p.run) ≡ Some r = sym mapped ∙ ap (slice_get (replied sizes (number_of s) reply runs)) e ∙ is in
                 let run_same : with_reply sizes reply p.run ≡ r = cc in
                 let owns : p.own ≡ b = cc (p.begun_at) in (
@@ -116,7 +124,8 @@ module _ (sizes : Command → Geometry) (begun : List (ℕ × List Command)) (no
                 slice_get-map _ runs j ∙ ap (option_map _) p.run_at ∙ ap (λ b. Some (if b then with_reply sizes reply p.run else p.run)) (ne_eqb _ _ other) in
                 let run_same : p.run ≡ r = cc (mapped) in (
                   p.number ∙ ap (λ (x : ℕ × List Command). x.0) owns,
-                  subst₂ (λ (x : ℕ × List Command) y. Mirrors sizes x.1 (notes ++ more) t y) owns run_same (mirrors_later sizes p.own.1 notes more t p.run p.mirrors),
+                  subst₂ (λ (x : ℕ × List Command) y. Mirrors sizes x.1 (notes ++ more) t y) owns run_same
+                      (mirrors_later sizes p.own.1 notes more t p.run p.mirrors),
                 )
 
   -- there are more notes
@@ -143,8 +152,11 @@ module _ (sizes : Command → Geometry) (begun : List (ℕ × List Command)) (no
               let run : slice_get runs i ≡ Some r = ap (slice_get runs) e ∙ is in
               let m = mirrors b r own run in
               let here : Some new ≡ Some t = sym o.here ∙ ap (slice_get changed) e ∙ there in
-              let same : new ≡ t = cc in
-              (ap number_of (sym same) ∙ sym m.shows.number ∙ run_number i s r h run ∙ (all.each i b s r own h run).0, subst (λ x. Mirrors sizes b.1 notes x r) same m)
+              let same : new ≡ t = cc in (
+                ap number_of (sym same) ∙ sym m.shows.number ∙ run_number i s r h run ∙ (all.each i b s r own h run).0,
+                subst
+                    (λ x. Mirrors sizes b.1 notes x r) same m,
+              )
           by_case (inr n) = all.each j b t r at (sym (o.elsewhere j n) ∙ there) is
 
 -- sessions that hold chips
@@ -163,7 +175,8 @@ module _ {W : Type 0} (chips : List (KeptChip W)) (sessions : List Session) (wai
   wait_beside i new changed o free j m c s at there holds = by_case (cases_eq i m)
     where
       by_case : (i ≡ m) ⊎ (i ≡ m → ⊥) → IsWaiting s
-      by_case (inl e) = let here : Some new ≡ Some s = sym o.here ∙ ap (slice_get changed) e ∙ there in let same : new ≡ s = cc in absurd (free j c at (holds ∙ ap (λ x. Some (number_of x)) (sym same)))
+      by_case (inl e) = let here : Some new ≡ Some s = sym o.here ∙ ap (slice_get changed) e ∙ there in let same : new
+          ≡ s = cc in absurd (free j c at (holds ∙ ap (λ x. Some (number_of x)) (sym same)))
       by_case (inr n) = wait j m c s at (sym (o.elsewhere m n) ∙ there) holds
 
   -- a session that waits takes a chip
@@ -173,7 +186,8 @@ module _ {W : Type 0} (chips : List (KeptChip W)) (sessions : List Session) (wai
       → HoldersWait (change_at chips k f) changed
   wait_begun i k new changed f o waits holder one j m c s at there holds = by_session (cases_eq i m)
     where
-      by_chip : (i ≡ m → ⊥) → ((x : KeptChip W) × (k ≡ j) × (slice_get chips k ≡ Some x) × (c ≡ f x)) ⊎ ((k ≡ j → ⊥) × (slice_get chips j ≡ Some c)) → IsWaiting s
+      by_chip : (i ≡ m → ⊥) → ((x : KeptChip W) × (k ≡ j) × (slice_get chips k ≡ Some x) × (c ≡ f x)) ⊎ ((k ≡ j → ⊥) × (slice_get chips j ≡ Some c))
+          → IsWaiting s
       by_chip n (inl (x, e, old, is)) =
           let both : Some (number_of s) ≡ Some (number_of new) = sym holds ∙ ap (λ (y : KeptChip W). y.holder) is ∙ holder x in
           let same : number_of s ≡ number_of new = cc in absurd (n (one m s there same))

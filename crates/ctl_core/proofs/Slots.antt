@@ -22,7 +22,8 @@ noted_news k None = refl
 noted_news k (Some news) = refl
 
 -- the notes of an event
-pub notes_of_event : (o : Option PageEvent) (event : Option Event) (told : PageEvent → Option Fairness) (got : Option Fairness) (news : PageEvent → Option (Bool × Attaching)) (now : Option (Bool × Attaching))
+pub notes_of_event : (o : Option PageEvent) (event : Option Event) (told : PageEvent → Option Fairness) (got : Option Fairness)
+    (news : PageEvent → Option (Bool × Attaching)) (now : Option (Bool × Attaching))
     (k n : ℕ) (first second : Option Note) (before middle after : List Note)
     → event ≡ option_map name_of o → IfSome o (λ e. got ≡ told e) → IfSome o (λ e. now ≡ news e)
     → ((e : PageEvent) → event ≡ Some (name_of e) → noted first ≡ failure_notes k n e got) → middle ≡ before ++ noted first
@@ -35,7 +36,8 @@ notes_of_event (Some e) event told got news now k n first second before middle a
     a ∙ (λ d. (m ∙ ap (λ zs. before ++ zs) one) d ++ two d)
 
 -- the item at a place of a list, by what is kept of it
-pub kept_at : {A B : Type 0} (f : A → B) (xs : List A) (k : ℕ) (x : A) (y : B) → x ≡ get_or xs k x → slice_get (map f xs) k ≡ Some y → (slice_get xs k ≡ Some x) × (f x ≡ y)
+pub kept_at : {A B : Type 0} (f : A → B) (xs : List A) (k : ℕ) (x : A) (y : B) → x ≡ get_or xs k x → slice_get (map f xs) k ≡ Some y
+    → (slice_get xs k ≡ Some x) × (f x ≡ y)
 kept_at f xs k x y is h =
     let m = mapped_at f xs k y h in
     let same : m.0 ≡ x = sym (is ∙ get_or_from_slice_get xs k m.0 x m.1) in

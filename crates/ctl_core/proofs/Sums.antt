@@ -32,7 +32,8 @@ for_some P None h = tt
 for_some P (Some x) h = h x
 
 module _ {F C : Type 0} {flash : Ghosts F} (past : Past F) (bench : Bench F C flash) (on : IsOnCourse past bench) where
-  counted_by : (k : ℕ) (c : ChipRun flash.FaultState) (dev : ℕ) → slice_get (course_of flash.fault_model flash.state past).chips k ≡ Some c → (o : Option Known) → c.known ≡ o
+  counted_by : (k : ℕ) (c : ChipRun flash.FaultState) (dev : ℕ) → slice_get (course_of flash.fault_model flash.state past).chips k ≡ Some c
+      → (o : Option Known) → c.known ≡ o
       → HasAtMost (128 * length past.turns) (statistics_known o dev)
   counted_by k c dev at None is = record { corrected = omega arith; failed = omega arith }
   counted_by k c dev at (Some known) is =
@@ -48,7 +49,8 @@ module _ {F C : Type 0} {flash : Ghosts F} (past : Past F) (bench : Bench F C fl
   -- the statistics of each device of a chip in a slot are small
   sums_small : (k : ℕ) (slot : Slot F C flash) → slice_get bench.slots.items k ≡ Some slot → (dev : ℕ) → AreSmall (stage_statistics (kept_slot slot).stage dev)
   sums_small k slot at dev =
-      let c = chip_there flash.fault_model past.boot on.conditions.uncut (starts_of flash.state past) (course_of flash.fault_model flash.state past) (kept_chips bench) bench.events bench.notes.notes bench.sessions.items
+      let c = chip_there flash.fault_model past.boot on.conditions.uncut (starts_of flash.state past) (course_of flash.fault_model flash.state past)
+      (kept_chips bench) bench.events bench.notes.notes bench.sessions.items
       on.stands k (kept_slot slot) (at_mapped kept_slot bench.slots.items k slot at) in
       let same : statistics_known c.0.known dev ≡ stage_statistics (kept_slot slot).stage dev =
       sym (statistics_by past.boot.partitions c.0 c.0.known c.0.pending dev) ∙ ap (λ (x : KeptChip flash.FaultState). stage_statistics x.stage dev) c.2 in
@@ -56,5 +58,6 @@ module _ {F C : Type 0} {flash : Ghosts F} (past : Past F) (bench : Bench F C fl
       record { corrected = omega (arith, most.corrected, few_counts); failed = omega (arith, most.failed, few_counts) }
 
   -- so a read can begin
-  pub read_fits : (k : ℕ) (slot : Slot F C flash) (op : Op) → slice_get bench.slots.items k ≡ Some slot → IfSome (read_device op) (λ dev. AreSmall (stage_statistics (kept_slot slot).stage dev))
+  pub read_fits : (k : ℕ) (slot : Slot F C flash) (op : Op) → slice_get bench.slots.items k ≡ Some slot
+      → IfSome (read_device op) (λ dev. AreSmall (stage_statistics (kept_slot slot).stage dev))
   read_fits k slot op at = for_some (λ dev. AreSmall (stage_statistics (kept_slot slot).stage dev)) (read_device op) (sums_small k slot at)

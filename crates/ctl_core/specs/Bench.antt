@@ -61,10 +61,13 @@ pub record StandsAlike {F C : Type 0} {flash : Ghosts F} (old new : Bench F C fl
   pub sessions : new.sessions.items ≡ old.sessions.items
 
 -- the flips that are due are made, and event e of chip k, which stood so after them, is done and noted
-pub record DidEvent {F C : Type 0} {flash : Ghosts F} (flips : List Flip) (k : ℕ) (c : KeptChip flash.FaultState) (e : PageEvent) (old new : Bench F C flash) : Type 0 where
-  pub chips : kept_chips new ≡ change_at (kept_flips_before flash.fault_model flips (old.events + 1) (kept_chips old)) k (λ x. with_news_told (after_event flash.fault_model e x))
+pub record DidEvent {F C : Type 0} {flash : Ghosts F} (flips : List Flip) (k : ℕ) (c : KeptChip flash.FaultState) (e : PageEvent) (old new : Bench F C flash)
+    : Type 0 where
+  pub chips : kept_chips new ≡ change_at (kept_flips_before flash.fault_model flips (old.events + 1) (kept_chips old)) k
+      (λ x. with_news_told (after_event flash.fault_model e x))
   pub events : new.events ≡ old.events + 1
-  pub notes : new.notes.notes ≡ old.notes.notes ++ failure_notes k (old.events + 1) e (failure_told flash.fault_model c.state e) ++ news_notes k (after_event flash.fault_model e c).news
+  pub notes : new.notes.notes ≡ old.notes.notes ++ failure_notes k (old.events + 1) e (failure_told flash.fault_model c.state e) ++ news_notes k
+      (after_event flash.fault_model e c).news
   pub sessions : new.sessions.items ≡ old.sessions.items
 
 -- how the operation in flight on a chip has ended, where no event of it is left

@@ -14,10 +14,12 @@ abbrev pub AreAscending : List (ℕ × List Command) → Type 0
 AreAscending begun = (i j : ℕ) (a b : ℕ × List Command) → i < j → slice_get begun i ≡ Some a → slice_get begun j ≡ Some b → a.0 < b.0
 
 -- each session of a controller mirrors the one at its place in the course
-pub record SessionsMirror (sizes : Command → Geometry) (begun : List (ℕ × List Command)) (notes : List Note) (sessions : List Session) (runs : List SessionRun) : Type 0 where
+pub record SessionsMirror (sizes : Command → Geometry) (begun : List (ℕ × List Command)) (notes : List Note) (sessions : List Session)
+    (runs : List SessionRun) : Type 0 where
   pub many : length sessions ≡ length begun
   pub runs_many : length runs ≡ length begun
-  pub each : (i : ℕ) (b : ℕ × List Command) (s : Session) (run : SessionRun) → slice_get begun i ≡ Some b → slice_get sessions i ≡ Some s → slice_get runs i ≡ Some run
+  pub each : (i : ℕ) (b : ℕ × List Command) (s : Session) (run : SessionRun) → slice_get begun i ≡ Some b → slice_get sessions i ≡ Some s → slice_get runs i
+      ≡ Some run
       → (number_of s ≡ b.0) × Mirrors sizes b.1 notes s run
 
 -- each session that holds a chip waits for a reply

@@ -46,8 +46,8 @@ impl<F: Flash, C: PageCode> Model for Core<F, C> {
 impl<F: Flash, C: PageCode> Core<F, C> {
     /// A controller at the start of its part of a boot. It takes the memory that the attaches of its chips need.
     ///
-    /// There are at most eight flashes, without tables. The partitions lie on these chips, the flips turn bits of their pages, and there is no cut; the commands name devices that
-    /// are there, with their sizes, and can be run; the sessions' numbers ascend; and the commands cost at most 16,777,216 operations together.
+    /// There are at most eight flashes, without tables, whose pages are in this code. The partitions lie on these chips, the flips turn bits of their pages, and there is no cut;
+    /// the commands name devices that are there, with their sizes, and can be run; the sessions' numbers ascend; and the commands cost at most 16,777,216 operations together.
     pub fn start(
         alloc: Global,
         boot: ControllerBoot,
@@ -95,7 +95,8 @@ impl<F: Flash, C: PageCode> Core<F, C> {
         Ok(Turn::Did)
     }
 
-    /// One step of a session of this controller, whose chips are all attached: its operation in flight does its next page event, after the flips that are due, or is answered, or its next operation begins.
+    /// One step of a session of this controller, whose chips are all attached: its operation in flight does its next page event, after the flips that are due before it, or is
+    /// answered, or its next operation begins.
     ///
     /// `Done` comes exactly where the session's commands are over; else `Held(by)` exactly where it has nothing in flight and session `by` has an operation in flight on the chip of its
     /// next operation; else `Did`. Only `Did` makes anything of the controller: it is one more turn of this session.

@@ -1,13 +1,10 @@
 -- The boots of the tests can be started on two small chips.
-use Rattle.std.proofs.Common.{◌≡◌, ◌<◌, ◌≤◌, ◌+◌, ◌*◌, arith, ℕ, zero, suc, true, false, List, [], ◌∷◌, Option, Some, None, refl, ap, sym, ◌∙◌, subst, subst₂, get_or}
+use Rattle.std.proofs.Common.{◌≡◌, ◌<◌, ◌≤◌, arith, ℕ, zero, suc, true, false, List, [], ◌∷◌, Some, refl, ap, sym, subst, subst₂, get_or}
 use Rattle.std.specs.Prelude.{slice_get, All}
 use Rattle.nand_iface.specs.Flash.{FitsBits}
 use Rattle.nand_model.specs.Chip.{ChipState}
-use Rattle.nand_model.specs.Sizes.{page_count, raw_len}
-use Rattle.nand_model.specs.declared.geometry.Geometry.{Geometry}
 use Rattle.nand_model.specs.declared.words.Command.{Command}
 use Rattle.nand_model.specs.declared.words.Flip.{Flip}
-use Rattle.nand_model.specs.declared.words.Part.{Part}
 use Rattle.nand_model.specs.Operation.{part_of}
 use Rattle.tool_steps.specs.Stage.{CanRun, ErasesAll, DumpsOnePage, device_size}
 use Rattle.run_model.specs.Command.{command_device}

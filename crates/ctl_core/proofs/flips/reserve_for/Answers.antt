@@ -10,8 +10,15 @@ returns-in_err-reserve-clause-same g c =
     let many : length c.loop-k.slots.items ≡ length c.args.slots.now.items =
     sym (mapped_length kept_slot c.loop-k.slots.items) ∙ ap length c.loop-k.invariant.same ∙ mapped_length kept_slot c.args.slots.now.items in
     let within : c.loop-k.k < length c.loop-k.slots.items = omega (arith, many, c.loop-k-test.true, c.len-k-end.ensures, c.args.slots.now.ok.0) in
-    kept_same kept_slot c.loop-k.slots.items c.loop-k.k c.index_mut.result.now _ (lent_within c.loop-k.slots.items c.loop-k.k c.index_mut.result.now within c.index_mut.ensures.value)
-    (λ j. record { state = c.reserve.ensures.state j; stage = c.reserve.ensures.stage j; news = c.reserve.ensures.news j; holder = c.index_mut.result.now.holder })
+    kept_same kept_slot c.loop-k.slots.items c.loop-k.k c.index_mut.result.now _ (lent_within c.loop-k.slots.items c.loop-k.k c.index_mut.result.now within
+    c.index_mut.ensures.value)
+    (λ j. record {
+      state = c.reserve.ensures.state j;
+      stage = c.reserve.ensures.stage j;
+      news = c.reserve.ensures.news j;
+      holder =
+          c.index_mut.result.now.holder;
+    })
     ∙ c.loop-k.invariant.same
 
 pub loop-k-preserved : goal.loop-k-preserved
@@ -22,7 +29,14 @@ loop-k-preserved g c =
     record {
       room = first_set (HasRoom c.in_ok-pages.pages c.in_ok-pages.bits) c.loop-k.slots.items c.loop-k.k _ within
           (record { spare = c.in_ok-reserve.ensures.spare; bits_room = c.in_ok-reserve.ensures.bits }) c.loop-k.invariant.room;
-      same = kept_same kept_slot c.loop-k.slots.items c.loop-k.k c.index_mut.result.now _ (lent_within c.loop-k.slots.items c.loop-k.k c.index_mut.result.now within c.index_mut.ensures.value)
-          (λ j. record { state = c.reserve.ensures.state j; stage = c.reserve.ensures.stage j; news = c.reserve.ensures.news j; holder = c.index_mut.result.now.holder })
+      same = kept_same kept_slot c.loop-k.slots.items c.loop-k.k c.index_mut.result.now _
+          (lent_within c.loop-k.slots.items c.loop-k.k c.index_mut.result.now within c.index_mut.ensures.value)
+          (λ j. record {
+            state = c.reserve.ensures.state j;
+            stage = c.reserve.ensures.stage j;
+            news = c.reserve.ensures.news j;
+            holder =
+                c.index_mut.result.now.holder;
+          })
           ∙ c.loop-k.invariant.same;
     }

@@ -14,11 +14,14 @@ loop-number-preserved c =
     ap (session_number c.args.boot.now) (sym (c.len.ensures ∙ c.loop-number.sessions.ok.0)) ∙ sym c.session.ensures.number ∙ c.in-Some.is in
     let below = before_end (λ (s : ℕ × List Command). s.0) c.args.boot.now.sessions (length c.loop-number.sessions.items) c.in-Some.number here in
     record {
-      within = let longer : length c.push.new.self.items ≡ length c.loop-number.sessions.items + 1 = ap length c.in_ok-push.ensures.items ∙ length_push c.loop-number.sessions.items c.new.result in omega (arith, longer, below);
-      each = λ i b s at there. by_place i b s at here (pushed_at c.loop-number.sessions.items c.new.result i s (ap (λ ss. slice_get ss i) (sym c.in_ok-push.ensures.items) ∙ there));
+      within = let longer : length c.push.new.self.items ≡ length c.loop-number.sessions.items + 1 = ap length c.in_ok-push.ensures.items
+          ∙ length_push c.loop-number.sessions.items c.new.result in omega (arith, longer, below);
+      each = λ i b s at there. by_place i b s at here (pushed_at c.loop-number.sessions.items c.new.result i s
+          (ap (λ ss. slice_get ss i) (sym c.in_ok-push.ensures.items) ∙ there));
     }
   where
-    by_place : (i : ℕ) (b : ℕ × List Command) (s : Session) → slice_get c.args.boot.now.sessions i ≡ Some b → session_number c.args.boot.now (length c.loop-number.sessions.items) ≡ Some c.in-Some.number
+    by_place : (i : ℕ) (b : ℕ × List Command) (s : Session) → slice_get c.args.boot.now.sessions i ≡ Some b
+        → session_number c.args.boot.now (length c.loop-number.sessions.items) ≡ Some c.in-Some.number
         → (slice_get c.loop-number.sessions.items i ≡ Some s) ⊎ ((i ≡ length c.loop-number.sessions.items) × (c.new.result ≡ s)) → IsFresh b.0 s
     by_place i b s at here (inl old) = c.loop-number.invariant.each i b s at old
     by_place i b s at here (inr (e, same)) =

@@ -15,9 +15,11 @@ loop-k-preserved g c i b s below at there = by_place (cases_lt i c.loop-k.k)
     by_place (inl l) = c.loop-k.invariant i b s l at there
     by_place (inr h) =
         let here : i ≡ c.loop-k.k = omega (arith, below, h) in
-        let own : commands_at c.args.boot.now c.loop-k.k ≡ Some b.1 = ap (option_map (λ (x : ℕ × List Command). x.1)) (ap (slice_get c.args.boot.now.sessions) (sym here) ∙ at) in
+        let own : commands_at c.args.boot.now c.loop-k.k ≡ Some b.1 = ap (option_map (λ (x : ℕ × List Command). x.1))
+        (ap (slice_get c.args.boot.now.sessions) (sym here) ∙ at) in
         let commands : b.1 ≡ c.commands.result.now = cc (own, c.commands.ensures) in
-        let session : s ≡ c.index.result.now = sym (c.index.ensures ∙ get_or_from_slice_get c.args.self.now.sessions.items c.loop-k.k s c.index.result.now (ap (slice_get c.args.self.now.sessions.items) (sym here) ∙ there)) in
+        let session : s ≡ c.index.result.now = sym (c.index.ensures ∙ get_or_from_slice_get c.args.self.now.sessions.items c.loop-k.k s c.index.result.now
+        (ap (slice_get c.args.self.now.sessions.items) (sym here) ∙ there)) in
         (λ d. is_finished (commands_by (commands d) (standing c.args.self.now.notes.notes (session d)))) ∙ sym c.is_over.ensures ∙ c.if-not-is_over.false
 
 pub returns : goal.returns

@@ -7,5 +7,6 @@ use Rattle.session_steps.specs.Standing.{standing, commands_by}
 use Rattle.ctl_core.proofs.bench.Bench.all_done.Given as goal
 
 abbrev pub invariant-loop-k : goal.invariant-loop-k
-invariant-loop-k g l = (i : ℕ) (b : ℕ × List Command) (s : Session) → i < l.k → slice_get l.boot.sessions i ≡ Some b → slice_get l.self.sessions.items i ≡ Some s
+invariant-loop-k g l = (i : ℕ) (b : ℕ × List Command) (s : Session) → i < l.k → slice_get l.boot.sessions i ≡ Some b → slice_get l.self.sessions.items i
+    ≡ Some s
     → is_finished (commands_by b.1 (standing l.self.notes.notes s)) ≡ true

@@ -11,7 +11,8 @@ pub returns-in_default-clause-stands : goal.returns-in_default-clause-stands
 returns-in_default-clause-stands g c =
     let past = past_of c.args.journal.now in
     subst (λ course. StandsAt past course c.args.self.now)
-    (sym (stays_where_done past c.args.self.now c.args.session c.args.place c.requires.turn c.requires.free (sym c.next_chip.ensures.over ∙ ap is_none c.in_default.is)).0)
+    (sym (stays_where_done past c.args.self.now c.args.session c.args.place c.requires.turn c.requires.free
+    (sym c.next_chip.ensures.over ∙ ap is_none c.in_default.is)).0)
     c.requires.turn.on_course.stands
 
 pub returns-in-Some-holder-clause-answer : goal.returns-in-Some-holder-clause-answer
@@ -66,4 +67,5 @@ returns-in-Some-holder-clause-idle g c =
 pub returns-in_default-clause-idle : goal.returns-in_default-clause-idle
 returns-in_default-clause-idle g c =
     let past = past_of c.args.journal.now in
-    ap not (sym (stays_where_done past c.args.self.now c.args.session c.args.place c.requires.turn c.requires.free (sym c.next_chip.ensures.over ∙ ap is_none c.in_default.is)).1)
+    ap not (sym (stays_where_done past c.args.self.now c.args.session c.args.place c.requires.turn c.requires.free
+    (sym c.next_chip.ensures.over ∙ ap is_none c.in_default.is)).1)

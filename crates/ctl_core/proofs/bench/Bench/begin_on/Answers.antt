@@ -26,8 +26,10 @@ next_op-requires g c =
     let slot = kept_at kept_slot bench.slots.items c.args.k c.index.result.now x.0 c.index.ensures x.1 in
     let own = own_session past bench c.args.session c.args.place c.requires.turn c.index_mut.result.now c.index_mut.ensures.value in
     let first = begins_with past bench c.args.session c.args.place c.requires.turn c.index_mut.result.now own.0 own.1 c.args.k c.requires.chip in
-    subst (λ (sizes : Geometry). First (CanRun sizes) (commands_by c.commands-commands.result.now (standing bench.notes.notes c.index_mut.result.now))) (sym c.geometry-g.ensures)
-    (first_can_run past bench c.args.session c.args.place c.requires.turn c.index_mut.result.now own.0 own.1 c.args.k c.index.result.now slot.0 first.0 first.1 first.2
+    subst (λ (sizes : Geometry). First (CanRun sizes) (commands_by c.commands-commands.result.now (standing bench.notes.notes c.index_mut.result.now)))
+    (sym c.geometry-g.ensures)
+    (first_can_run past bench c.args.session c.args.place c.requires.turn c.index_mut.result.now own.0 own.1 c.args.k c.index.result.now slot.0 first.0
+    first.1 first.2
     c.commands-commands.result.now c.commands-commands.ensures)
 
 pub returns-in_err-op-clause-no_memory : goal.returns-in_err-op-clause-no_memory
@@ -39,9 +41,11 @@ returns-in_err-op-clause-no_memory g c =
     let own = own_session past bench c.args.session c.args.place c.requires.turn c.index_mut.result.now c.index_mut.ensures.value in
     let first = begins_with past bench c.args.session c.args.place c.requires.turn c.index_mut.result.now own.0 own.1 c.args.k c.requires.chip in
     where_err c.from_residual.result _
-    (stands_resumed past bench c.args.session c.args.place c.requires.turn c.index_mut.result.now own.0 own.1 c.args.k c.index.result.now slot.0 first.0 first.1 first.2
+    (stands_resumed past bench c.args.session c.args.place c.requires.turn c.index_mut.result.now own.0 own.1 c.args.k c.index.result.now slot.0 first.0
+    first.1 first.2
     c.next_op.new.self c.commands-commands.result.now c.commands-commands.ensures c.requires.none
-    (λ sizes run m f. c.next_op.ensures.mirrors sizes run m (subst (λ (all : Geometry). First (λ (command : Command). sizes command ≡ all) run.commands) (sym c.geometry-g.ensures) f)))
+    (λ sizes run m f. c.next_op.ensures.mirrors sizes run m (subst (λ (all : Geometry). First (λ (command : Command). sizes command ≡ all) run.commands)
+    (sym c.geometry-g.ensures) f)))
 
 pub index_mut-requires-2 : goal.index_mut-requires-2
 index_mut-requires-2 g c =
@@ -56,7 +60,8 @@ begin-requires-clause-rests g c =
     let bench = c.args.self.now in
     let x = mapped_some (λ (y : KeptChip g.F.Flash.FaultState). y.holder) (slice_get (kept_chips bench) c.args.k) None c.requires.free in
     let slot = kept_at kept_slot bench.slots.items c.args.k c.index_mut-2.result.now x.0 c.index_mut-2.ensures.value x.1 in
-    rests_here past bench c.args.session c.args.place c.requires.turn c.args.k c.index_mut-2.result.now slot.0 (ap (λ (y : KeptChip g.F.Flash.FaultState). y.holder) slot.1 ∙ x.2)
+    rests_here past bench c.args.session c.args.place c.requires.turn c.args.k c.index_mut-2.result.now slot.0
+    (ap (λ (y : KeptChip g.F.Flash.FaultState). y.holder) slot.1 ∙ x.2)
 
 pub begin-requires-clause-can : goal.begin-requires-clause-can
 begin-requires-clause-can g c =
@@ -65,15 +70,19 @@ begin-requires-clause-can g c =
     let x = mapped_some (λ (y : KeptChip g.F.Flash.FaultState). y.holder) (slice_get (kept_chips bench) c.args.k) None c.requires.free in
     let slot = kept_at kept_slot bench.slots.items c.args.k c.index_mut-2.result.now x.0 c.index_mut-2.ensures.value x.1 in
     let before = kept_at kept_slot bench.slots.items c.args.k c.index.result.now x.0 c.index.ensures x.1 in
-    let sizes : c.geometry-g.result ≡ (kept_slot c.index_mut-2.result.now).state.geometry = c.geometry-g.ensures ∙ ap (λ (y : KeptChip g.F.Flash.FaultState). y.state.geometry) (before.1 ∙ sym slot.1) in
+    let sizes : c.geometry-g.result ≡ (kept_slot c.index_mut-2.result.now).state.geometry = c.geometry-g.ensures
+    ∙ ap (λ (y : KeptChip g.F.Flash.FaultState). y.state.geometry) (before.1 ∙ sym slot.1) in
     let own = own_session past bench c.args.session c.args.place c.requires.turn c.index_mut.result.now c.index_mut.ensures.value in
     let first = begins_with past bench c.args.session c.args.place c.requires.turn c.index_mut.result.now own.0 own.1 c.args.k c.requires.chip in
-    let op = op_here past bench c.args.session c.args.place c.requires.turn c.index_mut.result.now own.0 own.1 c.args.k c.index_mut-2.result.now slot.0 first.0 first.1 first.2
+    let op = op_here past bench c.args.session c.args.place c.requires.turn c.index_mut.result.now own.0 own.1 c.args.k c.index_mut-2.result.now slot.0
+    first.0 first.1 first.2
     c.in_ok-op.op c.commands-commands.result.now c.commands-commands.ensures
     (λ sz run m f. c.in_ok-op.ensures.op sz run m (subst (λ (all : Geometry). First (λ (command : Command). sz command ≡ all) run.commands) (sym sizes) f)) in
-    subst (λ (partitions : Partitions). CanBegin (kept_slot c.index_mut-2.result.now).state.geometry partitions (kept_slot c.index_mut-2.result.now).stage c.in_ok-op.op) (sym c.parts.ensures)
+    subst (λ (partitions : Partitions). CanBegin (kept_slot c.index_mut-2.result.now).state.geometry partitions (kept_slot c.index_mut-2.result.now).stage
+    c.in_ok-op.op) (sym c.parts.ensures)
     (subst (CanBegin (kept_slot c.index_mut-2.result.now).state.geometry c.args.journal.now.boot.partitions (kept_slot c.index_mut-2.result.now).stage) op
-    (can_begin_here past bench c.args.session c.args.place c.requires.turn c.index_mut.result.now own.0 own.1 c.args.k c.index_mut-2.result.now slot.0 first.0 first.1 first.2))
+    (can_begin_here past bench c.args.session c.args.place c.requires.turn c.index_mut.result.now own.0 own.1 c.args.k c.index_mut-2.result.now slot.0 first.0
+    first.1 first.2))
 
 pub returns-in_err-begin-clause-no_memory : goal.returns-in_err-begin-clause-no_memory
 returns-in_err-begin-clause-no_memory g c =
@@ -82,15 +91,19 @@ returns-in_err-begin-clause-no_memory g c =
     let x = mapped_some (λ (y : KeptChip g.F.Flash.FaultState). y.holder) (slice_get (kept_chips bench) c.args.k) None c.requires.free in
     let slot = kept_at kept_slot bench.slots.items c.args.k c.index_mut-2.result.now x.0 c.index_mut-2.ensures.value x.1 in
     let before = kept_at kept_slot bench.slots.items c.args.k c.index.result.now x.0 c.index.ensures x.1 in
-    let sizes : c.geometry-g.result ≡ (kept_slot c.index_mut-2.result.now).state.geometry = c.geometry-g.ensures ∙ ap (λ (y : KeptChip g.F.Flash.FaultState). y.state.geometry) (before.1 ∙ sym slot.1) in
+    let sizes : c.geometry-g.result ≡ (kept_slot c.index_mut-2.result.now).state.geometry = c.geometry-g.ensures
+    ∙ ap (λ (y : KeptChip g.F.Flash.FaultState). y.state.geometry) (before.1 ∙ sym slot.1) in
     let own = own_session past bench c.args.session c.args.place c.requires.turn c.index_mut.result.now c.index_mut.ensures.value in
     let first = begins_with past bench c.args.session c.args.place c.requires.turn c.index_mut.result.now own.0 own.1 c.args.k c.requires.chip in
     where_err c.from_residual-in_err-begin.result _
-    (subst (λ chips. Follows past.boot (starts_of g.F.Flash.state past) (course_of g.F.Flash.fault_model g.F.Flash.state past) chips bench.events bench.notes.notes (set bench.sessions.items c.args.place c.next_op.new.self))
+    (subst (λ chips. Follows past.boot (starts_of g.F.Flash.state past) (course_of g.F.Flash.fault_model g.F.Flash.state past) chips bench.events
+    bench.notes.notes (set bench.sessions.items c.args.place c.next_op.new.self))
     (sym (kept_same kept_slot bench.slots.items c.args.k c.index_mut-2.result.now c.begin.new.self slot.0 c.in_err-begin.ensures.no_memory))
-    (stands_resumed past bench c.args.session c.args.place c.requires.turn c.index_mut.result.now own.0 own.1 c.args.k c.index_mut-2.result.now slot.0 first.0 first.1 first.2
+    (stands_resumed past bench c.args.session c.args.place c.requires.turn c.index_mut.result.now own.0 own.1 c.args.k c.index_mut-2.result.now slot.0 first.0
+    first.1 first.2
     c.next_op.new.self c.commands-commands.result.now c.commands-commands.ensures c.requires.none
-    (λ sz run m f. c.next_op.ensures.mirrors sz run m (subst (λ (all : Geometry). First (λ (command : Command). sz command ≡ all) run.commands) (sym sizes) f))))
+    (λ sz run m f. c.next_op.ensures.mirrors sz run m (subst (λ (all : Geometry). First (λ (command : Command). sz command ≡ all) run.commands) (sym sizes)
+    f))))
 
 pub returns-clause-stands : goal.returns-clause-stands
 returns-clause-stands g c =
@@ -99,13 +112,16 @@ returns-clause-stands g c =
     let x = mapped_some (λ (y : KeptChip g.F.Flash.FaultState). y.holder) (slice_get (kept_chips bench) c.args.k) None c.requires.free in
     let slot = kept_at kept_slot bench.slots.items c.args.k c.index_mut-2.result.now x.0 c.index_mut-2.ensures.value x.1 in
     let before = kept_at kept_slot bench.slots.items c.args.k c.index.result.now x.0 c.index.ensures x.1 in
-    let sizes : c.geometry-g.result ≡ (kept_slot c.index_mut-2.result.now).state.geometry = c.geometry-g.ensures ∙ ap (λ (y : KeptChip g.F.Flash.FaultState). y.state.geometry) (before.1 ∙ sym slot.1) in
+    let sizes : c.geometry-g.result ≡ (kept_slot c.index_mut-2.result.now).state.geometry = c.geometry-g.ensures
+    ∙ ap (λ (y : KeptChip g.F.Flash.FaultState). y.state.geometry) (before.1 ∙ sym slot.1) in
     let own = own_session past bench c.args.session c.args.place c.requires.turn c.index_mut.result.now c.index_mut.ensures.value in
     let first = begins_with past bench c.args.session c.args.place c.requires.turn c.index_mut.result.now own.0 own.1 c.args.k c.requires.chip in
-    let op = op_here past bench c.args.session c.args.place c.requires.turn c.index_mut.result.now own.0 own.1 c.args.k c.index_mut-2.result.now slot.0 first.0 first.1 first.2
+    let op = op_here past bench c.args.session c.args.place c.requires.turn c.index_mut.result.now own.0 own.1 c.args.k c.index_mut-2.result.now slot.0
+    first.0 first.1 first.2
     c.in_ok-op.op c.commands-commands.result.now c.commands-commands.ensures
     (λ sz run m f. c.in_ok-op.ensures.op sz run m (subst (λ (all : Geometry). First (λ (command : Command). sz command ≡ all) run.commands) (sym sizes) f)) in
-    stands_begun past bench c.args.session c.args.place c.requires.turn c.index_mut.result.now own.0 own.1 c.args.k c.index_mut-2.result.now slot.0 first.0 first.1 first.2
+    stands_begun past bench c.args.session c.args.place c.requires.turn c.index_mut.result.now own.0 own.1 c.args.k c.index_mut-2.result.now slot.0 first.0
+    first.1 first.2
     c.begin.new.self c.next_op.new.self c.push.new.self.notes c.commands-commands.result.now c.commands-commands.ensures c.requires.none
     (ap (λ (y : KeptChip g.F.Flash.FaultState). y.holder) slot.1 ∙ x.2)
     (c.in_ok-begin.ensures.begun ∙ (λ d. after_begin (c.parts.ensures d) c.args.session (sym op d) (kept_slot c.index_mut-2.result.now)))

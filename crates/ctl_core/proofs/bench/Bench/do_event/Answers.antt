@@ -11,19 +11,22 @@ use Rattle.ctl_core.proofs.bench.Bench.do_event.Goals as goal
 
 pub index_mut-requires : goal.index_mut-requires
 index_mut-requires g c =
-    let there = event_there c.args.faults.now (c.args.self.now.events + 1) c.args.self.now.slots.items c.make_due_flips.new.slots.items c.args.k c.requires.event
+    let there = event_there c.args.faults.now _ c.args.self.now.slots.items c.make_due_flips.new.slots.items c.args.k
+    c.requires.event
     c.in_ok-make_due_flips.ensures.made in
     rw c.make_due_flips.new.slots.ok.0 there.5
 
 pub overflow_cast-k : goal.overflow_cast-k
 overflow_cast-k g c =
-    let there = event_there c.args.faults.now (c.args.self.now.events + 1) c.args.self.now.slots.items c.make_due_flips.new.slots.items c.args.k c.requires.event
+    let there = event_there c.args.faults.now _ c.args.self.now.slots.items c.make_due_flips.new.slots.items c.args.k
+    c.requires.event
     c.in_ok-make_due_flips.ensures.made in
     omega (arith, there.4, c.requires.few)
 
 pub advance-requires-clause-event : goal.advance-requires-clause-event
 advance-requires-clause-event g c =
-    let there = event_there c.args.faults.now (c.args.self.now.events + 1) c.args.self.now.slots.items c.make_due_flips.new.slots.items c.args.k c.requires.event
+    let there = event_there c.args.faults.now _ c.args.self.now.slots.items c.make_due_flips.new.slots.items c.args.k
+    c.requires.event
     c.in_ok-make_due_flips.ensures.made in
     let slot = kept_at kept_slot c.make_due_flips.new.slots.items c.args.k c.index_mut.result.now there.0 c.index_mut.ensures.value there.2 in
     let event = ap (λ (y : KeptChip g.F.Flash.FaultState). stage_event y.stage) slot.1 ∙ there.3 in
@@ -32,17 +35,21 @@ advance-requires-clause-event g c =
 pub returns-clause-did : goal.returns-clause-did
 returns-clause-did g c x e at has =
     let made = c.in_ok-make_due_flips.ensures.made in
-    let k = kept_at kept_slot c.make_due_flips.new.slots.items c.args.k c.index_mut.result.now x c.index_mut.ensures.value (ap (λ cs. slice_get cs c.args.k) made ∙ at) in
+    let k = kept_at kept_slot c.make_due_flips.new.slots.items c.args.k c.index_mut.result.now x c.index_mut.ensures.value
+    (ap (λ cs. slice_get cs c.args.k) made ∙ at) in
     let event = ap (λ (y : KeptChip g.F.Flash.FaultState). stage_event y.stage) k.1 ∙ has in
-    let stands = at_some (λ e'. kept_slot c.advance.new.self ≡ with_news_told (after_event g.F.Flash.fault_model e' (kept_slot c.index_mut.result.now))) _ e c.advance.ensures.slot event in
+    let stands = at_some (λ e'. kept_slot c.advance.new.self ≡ with_news_told (after_event g.F.Flash.fault_model e' (kept_slot c.index_mut.result.now))) _ e
+    c.advance.ensures.slot event in
     let notes = at_some (λ e'. c.advance.new.notes.notes ≡ c.args.self.now.notes.notes
     ++ failure_notes c.args.k (c.args.self.now.events + 1) e' (failure_told g.F.Flash.fault_model (kept_slot c.index_mut.result.now).state e')
     ++ news_notes c.args.k (after_event g.F.Flash.fault_model e' (kept_slot c.index_mut.result.now)).news) _ e c.advance.ensures.notes event in
     record {
-      chips = mapped_set kept_slot (λ y. with_news_told (after_event g.F.Flash.fault_model e y)) c.make_due_flips.new.slots.items c.args.k c.index_mut.result.now c.advance.new.self k.0 stands
+      chips = mapped_set kept_slot (λ y. with_news_told (after_event g.F.Flash.fault_model e y)) c.make_due_flips.new.slots.items c.args.k
+          c.index_mut.result.now c.advance.new.self k.0 stands
           ∙ ap (λ cs. change_at cs c.args.k (λ y. with_news_told (after_event g.F.Flash.fault_model e y))) made;
       events = refl;
       notes = subst (λ (y : KeptChip g.F.Flash.FaultState). c.advance.new.notes.notes ≡ c.args.self.now.notes.notes
-          ++ failure_notes c.args.k (c.args.self.now.events + 1) e (failure_told g.F.Flash.fault_model y.state e) ++ news_notes c.args.k (after_event g.F.Flash.fault_model e y).news) k.1 notes;
+          ++ failure_notes c.args.k (c.args.self.now.events + 1) e (failure_told g.F.Flash.fault_model y.state e) ++ news_notes c.args.k
+          (after_event g.F.Flash.fault_model e y).news) k.1 notes;
       sessions = refl;
     }

@@ -29,7 +29,8 @@ do_event-requires-clause-few g c = few_slots (past_of c.args.journal.now) c.args
 
 pub do_event-requires-clause-event : goal.do_event-requires-clause-event
 do_event-requires-clause-event g c =
-    let x = held_slot (past_of c.args.journal.now) c.args.self.now c.requires.turn.on_course c.args.session c.args.k c.index.result.now c.requires.held c.index.ensures in
+    let x = held_slot (past_of c.args.journal.now) c.args.self.now c.requires.turn.on_course c.args.session c.args.k c.index.result.now c.requires.held
+    c.index.ensures in
     let e = named (stage_event (chip_stage c.index.result.now.chip)) c.next_event.result c.next_event.ensures (sym c.if-is_some.true ∙ c.is_some.ensures) in
     let has : stage_event x.0.stage ≡ Some e.0 = ap (λ (y : KeptChip g.F.Flash.FaultState). stage_event y.stage) (sym x.2) ∙ e.1 in
     let event = ap (option_and_then (λ (y : KeptChip g.F.Flash.FaultState). stage_event y.stage)) x.1 ∙ has in
@@ -40,18 +41,22 @@ do_event-requires-clause-number g c = few_events (past_of c.args.journal.now) c.
 
 pub do_event-requires-clause-flips : goal.do_event-requires-clause-flips
 do_event-requires-clause-flips g c =
-    subst (λ flips. All (CanFlip (kept_chips c.args.self.now)) flips) (sym c.faults.ensures) (can_flip (past_of c.args.journal.now) c.args.self.now c.requires.turn.on_course)
+    subst (λ flips. All (CanFlip (kept_chips c.args.self.now)) flips) (sym c.faults.ensures)
+    (can_flip (past_of c.args.journal.now) c.args.self.now c.requires.turn.on_course)
 
 pub returns-in_err-do_event-clause-no_memory : goal.returns-in_err-do_event-clause-no_memory
 returns-in_err-do_event-clause-no_memory g c =
     let past = past_of c.args.journal.now in
     where_err c.from_residual.result _
-    (stands_alike past c.args.self.now c.requires.turn.on_course (course_of g.F.Flash.fault_model g.F.Flash.state past) c.do_event.new.self c.requires.turn.on_course.stands c.in_err-do_event.ensures.no_memory)
+    (stands_alike past c.args.self.now c.requires.turn.on_course (course_of g.F.Flash.fault_model g.F.Flash.state past) c.do_event.new.self
+    c.requires.turn.on_course.stands c.in_err-do_event.ensures.no_memory)
 
 pub answer-requires-clause-finished : goal.answer-requires-clause-finished
 answer-requires-clause-finished g c =
-    let x = held_slot (past_of c.args.journal.now) c.args.self.now c.requires.turn.on_course c.args.session c.args.k c.index.result.now c.requires.held c.index.ensures in
-    let none = not_named (stage_event (chip_stage c.index.result.now.chip)) c.next_event.result c.next_event.ensures (sym c.if-is_some.false ∙ c.is_some.ensures) in
+    let x = held_slot (past_of c.args.journal.now) c.args.self.now c.requires.turn.on_course c.args.session c.args.k c.index.result.now c.requires.held
+    c.index.ensures in
+    let none = not_named (stage_event (chip_stage c.index.result.now.chip)) c.next_event.result c.next_event.ensures
+    (sym c.if-is_some.false ∙ c.is_some.ensures) in
     let over = works_on x.0.stage x.3 (ap (λ (y : KeptChip g.F.Flash.FaultState). stage_event y.stage) (sym x.2) ∙ none) in
     let finished = ap (option_and_then (λ (y : KeptChip g.F.Flash.FaultState). finished_in y.stage)) x.1 ∙ over.1 in
     subst (λ o. IsSome o) (sym finished) refl
@@ -67,7 +72,8 @@ returns-in_ok-do_event-clause-stands g c =
     let x = held_slot past c.args.self.now c.requires.turn.on_course c.args.session c.args.k c.index.result.now c.requires.held c.index.ensures in
     let e = named (stage_event (chip_stage c.index.result.now.chip)) c.next_event.result c.next_event.ensures (sym c.if-is_some.true ∙ c.is_some.ensures) in
     let has : stage_event x.0.stage ≡ Some e.0 = ap (λ (y : KeptChip g.F.Flash.FaultState). stage_event y.stage) (sym x.2) ∙ e.1 in
-    stands_now past c.args.self.now c.requires.turn.on_course c.args.session c.args.k x.0 e.0 c.do_event.new.self c.requires.turn.attached c.requires.held x.1 has
+    stands_now past c.args.self.now c.requires.turn.on_course c.args.session c.args.k x.0 e.0 c.do_event.new.self c.requires.turn.attached c.requires.held x.1
+    has
     c.faults.result.now c.faults.ensures c.in_ok-do_event.ensures.did
 
 pub returns-else-is_some-clause-stands : goal.returns-else-is_some-clause-stands

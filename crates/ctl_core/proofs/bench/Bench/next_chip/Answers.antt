@@ -54,7 +54,8 @@ returns-clause-chip g c =
     let there = part_next past c.args.self.now c.args.session c.args.place c.requires c.index.result.now own.0 own.1 c.in_ok-command.command.now first
     c.parts.result.now c.device_of.result c.get.result c.parts.ensures c.device_of.ensures c.get.ensures.lent in
     let part = same_part c.in_ok-part.part.now first.is_ready.part (sym (some_lent c.get.result _ c.in_ok-part.part refl c.in_ok-part.was) ∙ there) in
-    ap (λ (p : Part). Some p.chip) part ∙ chip_next past c.args.self.now c.args.session c.args.place c.requires c.index.result.now own.0 own.1 c.in_ok-command.command.now first
+    ap (λ (p : Part). Some p.chip) part ∙ chip_next past c.args.self.now c.args.session c.args.place c.requires c.index.result.now own.0 own.1
+    c.in_ok-command.command.now first
 
 pub returns-clause-over : goal.returns-clause-over
 returns-clause-over g c =
@@ -73,4 +74,5 @@ returns-clause-there g c =
     let there = part_next past c.args.self.now c.args.session c.args.place c.requires c.index.result.now own.0 own.1 c.in_ok-command.command.now first
     c.parts.result.now c.device_of.result c.get.result c.parts.ensures c.device_of.ensures c.get.ensures.lent in
     let part = same_part c.in_ok-part.part.now first.is_ready.part (sym (some_lent c.get.result _ c.in_ok-part.part refl c.in_ok-part.was) ∙ there) in
-    subst (λ (p : Part). p.chip < length c.args.self.now.slots.items) (sym part) (slot_there past c.args.self.now c.requires.on_course first.is_ready.part.chip first.is_ready.run first.is_ready.run_at).1
+    subst (λ (p : Part). p.chip < length c.args.self.now.slots.items) (sym part) (slot_there past c.args.self.now c.requires.on_course
+    first.is_ready.part.chip first.is_ready.run first.is_ready.run_at).1

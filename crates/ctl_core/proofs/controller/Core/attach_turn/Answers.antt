@@ -19,15 +19,18 @@ returns-in_err-reserve-clause-few g c = few_attaches (past_of c.self.inside.jour
 
 pub returns-in_default-clause-answer : goal.returns-in_default-clause-answer
 returns-in_default-clause-answer g c =
-    let none = attached_there (past_of c.self.inside.journal) c.self.inside.bench c.self.invariant ∙ sym (attaching_in_slots c.self.inside.bench) ∙ sym c.first_attaching.ensures ∙ c.in_default.is in
+    let none = attached_there (past_of c.self.inside.journal) c.self.inside.bench c.self.invariant ∙ sym (attaching_in_slots c.self.inside.bench)
+    ∙ sym c.first_attaching.ensures ∙ c.in_default.is in
     ap attach_answer (sym (ap (λ (p : Past g.row.F.Denot). unattached (course_of g.F.Flash.fault_model g.F.Flash.state p)) (sym c.self.view_is) ∙ none))
 
 pub returns-in_default-clause-step : goal.returns-in_default-clause-step
 returns-in_default-clause-step g c =
     let past = past_of c.self.inside.journal in
-    let none = attached_there past c.self.inside.bench c.self.invariant ∙ sym (attaching_in_slots c.self.inside.bench) ∙ sym c.first_attaching.ensures ∙ c.in_default.is in
+    let none = attached_there past c.self.inside.bench c.self.invariant ∙ sym (attaching_in_slots c.self.inside.bench) ∙ sym c.first_attaching.ensures
+    ∙ c.in_default.is in
     let step = attach_is_step g.F.Flash.fault_model past.boot (starts_of g.F.Flash.state past) (sizes_in g.F.Flash.state past) past.attaches past.turns in
-    subst (λ (p : Past g.row.F.Denot). course_of g.F.Flash.fault_model g.F.Flash.state past ≡ attach_step g.F.Flash.fault_model p.boot (sizes_in g.F.Flash.state p) (course_of g.F.Flash.fault_model g.F.Flash.state p))
+    subst (λ (p : Past g.row.F.Denot). course_of g.F.Flash.fault_model g.F.Flash.state past
+    ≡ attach_step g.F.Flash.fault_model p.boot (sizes_in g.F.Flash.state p) (course_of g.F.Flash.fault_model g.F.Flash.state p))
     c.self.view_is (sym (step.nothing_where_attached none))
 
 pub returns-in_default-clause-few : goal.returns-in_default-clause-few
@@ -48,7 +51,8 @@ do_event-requires-clause-number g c = few_events (past_of c.self.inside.journal)
 
 pub do_event-requires-clause-flips : goal.do_event-requires-clause-flips
 do_event-requires-clause-flips g c =
-    subst (λ flips. All (CanFlip (kept_chips c.self.inside.bench)) flips) (sym c.faults.ensures) (can_flip (past_of c.self.inside.journal) c.self.inside.bench c.self.invariant)
+    subst (λ flips. All (CanFlip (kept_chips c.self.inside.bench)) flips) (sym c.faults.ensures)
+    (can_flip (past_of c.self.inside.journal) c.self.inside.bench c.self.invariant)
 
 pub overflow_add-self : goal.overflow_add-self
 overflow_add-self g c =
@@ -72,18 +76,21 @@ invariant_of-self-2 g c =
     let past = past_of c.self.inside.journal in
     let before : Bench g.row.F.Denot g.row.C.Denot g.F.Flash = record c.self.inside.bench { notes = c.reserve.new.self } in
     attached_now past before (renoted past c.self.inside.bench c.self.invariant c.reserve.new.self c.reserve.ensures.notes) c.in-Some.k c.do_event.new.self
-    (sym (attaching_in_slots c.self.inside.bench) ∙ sym c.first_attaching.ensures ∙ c.in-Some.is) c.faults.result.now c.faults.ensures c.in_ok-do_event.ensures.did
+    (sym (attaching_in_slots c.self.inside.bench) ∙ sym c.first_attaching.ensures ∙ c.in-Some.is) c.faults.result.now c.faults.ensures
+    c.in_ok-do_event.ensures.did
 
 pub returns-clause-answer : goal.returns-clause-answer
 returns-clause-answer g c =
-    let some = attached_there (past_of c.self.inside.journal) c.self.inside.bench c.self.invariant ∙ sym (attaching_in_slots c.self.inside.bench) ∙ sym c.first_attaching.ensures ∙ c.in-Some.is in
+    let some = attached_there (past_of c.self.inside.journal) c.self.inside.bench c.self.invariant ∙ sym (attaching_in_slots c.self.inside.bench)
+    ∙ sym c.first_attaching.ensures ∙ c.in-Some.is in
     ap attach_answer (sym (ap (λ (p : Past g.row.F.Denot). unattached (course_of g.F.Flash.fault_model g.F.Flash.state p)) (sym c.self.view_is) ∙ some))
 
 pub returns-clause-step : goal.returns-clause-step
 returns-clause-step g c =
     let past = past_of c.self.inside.journal in
     let first = sym (attaching_in_slots c.self.inside.bench) ∙ sym c.first_attaching.ensures ∙ c.in-Some.is in
-    subst (λ (p : Past g.row.F.Denot). course_of g.F.Flash.fault_model g.F.Flash.state (with_attach past) ≡ attach_step g.F.Flash.fault_model p.boot (sizes_in g.F.Flash.state p) (course_of g.F.Flash.fault_model g.F.Flash.state p))
+    subst (λ (p : Past g.row.F.Denot). course_of g.F.Flash.fault_model g.F.Flash.state (with_attach past)
+    ≡ attach_step g.F.Flash.fault_model p.boot (sizes_in g.F.Flash.state p) (course_of g.F.Flash.fault_model g.F.Flash.state p))
     c.self.view_is (next_attach past c.self.inside.bench c.self.invariant c.in-Some.k first)
 
 pub returns-clause-few : goal.returns-clause-few
@@ -92,4 +99,5 @@ returns-clause-few g c =
     let before : Bench g.row.F.Denot g.row.C.Denot g.F.Flash = record c.self.inside.bench { notes = c.reserve.new.self } in
     few_attaches (with_attach past) c.do_event.new.self
     (attached_now past before (renoted past c.self.inside.bench c.self.invariant c.reserve.new.self c.reserve.ensures.notes) c.in-Some.k c.do_event.new.self
-    (sym (attaching_in_slots c.self.inside.bench) ∙ sym c.first_attaching.ensures ∙ c.in-Some.is) c.faults.result.now c.faults.ensures c.in_ok-do_event.ensures.did)
+    (sym (attaching_in_slots c.self.inside.bench) ∙ sym c.first_attaching.ensures ∙ c.in-Some.is) c.faults.result.now c.faults.ensures
+    c.in_ok-do_event.ensures.did)

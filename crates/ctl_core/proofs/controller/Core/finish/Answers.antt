@@ -15,12 +15,14 @@ use Rattle.ctl_core.proofs.controller.Core.finish.Goals as goal
 pub all_statistics-requires : goal.all_statistics-requires
 all_statistics-requires g c =
     subst (λ (partitions : Partitions). All (λ (part : Part). part.chip < length c.deref.result.now) partitions.parts) (sym c.parts.ensures)
-    (subst (λ (slots : List (Slot g.row.F.Denot g.row.C.Denot g.F.Flash)). All (λ (part : Part). part.chip < length slots) c.self.inside.journal.boot.partitions.parts) (sym c.deref.ensures.value)
+    (subst (λ (slots : List (Slot g.row.F.Denot g.row.C.Denot g.F.Flash)). All (λ (part : Part). part.chip < length slots)
+    c.self.inside.journal.boot.partitions.parts) (sym c.deref.ensures.value)
     (parts_there (past_of c.self.inside.journal) c.self.inside.bench c.self.invariant))
 
 pub all_bad-bad-requires : goal.all_bad-bad-requires
 all_bad-bad-requires g c =
-    subst (λ (slots : List (Slot g.row.F.Denot g.row.C.Denot g.F.Flash)). length slots ≤ 8) (sym c.deref-2.ensures.value) (few_slots (past_of c.self.inside.journal) c.self.inside.bench c.self.invariant)
+    subst (λ (slots : List (Slot g.row.F.Denot g.row.C.Denot g.F.Flash)). length slots ≤ 8) (sym c.deref-2.ensures.value)
+    (few_slots (past_of c.self.inside.journal) c.self.inside.bench c.self.invariant)
 
 pub returns-clause-flashes : goal.returns-clause-flashes
 returns-clause-flashes g c =
@@ -28,10 +30,12 @@ returns-clause-flashes g c =
     ∙ ap (λ (p : Past g.row.F.Denot). end_states (course_of g.F.Flash.fault_model g.F.Flash.state p)) c.self.view_is
 
 pub returns-clause-lit : goal.returns-clause-lit
-returns-clause-lit g c = ap (λ (p : Past g.row.F.Denot). (course_of g.F.Flash.fault_model g.F.Flash.state p).dark) (sym c.self.view_is) ∙ c.self.invariant.stands.keeps.lit
+returns-clause-lit g c = ap (λ (p : Past g.row.F.Denot). (course_of g.F.Flash.fault_model g.F.Flash.state p).dark) (sym c.self.view_is)
+    ∙ c.self.invariant.stands.keeps.lit
 
 pub returns-clause-notes : goal.returns-clause-notes
-returns-clause-notes g c = c.self.invariant.stands.keeps.of_notes ∙ ap (λ (p : Past g.row.F.Denot). (course_of g.F.Flash.fault_model g.F.Flash.state p).notes) c.self.view_is
+returns-clause-notes g c = c.self.invariant.stands.keeps.of_notes ∙ ap (λ (p : Past g.row.F.Denot). (course_of g.F.Flash.fault_model g.F.Flash.state p).notes)
+    c.self.view_is
 
 pub returns-clause-outcomes : goal.returns-clause-outcomes
 returns-clause-outcomes g c =
@@ -40,8 +44,10 @@ returns-clause-outcomes g c =
 
 pub returns-clause-ends : goal.returns-clause-ends
 returns-clause-ends g c =
-    c.in_ok-outcomes.ensures ∙ last_outcomes (past_of c.self.inside.journal) c.self.inside.bench c.self.invariant ∙ last_ends (past_of c.self.inside.journal) c.self.inside.bench c.self.invariant
-    ∙ ap (λ (p : Past g.row.F.Denot). ends_by_notes p.boot (starts_of g.F.Flash.state p) (course_of g.F.Flash.fault_model g.F.Flash.state p).notes) c.self.view_is
+    c.in_ok-outcomes.ensures ∙ last_outcomes (past_of c.self.inside.journal) c.self.inside.bench c.self.invariant
+    ∙ last_ends (past_of c.self.inside.journal) c.self.inside.bench c.self.invariant
+    ∙ ap (λ (p : Past g.row.F.Denot). ends_by_notes p.boot (starts_of g.F.Flash.state p) (course_of g.F.Flash.fault_model g.F.Flash.state p).notes)
+    c.self.view_is
 
 pub returns-clause-stats : goal.returns-clause-stats
 returns-clause-stats g c =
@@ -54,6 +60,7 @@ pub returns-clause-bad : goal.returns-clause-bad
 returns-clause-bad g c =
     let over : is_over (course_of g.F.Flash.fault_model g.F.Flash.state (past_of c.self.inside.journal)) ≡ true =
     ap (λ (p : Past g.row.F.Denot). is_over (course_of g.F.Flash.fault_model g.F.Flash.state p)) c.self.view_is ∙ c.requires in
-    c.all_bad-bad.ensures ∙ ap (λ (slots : List (Slot g.row.F.Denot g.row.C.Denot g.F.Flash)). sum_by kept_bad_blocks (map kept_slot slots)) c.deref-2.ensures.value
+    c.all_bad-bad.ensures ∙ ap (λ (slots : List (Slot g.row.F.Denot g.row.C.Denot g.F.Flash)). sum_by kept_bad_blocks (map kept_slot slots))
+    c.deref-2.ensures.value
     ∙ last_bad (past_of c.self.inside.journal) c.self.inside.bench c.self.invariant over
     ∙ ap (λ (p : Past g.row.F.Denot). all_bad_blocks p.boot.partitions (course_of g.F.Flash.fault_model g.F.Flash.state p)) c.self.view_is

@@ -53,7 +53,8 @@ pub invariant_of-self-in-Did : goal.invariant_of-self-in-Did
 invariant_of-self-in-Did g c =
     let past = past_of c.self.inside.journal in
     let before : Past g.row.F.Denot = record past { turns = c.reserve.new.self.items } in
-    let on = relisted past c.self.inside.bench c.self.invariant c.reserve.new.self.items c.reserve-2.new.self c.reserve.ensures.items c.reserve-2.ensures.notes in
+    let on = relisted past c.self.inside.bench c.self.invariant c.reserve.new.self.items c.reserve-2.new.self c.reserve.ensures.items
+    c.reserve-2.ensures.notes in
     let same : before ≡ c.args.self.now = ap (λ (ts : List ℕ). record past { turns = ts }) c.reserve.ensures.items ∙ c.self.view_is in
     let attached = ap (λ (p : Past g.row.F.Denot). unattached (course_of g.F.Flash.fault_model g.F.Flash.state p)) same ∙ c.requires.attached in
     let busy = not_true _ (ap is_did (sym c.in-Did.is) ∙ c.in_ok-turn.ensures.idle) in
@@ -64,48 +65,58 @@ pub invariant_of-self-in_default : goal.invariant_of-self-in_default
 invariant_of-self-in_default g c =
     let past = past_of c.self.inside.journal in
     let before : Past g.row.F.Denot = record past { turns = c.reserve.new.self.items } in
-    let on = relisted past c.self.inside.bench c.self.invariant c.reserve.new.self.items c.reserve-2.new.self c.reserve.ensures.items c.reserve-2.ensures.notes in
+    let on = relisted past c.self.inside.bench c.self.invariant c.reserve.new.self.items c.reserve-2.new.self c.reserve.ensures.items
+    c.reserve-2.ensures.notes in
     let same : before ≡ c.args.self.now = ap (λ (ts : List ℕ). record past { turns = ts }) c.reserve.ensures.items ∙ c.self.view_is in
     let attached = ap (λ (p : Past g.row.F.Denot). unattached (course_of g.F.Flash.fault_model g.F.Flash.state p)) same ∙ c.requires.attached in
     let idle = not_false _ (sym (not_did c.in_ok-turn.turn c.in_default.not-Did) ∙ c.in_ok-turn.ensures.idle) in
     stayed_on before (record c.self.inside.bench { notes = c.reserve-2.new.self }) on c.step.new.self
-    (subst (λ course. StandsAt before course c.step.new.self) (idle_turn before (record c.self.inside.bench { notes = c.reserve-2.new.self }) on c.args.session attached idle) c.in_ok-turn.ensures.stands)
+    (subst (λ course. StandsAt before course c.step.new.self) (idle_turn before (record c.self.inside.bench { notes = c.reserve-2.new.self }) on
+    c.args.session attached idle) c.in_ok-turn.ensures.stands)
 
 pub returns-in-Did-clause-attached : goal.returns-in-Did-clause-attached
 returns-in-Did-clause-attached g c =
     let past = past_of c.self.inside.journal in
     let before : Past g.row.F.Denot = record past { turns = c.reserve.new.self.items } in
-    let on = relisted past c.self.inside.bench c.self.invariant c.reserve.new.self.items c.reserve-2.new.self c.reserve.ensures.items c.reserve-2.ensures.notes in
+    let on = relisted past c.self.inside.bench c.self.invariant c.reserve.new.self.items c.reserve-2.new.self c.reserve.ensures.items
+    c.reserve-2.ensures.notes in
     let same : before ≡ c.args.self.now = ap (λ (ts : List ℕ). record past { turns = ts }) c.reserve.ensures.items ∙ c.self.view_is in
     let attached = ap (λ (p : Past g.row.F.Denot). unattached (course_of g.F.Flash.fault_model g.F.Flash.state p)) same ∙ c.requires.attached in
-    subst (λ (ts : List ℕ). unattached (course_of g.F.Flash.fault_model g.F.Flash.state (record past { turns = ts })) ≡ None) (sym c.push_reserved.ensures.items)
+    subst (λ (ts : List ℕ). unattached (course_of g.F.Flash.fault_model g.F.Flash.state (record past { turns = ts })) ≡ None)
+    (sym c.push_reserved.ensures.items)
     (next_attached before (record c.self.inside.bench { notes = c.reserve-2.new.self }) on c.args.session attached)
 
 pub returns-in-Did-clause-few : goal.returns-in-Did-clause-few
 returns-in-Did-clause-few g c =
     let past = past_of c.self.inside.journal in
     let before : Past g.row.F.Denot = record past { turns = c.reserve.new.self.items } in
-    let on = relisted past c.self.inside.bench c.self.invariant c.reserve.new.self.items c.reserve-2.new.self c.reserve.ensures.items c.reserve-2.ensures.notes in
+    let on = relisted past c.self.inside.bench c.self.invariant c.reserve.new.self.items c.reserve-2.new.self c.reserve.ensures.items
+    c.reserve-2.ensures.notes in
     let same : before ≡ c.args.self.now = ap (λ (ts : List ℕ). record past { turns = ts }) c.reserve.ensures.items ∙ c.self.view_is in
     let attached = ap (λ (p : Past g.row.F.Denot). unattached (course_of g.F.Flash.fault_model g.F.Flash.state p)) same ∙ c.requires.attached in
     let busy = not_true _ (ap is_did (sym c.in-Did.is) ∙ c.in_ok-turn.ensures.idle) in
     subst (λ (ts : List ℕ). length ts ≤ 8 * boot_cost past.boot (starts_of g.F.Flash.state past) + 7 * length past.started) (sym c.push_reserved.ensures.items)
     (few_turns (with_turn before c.args.session) c.step.new.self
-    (turned_on before (record c.self.inside.bench { notes = c.reserve-2.new.self }) on c.args.session c.step.new.self attached busy c.in_ok-turn.ensures.stands))
+    (turned_on before (record c.self.inside.bench { notes = c.reserve-2.new.self }) on c.args.session c.step.new.self attached busy
+    c.in_ok-turn.ensures.stands))
 
 pub returns-in_default : goal.returns-in_default
 returns-in_default g c =
     let past = past_of c.self.inside.journal in
     let before : Past g.row.F.Denot = record past { turns = c.reserve.new.self.items } in
-    let on = relisted past c.self.inside.bench c.self.invariant c.reserve.new.self.items c.reserve-2.new.self c.reserve.ensures.items c.reserve-2.ensures.notes in
+    let on = relisted past c.self.inside.bench c.self.invariant c.reserve.new.self.items c.reserve-2.new.self c.reserve.ensures.items
+    c.reserve-2.ensures.notes in
     let same : before ≡ c.args.self.now = ap (λ (ts : List ℕ). record past { turns = ts }) c.reserve.ensures.items ∙ c.self.view_is in
     let attached = ap (λ (p : Past g.row.F.Denot). unattached (course_of g.F.Flash.fault_model g.F.Flash.state p)) same ∙ c.requires.attached in
     let idle = not_false _ (sym (not_did c.in_ok-turn.turn c.in_default.not-Did) ∙ c.in_ok-turn.ensures.idle) in
     record {
-      answer = subst (λ (p : Past g.row.F.Denot). c.in_ok-turn.turn ≡ turn_answer p.boot.partitions (sizes_in g.F.Flash.state p) (course_of g.F.Flash.fault_model g.F.Flash.state p) c.args.session) same c.in_ok-turn.ensures.answer;
-      busy = subst (λ (p : Past g.row.F.Denot). is_did c.in_ok-turn.turn ≡ not (is_idle p.boot.partitions (sizes_in g.F.Flash.state p) (course_of g.F.Flash.fault_model g.F.Flash.state p) c.args.session)) same c.in_ok-turn.ensures.idle;
+      answer = subst (λ (p : Past g.row.F.Denot). c.in_ok-turn.turn ≡ turn_answer p.boot.partitions (sizes_in g.F.Flash.state p)
+          (course_of g.F.Flash.fault_model g.F.Flash.state p) c.args.session) same c.in_ok-turn.ensures.answer;
+      busy = subst (λ (p : Past g.row.F.Denot). is_did c.in_ok-turn.turn ≡ not (is_idle p.boot.partitions (sizes_in g.F.Flash.state p)
+          (course_of g.F.Flash.fault_model g.F.Flash.state p) c.args.session)) same c.in_ok-turn.ensures.idle;
       past = same ∙ no_turn AllocError c.in_ok-turn.turn c.args.session c.args.self.now c.in_default.not-Did;
-      step = sym (idle_turn before (record c.self.inside.bench { notes = c.reserve-2.new.self }) on c.args.session attached idle) ∙ ap (λ (p : Past g.row.F.Denot). next_course g.F.Flash.fault_model g.F.Flash.state p c.args.session) same;
+      step = sym (idle_turn before (record c.self.inside.bench { notes = c.reserve-2.new.self }) on c.args.session attached idle)
+          ∙ ap (λ (p : Past g.row.F.Denot). next_course g.F.Flash.fault_model g.F.Flash.state p c.args.session) same;
       attached = attached;
       few = few_turns before (record c.self.inside.bench { notes = c.reserve-2.new.self }) on;
     }
