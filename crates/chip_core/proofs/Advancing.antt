@@ -3,16 +3,16 @@ use Rattle.std.proofs.Common.{◌≡◌, ◌<◌, Bool, true, false, take, Optio
 use Rattle.std.specs.Prelude.{IsSome, IfSome, is_some}
 use Rattle.std.proofs.lemmas.Bool.{false≢true}
 use Rattle.std.proofs.lemmas.Option.{IfSome_then}
-use Rattle.nand_model.specs.Attach.{Attaching}
+use Rattle.chip_paths.specs.Attach.{Attaching}
 use Rattle.nand_model.specs.Chip.{ChipState, Complete, FaultModel, PageEvent, ReadEvent}
-use Rattle.nand_model.specs.Operation.{Known}
+use Rattle.chip_paths.specs.Operation.{Known}
 use Rattle.nand_model.specs.Path.{Data, answer_to, first_event, is_failure}
 use Rattle.nand_model.specs.Quiet.{is_quiet}
 use Rattle.nand_model.specs.Sizes.{first_page}
 use Rattle.nand_model.specs.declared.geometry.Geometry.{Geometry}
 use Rattle.nand_model.specs.declared.words.Fairness.{Fairness}
 use Rattle.nand_iface.proofs.FlashLemmas.{happens-geometry}
-use Rattle.chip_model.specs.Stage.{Stage, Works, fairness_where_failed, news_after, path_after, stage_after, stage_event}
+use Rattle.chip_paths.specs.Stage.{Stage, Works, fairness_where_failed, news_after, path_after, stage_after, stage_event}
 use Rattle.chip_core.specs.Knowledge.{known_in}
 use Rattle.chip_core.specs.Markers.{marker_page}
 use Rattle.chip_core.specs.Phase.{KnowsQuiet, PhaseFits, phase_stage}

@@ -2,13 +2,13 @@
 use Rattle.std.proofs.Common.{◌≡◌, ℕ, true, List, [], ◌∷◌, length, Option, Some, refl, ap, sym, subst, ◌∙◌, arith}
 use Rattle.std.proofs.lemmas.Bool.{false≢true}
 use Rattle.std.specs.Prelude.{IfSome}
-use Rattle.nand_model.specs.Operation.{Known, with_statistics}
+use Rattle.chip_paths.specs.Operation.{Known, with_statistics}
 use Rattle.nand_model.specs.Page.{Decoding}
 use Rattle.nand_model.specs.declared.geometry.Geometry.{Geometry}
 use Rattle.nand_model.specs.declared.words.PageKind.{PageKind}
 use Rattle.nand_model.specs.declared.words.PageRead.{PageRead}
 use Rattle.nand_model.specs.declared.words.Stats.{Stats}
-use Rattle.chip_model.specs.Stage.{Stage, Rests, finished_in, is_resting, stage_statistics}
+use Rattle.chip_paths.specs.Stage.{Stage, Rests, finished_in, is_resting, stage_statistics}
 use Rattle.chip_core.specs.Knowledge.{known_in}
 use Rattle.chip_core.specs.Markers.{known_by_markers}
 use Rattle.chip_core.specs.Phase.{PhaseFits, phase_stage}

@@ -3,12 +3,12 @@ use Rattle.std.proofs.Common.{◌≡◌, ℕ, ◌+◌, ◌<◌, ◌≤◌, Bool,
 use Rattle.std.specs.Prelude.{◌&&◌, map, IsSome, IfSome}
 use Rattle.std.proofs.lemmas.List.{map-append}
 use Rattle.nand_model.proofs.Bounds.{bounds}
-use Rattle.nand_model.specs.Attach.{Attaching, marker_table}
+use Rattle.chip_paths.specs.Attach.{Attaching, marker_table}
 use Rattle.nand_model.specs.Chip.{ChipState, Complete, FaultModel, PageEvent, ReadEvent, happens}
 use Rattle.nand_model.specs.Path.{Path, Over, Data, answer_to}
 use Rattle.nand_model.specs.Quiet.{is_quiet}
 use Rattle.nand_model.specs.Sizes.{numbers_from, first_page}
-use Rattle.chip_model.specs.Stage.{Stage, Attaches, Rests, attach_end, attach_stage, first_stage, news_after, path_after, stage_after, stage_event}
+use Rattle.chip_paths.specs.Stage.{Stage, Attaches, Rests, attach_end, attach_stage, first_stage, news_after, path_after, stage_after, stage_event}
 use Rattle.chip_core.specs.Markers.{attached_by_markers, blocks_from, known_by_markers, marker_page, marker_state, markers_left}
 use Rattle.chip_core.specs.Whole.{marker_states}
 use Rattle.chip_core.proofs.Scanning.{attach_path-markers, blocks_from-end, blocks_from-head, next_read, no_end_yet, still_attaches}

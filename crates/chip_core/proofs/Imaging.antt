@@ -2,10 +2,9 @@
 use Rattle.std.proofs.Common.{◌≡◌, ℕ, ◌+◌, ◌≤◌, List, ◌++◌, length, take, drop, ap, sym, ◌∙◌, append-nil, arith}
 use Rattle.std.specs.Prelude.{slice_range}
 use Rattle.std.proofs.lemmas.List.{drop_all, take_all}
-use Rattle.nand_model.specs.Page.{encoded, free_bytes, page_image}
+use Rattle.nand_model.specs.Page.{encoded, free_bytes, page_image, FillsPlaces}
 use Rattle.nand_model.specs.Sizes.{parity_start}
 use Rattle.nand_model.specs.declared.geometry.Geometry.{Geometry}
-use Rattle.chip_model.specs.Taken.{FillsPlaces}
 
 -- a list that was lent whole is what came back
 pub refilled : (old new : List ℕ) → length new ≡ length old → take (length old) (new ++ drop (length new) old) ≡ new

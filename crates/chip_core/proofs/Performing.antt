@@ -3,11 +3,12 @@ use Rattle.std.proofs.Common.{◌≡◌, ℕ, ◌+◌, ◌-◌, ◌/◌, ◌^◌
 use Rattle.std.specs.Prelude.{IsSome, IfSome, is_some, option_map, slice_index, ◌==◌}
 use Rattle.std.proofs.Math.Nat.{min-eq_left, min-eq_right}
 use Rattle.std.proofs.lemmas.Bool.{false≢true, true≢false, both_ways, cases_lt}
-use Rattle.nand_model.specs.Attach.{Attaching}
+use Rattle.chip_paths.specs.Attach.{Attaching}
 use Rattle.nand_model.specs.Chip.{ChipState, Complete, DoneBits, EraseCall, EraseEvent, FaultModel, PageEvent, ProgramCall, ProgramEvent, ReadEvent, counted, erase_block, failure_of, happens, program_page, saturating_increment}
-use Rattle.nand_model.specs.ChipRun.{name_of}
+use Rattle.chip_paths.specs.ChipRun.{name_of}
 use Rattle.nand_model.specs.Counts.{HasRisen}
-use Rattle.nand_model.specs.Operation.{Finished, Known, Partitions, after_read, answer, bad_count, chip_block, chip_page, device_of, done_or, entry_of, has_block, has_page, is_good_block, only_if, operation_by, operation_in, operation_path, part_of, raw_reply}
+use Rattle.chip_paths.specs.Operation.{Finished, Known, after_read, answer, bad_count, chip_block, chip_page, done_or, entry_of, has_block, has_page, is_good_block, only_if, operation_by, operation_in, operation_path, raw_reply}
+use Rattle.nand_model.specs.Partitions.{Partitions, device_of, part_of}
 use Rattle.nand_model.specs.Page.{decoded, page_image}
 use Rattle.nand_model.specs.Path.{Answer, Data, Failed, Good, Path, Over, Then, after_answers, answer_to, cells_of, first_event, good_or_failed, is_failure, result_of}
 use Rattle.nand_model.specs.declared.geometry.Geometry.{Geometry}
@@ -18,8 +19,8 @@ use Rattle.nand_model.specs.declared.words.Reply.{Reply}
 use Rattle.nand_model.specs.declared.words.Reply.TheVariants.{Counts, OutOfRange, BadBlock, MarkerByte, ProgramFailed, EraseFailed, State}
 use Rattle.chip_core.specs.Begin.{read_device}
 use Rattle.chip_core.specs.Task.{erased_from, program_from, raw_read_from, read_from}
-use Rattle.chip_model.specs.Taken.{IsTaken}
-use Rattle.chip_model.specs.Stage.{Stage, Attaches, Rests, Works, finished_in, is_resting, news_after, stage_after, stage_begun, stage_event}
+use Rattle.command_model.specs.Taken.{IsTaken}
+use Rattle.chip_paths.specs.Stage.{Stage, Attaches, Rests, Works, finished_in, is_resting, news_after, stage_after, stage_begun, stage_event}
 use Rattle.chip_core.specs.Whole.{HasCause, HasPerformed, is_fault, is_refusal, known_at_rest, refusal_in, refusal_of, refused_unless}
 
 -- an operation ended with this reply, and nothing else known than before

@@ -3,7 +3,7 @@ use Rattle.std.proofs.Common.{◌≡◌, ℕ, ◌+◌, ◌*◌, ◌/◌, ◌<◌
 use Rattle.std.specs.Prelude.{IsSome, IfSome, SomeIff, nat_lt}
 use Rattle.std.proofs.Math.Nat.{mul-add-div_right, mul-le-mul_right}
 use Rattle.std.proofs.lemmas.Bool.{cases_lt, false≢true, le-ltb, lt-ltb}
-use Rattle.nand_model.specs.Operation.{Finished, Known, chip_block, chip_page, has_page, is_good_block, only_if, operation_by}
+use Rattle.chip_paths.specs.Operation.{Finished, Known, chip_block, chip_page, has_page, is_good_block, only_if, operation_by}
 use Rattle.nand_model.specs.Page.{page_image}
 use Rattle.nand_model.specs.Path.{Path}
 use Rattle.nand_model.specs.Sizes.{page_count}

@@ -4,10 +4,11 @@ use Rattle.std.specs.Prelude.{◌==◌}
 use Rattle.std.proofs.lemmas.List.{length-set, take_all, take_more_set, map-append}
 use Rattle.nand_model.specs.Chip.{ReadEvent}
 use Rattle.nand_model.specs.Path.{Over, Then, Data, cells_of, first_event}
-use Rattle.nand_model.specs.Attach.{attach_by, attach_path, has_tables, marker_table, read_first_pages}
+use Rattle.chip_paths.specs.Attach.{attach_by, attach_path, marker_table, read_first_pages}
+use Rattle.nand_model.specs.Table.{has_tables}
 use Rattle.nand_model.specs.Sizes.{numbers_from, first_page}
 use Rattle.nand_model.specs.declared.geometry.Geometry.{Geometry}
-use Rattle.chip_model.specs.Stage.{Attaches, Rests, attach_end, attach_stage, path_after}
+use Rattle.chip_paths.specs.Stage.{Attaches, Rests, attach_end, attach_stage, path_after}
 use Rattle.chip_core.specs.Markers.{attached_by_markers, blocks_from, known_by_markers, marker_state, markers_left}
 
 pub no_tables : (g : Geometry) → g.bbt ≡ 0 → has_tables g ≡ false

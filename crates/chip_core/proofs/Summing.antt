@@ -6,7 +6,7 @@ use Rattle.std.proofs.lemmas.List.{get_or_push}
 use Rattle.std.proofs.lemmas.List.Quantifiers.{position-Some}
 use Rattle.std.proofs.lemmas.List.Sums.{fails_before_first}
 use Rattle.std.specs.List.{position_or_len}
-use Rattle.nand_model.specs.Operation.{with_statistics}
+use Rattle.chip_paths.specs.Operation.{with_statistics}
 use Rattle.nand_model.specs.Page.{Decoding}
 use Rattle.nand_model.specs.declared.words.Stats.{Stats}
 use Rattle.chip_core.specs.Sums.{place_of, stats_in}

@@ -1,11 +1,11 @@
 -- Which operations a chip without tables takes.
 use Rattle.std.specs.Prelude.{ℕ, ◌+◌, ◌≤◌, Option, Some, None, IsSome, IfSome}
-use Rattle.nand_model.specs.Operation.{Partitions, part_of, device_of}
+use Rattle.nand_model.specs.Partitions.{Partitions, part_of, device_of}
 use Rattle.nand_model.specs.declared.geometry.Geometry.{Geometry}
 use Rattle.nand_model.specs.declared.words.Op.{Op}
 use Rattle.nand_model.specs.declared.words.Op.TheVariants.{Read, Write, RawRead, RawWrite, Erase, IsBad, Mark, Stats}
-use Rattle.chip_model.specs.Stage.{Stage, stage_statistics}
-use Rattle.chip_model.specs.Taken.{IsTaken}
+use Rattle.chip_paths.specs.Stage.{Stage, stage_statistics}
+use Rattle.command_model.specs.Taken.{IsTaken}
 use Rattle.chip_core.specs.Sums.{AreSmall}
 
 -- the device is there, and its partition ends within the chip

@@ -2,7 +2,8 @@
 use Rattle.std.specs.Prelude.{◌≡◌, ℕ, ◌/◌, ◌==◌, List, slice_index, Option, Some, None}
 use Rattle.nand_model.specs.Page.{page_image}
 use Rattle.nand_model.specs.Path.{Path}
-use Rattle.nand_model.specs.Operation.{Partitions, Known, Finished, answer, chip_block, chip_page, entry_of, has_block, has_page, is_good_block, only_if, operation_path}
+use Rattle.nand_model.specs.Partitions.{Partitions}
+use Rattle.chip_paths.specs.Operation.{Known, Finished, answer, chip_block, chip_page, entry_of, has_block, has_page, is_good_block, only_if, operation_path}
 use Rattle.nand_model.specs.declared.geometry.Geometry.{Geometry}
 use Rattle.nand_model.specs.declared.words.Op.{Op}
 use Rattle.nand_model.specs.declared.words.Part.{Part}

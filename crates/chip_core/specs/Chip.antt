@@ -1,8 +1,8 @@
 -- What contracts see of a chip: the state of its flash, its stage, the pages and bits set aside, and the news of its attach.
 use Rattle.std.specs.Prelude.{ℕ, Option, Bool}
 use Rattle.nand_model.specs.Chip.{ChipState}
-use Rattle.nand_model.specs.Attach.{Attaching}
-use Rattle.chip_model.specs.Stage.{Stage}
+use Rattle.chip_paths.specs.Attach.{Attaching}
+use Rattle.chip_paths.specs.Stage.{Stage}
 use Rattle.nand_iface.specs.declared.flash.Flash.{Ghosts}
 use Rattle.chip_core.specs.Phase.{phase_stage, news_in}
 use Rattle.chip_core.specs.declared.chip.Chip.{Chip}

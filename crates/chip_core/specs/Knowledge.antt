@@ -1,5 +1,5 @@
 -- What is known of a chip, as operations see it.
-use Rattle.nand_model.specs.Operation.{Known}
+use Rattle.chip_paths.specs.Operation.{Known}
 use Rattle.chip_core.specs.Markers.{known_by_markers}
 use Rattle.chip_core.specs.Sums.{stats_in}
 use Rattle.chip_core.specs.declared.knowledge.Knowledge.{Knowledge}

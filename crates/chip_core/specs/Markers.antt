@@ -3,9 +3,10 @@ use Rattle.std.specs.Prelude.{ℕ, ◌-◌, ◌==◌, if◌then◌else◌, List,
 use Rattle.nand_model.specs.Sizes.{numbers_from, first_page}
 use Rattle.nand_model.specs.Chip.{ChipState, ReadEvent}
 use Rattle.nand_model.specs.Path.{Path, Over, Then, cells_of}
-use Rattle.nand_model.specs.Attach.{Attaching, marker_byte}
-use Rattle.nand_model.specs.Operation.{Known}
-use Rattle.nand_model.specs.ChipRun.{known_at_first}
+use Rattle.chip_paths.specs.Attach.{Attaching}
+use Rattle.nand_model.specs.Page.{marker_byte}
+use Rattle.chip_paths.specs.Operation.{Known}
+use Rattle.chip_paths.specs.ChipRun.{known_at_first}
 use Rattle.nand_model.specs.declared.geometry.Geometry.{Geometry}
 use Rattle.nand_model.specs.declared.words.Origin.TheVariants.{Markers}
 

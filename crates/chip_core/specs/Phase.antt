@@ -5,8 +5,8 @@ use Rattle.std.proofs.Props.{props}
 use Rattle.nand_model.specs.Chip.{ChipState}
 use Rattle.nand_model.specs.Quiet.{is_quiet}
 use Rattle.nand_model.specs.Sizes.{raw_len}
-use Rattle.nand_model.specs.Attach.{Attaching}
-use Rattle.chip_model.specs.Stage.{Stage, Attaches, Rests, Works}
+use Rattle.chip_paths.specs.Attach.{Attaching}
+use Rattle.chip_paths.specs.Stage.{Stage, Attaches, Rests, Works}
 use Rattle.nand_model.specs.declared.geometry.Geometry.{Geometry}
 use Rattle.chip_core.specs.Knowledge.{known_in}
 use Rattle.chip_core.specs.Markers.{attached_by_markers, markers_left, blocks_from}

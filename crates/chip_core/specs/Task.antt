@@ -6,8 +6,8 @@ use Rattle.nand_model.specs.Chip.{ChipState, FaultModel, PageEvent, ReadEvent, P
 use Rattle.nand_model.specs.Counts.{HasRisen}
 use Rattle.nand_model.specs.Page.{Decoding, decoded}
 use Rattle.nand_model.specs.Path.{Path, Over, Then, cells_of, answer_to}
-use Rattle.nand_model.specs.Operation.{Known, Finished, after_read, answer, done_or, raw_reply, with_statistics}
-use Rattle.chip_model.specs.Stage.{failure_told, path_after}
+use Rattle.chip_paths.specs.Operation.{Known, Finished, after_read, answer, done_or, raw_reply, with_statistics}
+use Rattle.chip_paths.specs.Stage.{failure_told, path_after}
 use Rattle.nand_iface.specs.Flash.{FitsPage}
 use Rattle.nand_model.specs.declared.geometry.Geometry.{Geometry}
 use Rattle.nand_model.specs.declared.words.Fairness.{Fairness}

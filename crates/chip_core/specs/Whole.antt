@@ -1,9 +1,10 @@
 -- A whole attach and a whole operation.
 use Rattle.std.specs.Prelude.{◌≡◌, ℕ, ◌/◌, Bool, true, false, ◌==◌, List, map, slice_index, Option, Some, None, IfSome, IfNone}
-use Rattle.nand_model.specs.Attach.{marker_table}
+use Rattle.chip_paths.specs.Attach.{marker_table}
 use Rattle.nand_model.specs.Chip.{ChipEvent, ChipState, FaultModel, after_trace}
 use Rattle.nand_model.specs.Counts.{HasRisen}
-use Rattle.nand_model.specs.Operation.{Known, Partitions, Performs, chip_block, has_block, has_page, is_good_block}
+use Rattle.chip_paths.specs.Operation.{Known, Performs, chip_block, has_block, has_page, is_good_block}
+use Rattle.nand_model.specs.Partitions.{Partitions}
 use Rattle.nand_model.specs.Sizes.{numbers_from}
 use Rattle.nand_model.specs.declared.geometry.Geometry.{Geometry}
 use Rattle.nand_model.specs.declared.words.Op.{Op}
@@ -11,7 +12,7 @@ use Rattle.nand_model.specs.declared.words.Op.TheVariants.{Read, Write, RawRead,
 use Rattle.nand_model.specs.declared.words.Part.{Part}
 use Rattle.nand_model.specs.declared.words.Reply.{Reply}
 use Rattle.nand_model.specs.declared.words.Reply.TheVariants.{OutOfRange, BadBlock, MarkerByte, ProgramFailed, EraseFailed}
-use Rattle.chip_model.specs.Stage.{Stage, Attaches, Rests, Works}
+use Rattle.chip_paths.specs.Stage.{Stage, Attaches, Rests, Works}
 use Rattle.chip_core.specs.Begin.{read_device}
 use Rattle.chip_core.specs.Markers.{marker_page}
 

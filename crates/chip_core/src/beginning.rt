@@ -1,11 +1,12 @@
 // How an operation begins: with its refusal, with its reply, or with its first event.
 ghost use Rattle.std.specs.Prelude.{◌≡◌, ◌<◌, ◌≤◌, ◌+◌, ℕ, Some, None, length, slice_range, take, IfSome, IfOk};
-ghost use Rattle.nand_model.specs.Operation.{Known, Finished, device_of, part_of};
-ghost use Rattle.nand_model.specs.Page.{page_image};
+ghost use Rattle.chip_paths.specs.Operation.{Known, Finished};
+ghost use Rattle.nand_model.specs.Partitions.{device_of, part_of};
+ghost use Rattle.nand_model.specs.Page.{page_image, FillsPlaces};
 ghost use Rattle.nand_model.specs.Path.{Path};
 ghost use Rattle.nand_model.specs.Sizes.{page_count, raw_len};
 ghost use Rattle.nand_model.specs.declared.words.Op.TheVariants.{Stats as AsksStats};
-ghost use Rattle.chip_model.specs.Taken.{FillsPlaces, IsTaken};
+ghost use Rattle.command_model.specs.Taken.{IsTaken};
 ghost use Rattle.chip_core.specs.Begin.{HasDevice, read_device};
 ghost use Rattle.chip_core.specs.Beginning.{Begins, Follows, erase_from, in_range, on_page, raw_read_from, raw_write_from, read_from, state_from, write_from};
 

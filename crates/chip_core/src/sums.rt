@@ -1,6 +1,6 @@
 // The statistics of devices.
 ghost use Rattle.std.specs.Prelude.{◌≡◌, ◌==◌, [], IsSome, OnOk, position};
-ghost use Rattle.nand_model.specs.Operation.{with_statistics};
+ghost use Rattle.chip_paths.specs.Operation.{with_statistics};
 ghost use Rattle.nand_model.specs.Page.{Decoding};
 ghost use Rattle.chip_core.specs.Sums.{AreSmall, place_of, stats_in};
 

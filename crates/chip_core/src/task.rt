@@ -2,14 +2,14 @@
 ghost use Rattle.std.specs.Prelude.{◌≡◌, ◌≤◌, ◌<◌, ◌+◌, Some, option_map, IsSome, IfSome};
 ghost use Rattle.nand_iface.specs.Flash.{FitsPage};
 ghost use Rattle.nand_model.specs.Chip.{Complete, EraseEvent, ProgramEvent, happens};
-ghost use Rattle.nand_model.specs.ChipRun.{name_of};
+ghost use Rattle.chip_paths.specs.ChipRun.{name_of};
 ghost use Rattle.nand_model.specs.Counts.{HasRisen};
-ghost use Rattle.nand_model.specs.Operation.{Known, after_read, done_or, raw_reply};
+ghost use Rattle.chip_paths.specs.Operation.{Known, after_read, done_or, raw_reply};
 ghost use Rattle.nand_model.specs.Page.{decoded};
 ghost use Rattle.nand_model.specs.Path.{Over, answer_to};
 ghost use Rattle.nand_model.specs.declared.words.Fairness.TheVariants.{Plain};
 ghost use Rattle.nand_model.specs.declared.words.Reply.TheVariants.{ProgramFailed as RepliesProgramFailed, EraseFailed as RepliesEraseFailed};
-ghost use Rattle.chip_model.specs.Stage.{failure_told};
+ghost use Rattle.chip_paths.specs.Stage.{failure_told};
 ghost use Rattle.chip_core.specs.Task.{Advances, TaskFits, counted_by, programs_of, task_event, task_left};
 ghost use Rattle.chip_core.specs.declared.task.Task.TheVariants.{Ended};
 

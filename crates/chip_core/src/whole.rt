@@ -1,8 +1,8 @@
 // A whole attach and a whole operation of one chip, by its calls alone.
 ghost use Rattle.std.specs.Prelude.{◌≡◌, ◌≤◌, Some, true, IfSome, IfOk, OnErr};
-ghost use Rattle.nand_model.specs.Operation.{device_of, part_of};
+ghost use Rattle.nand_model.specs.Partitions.{device_of, part_of};
 ghost use Rattle.nand_model.specs.Quiet.{is_quiet};
-ghost use Rattle.chip_model.specs.Stage.{Rests, is_resting};
+ghost use Rattle.chip_paths.specs.Stage.{Rests, is_resting};
 ghost use Rattle.chip_core.specs.Begin.{CanBegin};
 ghost use Rattle.chip_core.specs.Chip.{chip_bits, chip_news, chip_spare, chip_stage, chip_state};
 ghost use Rattle.chip_core.specs.Markers.{attached_by_markers, known_by_markers};

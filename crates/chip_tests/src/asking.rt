@@ -1,8 +1,8 @@
 // A device and operations for tests: each operation is tested for what a chip needs of it, and its reply is told in short.
 ghost use Rattle.std.specs.Prelude.{◌≡◌, ◌<◌, ◌*◌, true, length, All, IfOk, IsTrue};
 ghost use Rattle.nand_model.specs.Sizes.{page_count, raw_len};
-ghost use Rattle.chip_model.specs.Stage.{is_resting};
-ghost use Rattle.chip_model.specs.Taken.{FillsPlaces};
+ghost use Rattle.chip_paths.specs.Stage.{is_resting};
+ghost use Rattle.nand_model.specs.Page.{FillsPlaces};
 ghost use Rattle.chip_core.specs.Begin.{CanBegin, HasDevice};
 ghost use Rattle.chip_core.specs.Chip.{chip_stage, chip_state};
 ghost use Rattle.chip_core.specs.Sums.{AreSmall};

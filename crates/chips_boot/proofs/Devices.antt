@@ -5,7 +5,7 @@ use Rattle.std.proofs.lemmas.List.{length-take-le}
 use Rattle.std.proofs.lemmas.List.Elements.{All-cons, All-get_or, All-nil}
 use Rattle.nand_model.specs.declared.words.Part.{Part}
 use Rattle.mtd_part.specs.Blocks.{SharesBlock}
-use Rattle.report_model.specs.Plan.{parts_from}
+use Rattle.plan_model.specs.Plan.{parts_from}
 use Rattle.report_model.proofs.Printed.{take_next}
 use Rattle.several_chip_plan.specs.SeveralChips.{chip_of}
 use Rattle.several_chip_plan.specs.declared.lines.ChipLines.{ChipLines}

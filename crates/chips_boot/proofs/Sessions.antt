@@ -4,8 +4,8 @@ use Rattle.std.specs.Prelude.{All, map, slice_get}
 use Rattle.std.proofs.lemmas.List.{length-take-le, map-append}
 use Rattle.std.proofs.lemmas.List.Elements.{All-cons, All-nil}
 use Rattle.nand_model.specs.declared.words.Command.{Command}
-use Rattle.run_model.specs.Course.{Boot, change_at}
-use Rattle.report_model.specs.Plan.{sessions_from}
+use Rattle.command_model.specs.Boot.{Boot, change_at}
+use Rattle.plan_model.specs.Plan.{sessions_from}
 use Rattle.report_model.proofs.Printed.{take_next}
 use Rattle.several_chip_plan.specs.SeveralChips.{command_of, session_of}
 use Rattle.several_chip_plan.specs.declared.lines.ChipLines.{ChipLines}

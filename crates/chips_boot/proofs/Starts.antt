@@ -7,7 +7,7 @@ use Rattle.std.proofs.lemmas.List.Elements.{All-cons, All-head, All-nil, All-tai
 use Rattle.std.proofs.lemmas.List.Sums.{sum_by-cons}
 use Rattle.std.proofs.lemmas.Option.{get_or_from_slice_get, slice_get-map}
 use Rattle.nand_model.specs.Chip.{ChipState, SimFaults, new_chip}
-use Rattle.nand_model.specs.Operation.{Partitions, part_of}
+use Rattle.nand_model.specs.Partitions.{Partitions, part_of, chip_of as chip_number, chip_of_part}
 use Rattle.nand_model.specs.Sizes.{small_chip}
 use Rattle.nand_model.specs.declared.geometry.Geometry.{Geometry}
 use Rattle.nand_model.specs.declared.words.BadMode.{BadMode}
@@ -16,9 +16,10 @@ use Rattle.nand_model.specs.declared.words.Command.{Command}
 use Rattle.nand_model.specs.declared.words.Command.TheVariants.{FlashErase as ToErase, NandWrite as ToWrite, NandDump as ToDump, NandTest as ToTest, MarkBad as ToMark, Stats as ToCount, IsBad as ToAsk}
 use Rattle.nand_model.specs.declared.words.Flip.{Flip}
 use Rattle.nand_model.specs.declared.words.Part.{Part}
-use Rattle.run_model.specs.Command.{command_device, cost_of}
-use Rattle.run_model.specs.Course.{chip_of as chip_number, chip_of_part, geometry_for, geometry_of_chip, sizes_of as sizes_for}
-use Rattle.report_model.specs.Plan.{ChipPlan, items_of, new_chips}
+use Rattle.command_model.specs.Command.{command_device, cost_of}
+use Rattle.command_model.specs.Boot.{geometry_for, geometry_of_chip}
+use Rattle.run_model.specs.Course.{sizes_of as sizes_for}
+use Rattle.plan_model.specs.Plan.{ChipPlan, items_of, new_chips}
 use Rattle.report_model.specs.Report.{line}
 use Rattle.report_model.proofs.Checked.{this_passes}
 use Rattle.tool_steps.specs.Stage.{CanRun, IsDeviceSize, device_size}

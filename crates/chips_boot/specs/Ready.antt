@@ -1,11 +1,12 @@
 -- What a controller needs at its start on a several-chip plan.
 use Rattle.std.specs.Prelude.{◌≡◌, ℕ, ◌*◌, ◌<◌, ◌≤◌, List, length, map, sum_by, slice_get, Some, None, All}
 use Rattle.nand_model.specs.Chip.{ChipState, SimFaults}
-use Rattle.nand_model.specs.Operation.{Partitions, part_of}
+use Rattle.nand_model.specs.Partitions.{Partitions, part_of}
 use Rattle.nand_model.specs.Sizes.{page_count, raw_len}
-use Rattle.run_model.specs.Command.{command_device, cost_of}
-use Rattle.run_model.specs.Course.{Boot, sizes_of}
-use Rattle.report_model.specs.Plan.{boot_part, new_chips}
+use Rattle.command_model.specs.Command.{command_device, cost_of}
+use Rattle.command_model.specs.Boot.{Boot}
+use Rattle.run_model.specs.Course.{sizes_of}
+use Rattle.plan_model.specs.Plan.{boot_part, new_chips}
 use Rattle.mtd_part.specs.Blocks.{LiesWithin}
 use Rattle.tool_steps.specs.Stage.{CanRun, device_size}
 use Rattle.several_chip_plan.specs.SeveralChips.{boot_of, chip_of, plan_of}

@@ -1,6 +1,6 @@
 -- A boot with one more session.
 use Rattle.std.specs.Prelude.{ℕ, List, [], ◌∷◌, ◌++◌}
-use Rattle.run_model.specs.Course.{Boot}
+use Rattle.command_model.specs.Boot.{Boot}
 use Rattle.nand_model.specs.declared.words.Command.{Command}
 
 -- the boot with one more session, which has these commands

@@ -1,7 +1,7 @@
 // The controller's part of a several-chip plan's boot.
 ghost use Rattle.std.specs.Prelude.{◌≡◌, ◌<◌, ◌∷◌, ◌++◌, [], ℕ, List, length, map, slice_get, All, IfOk, OnOk};
 ghost use Rattle.nand_model.specs.declared.words.Command.{Command as Ordered};
-ghost use Rattle.report_model.specs.Plan.{boot_part};
+ghost use Rattle.plan_model.specs.Plan.{boot_part};
 ghost use Rattle.several_chip_plan.specs.SeveralChips.{IsCommand, IsPlan, boot_of, chip_of, command_of as ordered, plan_of};
 ghost use Rattle.tool_steps.specs.Boot.{with_command};
 ghost use Rattle.chips_boot.specs.Sessions.{with_whole_session};

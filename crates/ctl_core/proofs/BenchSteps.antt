@@ -11,15 +11,18 @@ use Rattle.nand_model.specs.declared.words.Part.{Part}
 use Rattle.nand_model.specs.declared.words.Reply.{Reply}
 use Rattle.nand_model.specs.declared.words.Note.{Note}
 use Rattle.nand_model.specs.declared.words.Note.TheVariants.{Began, Answered}
-use Rattle.nand_model.specs.Operation.{Finished, part_of, device_of}
-use Rattle.run_model.specs.Course.{SessionRun, change_at, session_run, next_op, next_op_of, with_reply}
+use Rattle.chip_paths.specs.Operation.{Finished}
+use Rattle.nand_model.specs.Partitions.{part_of, device_of}
+use Rattle.command_model.specs.Session.{SessionRun, next_op, next_op_of, with_reply}
+use Rattle.command_model.specs.Boot.{change_at}
+use Rattle.run_model.specs.Course.{session_run}
 use Rattle.tool_steps.specs.Stage.{CanRun}
 use Rattle.tool_steps.specs.Boot.{commands_at}
 use Rattle.session_steps.specs.declared.session.Session.{Session}
 use Rattle.session_steps.specs.Standing.{number_of, standing, commands_by, First, IsWaiting}
 use Rattle.session_steps.specs.Mirrors.{Mirrors}
-use Rattle.chip_model.specs.Taken.{IsTaken}
-use Rattle.chip_model.specs.Stage.{finished_in}
+use Rattle.command_model.specs.Taken.{IsTaken}
+use Rattle.chip_paths.specs.Stage.{finished_in}
 use Rattle.chip_core.specs.Begin.{CanBegin}
 use Rattle.ctl_core.specs.declared.bench.Bench.{Bench}
 use Rattle.ctl_core.specs.declared.bench.Slot.{Slot}

@@ -2,12 +2,13 @@
 use Rattle.std.proofs.Common.{◌≡◌, ℕ, Bool, true, false, ◌&&◌, List, [], ◌∷◌, ◌++◌, Option, Some, None, refl, ap, ◌∙◌}
 use Rattle.nand_model.specs.Chip.{FaultModel, PageEvent, Complete, happens}
 use Rattle.nand_model.specs.Path.{Answer, Path, Over, Then, answer_to, after_answers, is_failure}
-use Rattle.nand_model.specs.Attach.{Attaching, attach_path}
-use Rattle.nand_model.specs.Operation.{Partitions, Known, Finished, operation_path}
-use Rattle.nand_model.specs.ChipRun.{ChipRun, Pending, known_once_over, next_event_by, next_chip_event, advanced, answered_by, with_pending, with_finished, attach_notes, attach_notes_of, attach_notes_by, notes_of_advance, torn_notes, finished_by}
+use Rattle.chip_paths.specs.Attach.{Attaching, attach_path}
+use Rattle.nand_model.specs.Partitions.{Partitions}
+use Rattle.chip_paths.specs.Operation.{Known, Finished, operation_path}
+use Rattle.chip_paths.specs.ChipRun.{ChipRun, Pending, known_once_over, next_event_by, next_chip_event, advanced, answered_by, with_pending, with_finished, attach_notes, attach_notes_of, attach_notes_by, notes_of_advance, torn_notes, finished_by}
 use Rattle.nand_model.specs.Quiet.{is_quiet, fairness_of}
 use Rattle.nand_model.specs.declared.words.Op.{Op}
-use Rattle.chip_model.specs.Stage.{Attaches, Works, stage_by, stage_of, stage_event, stage_begun, path_after, attach_stage, stage_after, news_after, attach_end, failure_told, fairness_where_failed, finished_in}
+use Rattle.chip_paths.specs.Stage.{Attaches, Works, stage_by, stage_of, stage_event, stage_begun, path_after, attach_stage, stage_after, news_after, attach_end, failure_told, fairness_where_failed, finished_in}
 use Rattle.run_laws.proofs.Traces.{geometry_happens}
 use Rattle.ctl_core.specs.KeptChip.{kept_as, holder_by, after_event, after_begin, after_answer, with_news_told, failure_notes, news_notes}
 

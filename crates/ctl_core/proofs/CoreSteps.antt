@@ -7,15 +7,16 @@ use Rattle.nand_iface.specs.NotesAndRoom.{NotesAndRoom}
 use Rattle.nand_model.specs.declared.words.Command.{Command}
 use Rattle.nand_model.specs.declared.words.Flip.{Flip}
 use Rattle.nand_model.specs.Chip.{PageEvent}
-use Rattle.nand_model.specs.Operation.{Known}
-use Rattle.nand_model.specs.ChipRun.{ChipRun, Pending, next_chip_event}
-use Rattle.run_model.specs.Course.{Course, attach_step, attach_first, chip_step, event_or_answer, with_answer, course_after, is_idle, unattached, change_at}
+use Rattle.chip_paths.specs.Operation.{Known}
+use Rattle.chip_paths.specs.ChipRun.{ChipRun, Pending, next_chip_event}
+use Rattle.run_model.specs.Course.{Course, attach_step, attach_first, chip_step, event_or_answer, with_answer, course_after, is_idle, unattached}
+use Rattle.command_model.specs.Boot.{change_at}
 use Rattle.run_laws.specs.Turns.{busy_turns}
 use Rattle.run_laws.proofs.AttachTurns.{attach_is_step}
 use Rattle.run_laws.proofs.Places.{position_is}
 use Rattle.session_steps.specs.declared.session.Session.{Session}
 use Rattle.session_steps.specs.Standing.{number_of}
-use Rattle.chip_model.specs.Stage.{stage_event, is_attached, failure_told}
+use Rattle.chip_paths.specs.Stage.{stage_event, is_attached, failure_told}
 use Rattle.ctl_core.specs.declared.bench.Bench.{Bench}
 use Rattle.ctl_core.specs.KeptChip.{KeptChip, first_attaching, after_event, with_news_told, failure_notes, news_notes}
 use Rattle.ctl_core.specs.Past.{Past, with_attach, with_turn, starts_of, sizes_in, course_of, next_course}

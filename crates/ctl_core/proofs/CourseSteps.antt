@@ -7,10 +7,13 @@ use Rattle.nand_model.specs.declared.words.Note.{Note}
 use Rattle.nand_model.specs.declared.words.Note.TheVariants.{Began, Answered}
 use Rattle.nand_model.specs.declared.words.Op.{Op}
 use Rattle.nand_model.specs.Chip.{FaultModel, PageEvent}
-use Rattle.nand_model.specs.Operation.{Partitions, Known, Finished, device_of}
-use Rattle.nand_model.specs.ChipRun.{ChipRun, Pending, next_chip_event, advanced, attach_notes, notes_of_advance, with_pending, with_finished, finished_by}
-use Rattle.run_model.specs.Course.{Boot, Course, change_at, chip_of, next_op, session_run, pending_chip, unattached, is_pending_of, began, finish, with_answer, is_free, is_free_at, can_begin, is_idle, tear_at, with_flips_before, event_done, event_on, event_step, event_or_answer, chip_step, begin_on, begin_at, begin_step, session_step, turn_unless, turn_step, attach_first, attach_step}
-use Rattle.chip_model.specs.Stage.{stage_by, failure_told, is_attached}
+use Rattle.nand_model.specs.Partitions.{Partitions, device_of, chip_of}
+use Rattle.chip_paths.specs.Operation.{Known, Finished}
+use Rattle.chip_paths.specs.ChipRun.{ChipRun, Pending, next_chip_event, advanced, attach_notes, notes_of_advance, with_pending, with_finished, finished_by}
+use Rattle.command_model.specs.Boot.{Boot, change_at}
+use Rattle.run_model.specs.Course.{Course, session_run, pending_chip, unattached, is_pending_of, began, finish, with_answer, is_free, is_free_at, can_begin, is_idle, tear_at, with_flips_before, event_done, event_on, event_step, event_or_answer, chip_step, begin_on, begin_at, begin_step, session_step, turn_unless, turn_step, attach_first, attach_step}
+use Rattle.command_model.specs.Session.{next_op}
+use Rattle.chip_paths.specs.Stage.{stage_by, failure_told, is_attached}
 use Rattle.run_laws.proofs.Places.{position_none}
 use Rattle.ctl_core.specs.KeptChip.{KeptChip, kept_as, all_kept, is_held_by, first_attaching, first_held_by, after_event, after_begin, after_answer, with_news_told, failure_notes, news_notes, holder_by}
 use Rattle.ctl_core.specs.Flips.{kept_flips_before}

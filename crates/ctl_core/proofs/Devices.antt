@@ -12,10 +12,12 @@ use Rattle.nand_model.specs.declared.words.Note.{Note}
 use Rattle.nand_model.specs.declared.words.Reply.{Reply}
 use Rattle.nand_model.specs.Sizes.{small_chip}
 use Rattle.nand_model.specs.Chip.{ChipState, FaultModel}
-use Rattle.nand_model.specs.Operation.{Partitions, part_of}
-use Rattle.nand_model.specs.ChipRun.{ChipRun}
-use Rattle.run_model.specs.Command.{Script, End, Ask, next_in, next_step, command_device}
-use Rattle.run_model.specs.Course.{Boot, Course, SessionRun, chip_of_part, geometry_of_chip, sizes_of, next_op_of, op_of_next}
+use Rattle.nand_model.specs.Partitions.{Partitions, part_of, chip_of_part}
+use Rattle.chip_paths.specs.ChipRun.{ChipRun}
+use Rattle.command_model.specs.Command.{Script, End, Ask, next_in, next_step, command_device}
+use Rattle.command_model.specs.Boot.{Boot, geometry_of_chip}
+use Rattle.run_model.specs.Course.{Course, sizes_of}
+use Rattle.command_model.specs.Session.{SessionRun, next_op_of, op_of_next}
 use Rattle.run_model.specs.History.{events_in, notes_of_chip}
 use Rattle.run_model.specs.Log.{Log}
 use Rattle.run_laws.proofs.Traces.{geometry_after}

@@ -4,8 +4,9 @@ use Rattle.std.specs.Prelude.{Contains}
 use Rattle.nand_model.specs.declared.words.Command.{Command}
 use Rattle.nand_model.specs.declared.words.Op.{Op}
 use Rattle.nand_model.specs.Chip.{ChipState, FaultModel}
-use Rattle.run_model.specs.Course.{Boot, Course, SessionRun, session_run, sizes_of}
-use Rattle.run_model.specs.History.{exchanges_of, session_after}
+use Rattle.command_model.specs.Boot.{Boot}
+use Rattle.run_model.specs.Course.{Course, session_run, sizes_of}
+use Rattle.command_model.specs.Session.{SessionRun, exchanges_of, session_after}
 use Rattle.run_model.specs.Run.{HaveOneNumberEach, session_at_start}
 use Rattle.run_laws.proofs.Courses.{Holds, SessionsHold}
 use Rattle.run_laws.proofs.Sessions.{asked}

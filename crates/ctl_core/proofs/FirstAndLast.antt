@@ -6,9 +6,11 @@ use Rattle.std.proofs.lemmas.Option.{slice_get_within}
 use Rattle.nand_iface.specs.declared.flash.Flash.{Ghosts}
 use Rattle.nand_model.specs.declared.words.Command.{Command}
 use Rattle.nand_model.specs.Chip.{ChipState}
-use Rattle.nand_model.specs.Operation.{Partitions}
-use Rattle.nand_model.specs.ChipRun.{ChipRun, chip_at_start}
-use Rattle.run_model.specs.Course.{Boot, SessionRun, sizes_of, is_over, is_finished, unattached, without_finished}
+use Rattle.nand_model.specs.Partitions.{Partitions}
+use Rattle.chip_paths.specs.ChipRun.{ChipRun, chip_at_start}
+use Rattle.command_model.specs.Boot.{Boot}
+use Rattle.command_model.specs.Session.{SessionRun, is_finished, without_finished}
+use Rattle.run_model.specs.Course.{sizes_of, is_over, unattached}
 use Rattle.run_laws.proofs.Places.{position_is}
 use Rattle.run_laws.proofs.Sessions.{number_stays}
 use Rattle.tool_steps.specs.Stage.{CanRun}

@@ -11,7 +11,7 @@ use Rattle.fault_plan.specs.Due.{is_due}
 use Rattle.nand_iface.specs.declared.flash.Flash.{Ghosts}
 use Rattle.nand_model.specs.Chip.{PageEvent}
 use Rattle.nand_model.specs.declared.words.Flip.{Flip}
-use Rattle.chip_model.specs.Stage.{stage_event}
+use Rattle.chip_paths.specs.Stage.{stage_event}
 use Rattle.ctl_core.specs.declared.bench.Slot.{Slot}
 use Rattle.ctl_core.specs.Bench.{HasRoom, kept_slot}
 use Rattle.ctl_core.specs.Flips.{CanFlip, bit_count, due_flips, kept_flip, kept_flips_before}

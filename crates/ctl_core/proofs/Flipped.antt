@@ -4,15 +4,17 @@ use Rattle.std.specs.Prelude.{slice_get, fold, option_map}
 use Rattle.std.proofs.lemmas.Bool.{cases_eq}
 use Rattle.nand_iface.specs.Flash.{FitsBits}
 use Rattle.nand_model.specs.declared.words.Flip.{Flip}
-use Rattle.nand_model.specs.Attach.{attach_path}
+use Rattle.chip_paths.specs.Attach.{attach_path}
 use Rattle.nand_model.specs.Chip.{FaultModel, flip_events}
-use Rattle.nand_model.specs.ChipRun.{ChipRun, Pending, with_flips}
-use Rattle.nand_model.specs.Operation.{Partitions, Known, operation_path}
+use Rattle.chip_paths.specs.ChipRun.{ChipRun, Pending, with_flips}
+use Rattle.nand_model.specs.Partitions.{Partitions}
+use Rattle.chip_paths.specs.Operation.{Known, operation_path}
 use Rattle.nand_model.specs.Path.{after_answers}
-use Rattle.run_model.specs.Course.{Boot, change_at, with_flip, with_flips_before}
+use Rattle.command_model.specs.Boot.{Boot, change_at}
+use Rattle.run_model.specs.Course.{with_flip, with_flips_before}
 use Rattle.run_laws.proofs.Places.{change_here, change_elsewhere}
 use Rattle.run_laws.proofs.Traces.{geometry_after}
-use Rattle.chip_model.specs.Stage.{Attaches, Works, stage_by}
+use Rattle.chip_paths.specs.Stage.{Attaches, Works, stage_by}
 use Rattle.session_steps.specs.declared.session.Session.{Session}
 use Rattle.ctl_core.specs.Flips.{due_flips, with_bits_turned, kept_flip, kept_flips_before, CanFlip}
 use Rattle.ctl_core.specs.KeptChip.{KeptChip, kept_as, all_kept, holder_by}

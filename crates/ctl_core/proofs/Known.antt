@@ -7,9 +7,12 @@ use Rattle.nand_model.specs.declared.words.Flip.{Flip}
 use Rattle.nand_model.specs.declared.words.Op.{Op}
 use Rattle.nand_model.specs.Chip.{FaultModel, PageEvent, Complete, happens}
 use Rattle.nand_model.specs.Path.{answer_to}
-use Rattle.nand_model.specs.Operation.{Known, Finished, device_of}
-use Rattle.nand_model.specs.ChipRun.{ChipRun, Pending, next_chip_event, finished_by, answered_by, advanced, with_flips}
-use Rattle.run_model.specs.Course.{Boot, Course, change_at, with_flip, with_flips_before, chip_of, next_op, session_run, pending_chip, unattached, is_idle, with_answer, finish, event_or_answer, chip_step, began, begin_on, begin_at, begin_step, session_step, turn_unless, turn_step}
+use Rattle.chip_paths.specs.Operation.{Known, Finished}
+use Rattle.nand_model.specs.Partitions.{device_of, chip_of}
+use Rattle.chip_paths.specs.ChipRun.{ChipRun, Pending, next_chip_event, finished_by, answered_by, advanced, with_flips}
+use Rattle.command_model.specs.Boot.{Boot, change_at}
+use Rattle.run_model.specs.Course.{Course, with_flip, with_flips_before, session_run, pending_chip, unattached, is_idle, with_answer, finish, event_or_answer, chip_step, began, begin_on, begin_at, begin_step, session_step, turn_unless, turn_step}
+use Rattle.command_model.specs.Session.{next_op}
 use Rattle.run_laws.proofs.Places.{position_none}
 use Rattle.ctl_core.specs.Flips.{due_flips}
 use Rattle.ctl_core.proofs.Positions.{nowhere}

@@ -4,7 +4,8 @@ use Rattle.std.specs.Prelude.{slice_get, Contains}
 use Rattle.std.proofs.lemmas.Option.{slice_get_within, get_or_from_slice_get, same_Some}
 use Rattle.nand_iface.specs.declared.flash.Flash.{Ghosts}
 use Rattle.nand_model.specs.declared.words.Command.{Command}
-use Rattle.run_model.specs.Course.{SessionRun, session_run}
+use Rattle.command_model.specs.Session.{SessionRun}
+use Rattle.run_model.specs.Course.{session_run}
 use Rattle.ctl_core.specs.declared.bench.Bench.{Bench}
 use Rattle.ctl_core.specs.Past.{Past, starts_of, sizes_in, course_of}
 use Rattle.ctl_core.specs.Ended.{end_of_run, end_by_notes, ends_by_notes}

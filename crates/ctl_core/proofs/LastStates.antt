@@ -14,13 +14,15 @@ use Rattle.nand_model.specs.declared.words.Reply.{Reply}
 use Rattle.nand_model.specs.declared.words.Part.{Part}
 use Rattle.nand_model.specs.declared.words.Stats.{Stats}
 use Rattle.nand_model.specs.Sizes.{numbers_from}
-use Rattle.nand_model.specs.Operation.{Partitions, Known}
-use Rattle.nand_model.specs.ChipRun.{ChipRun, Pending, bad_blocks, bad_blocks_in}
+use Rattle.nand_model.specs.Partitions.{Partitions, chip_of}
+use Rattle.chip_paths.specs.Operation.{Known}
+use Rattle.chip_paths.specs.ChipRun.{ChipRun, Pending, bad_blocks, bad_blocks_in}
 use Rattle.nand_model.proofs.Bounds.{bounds_of}
-use Rattle.run_model.specs.Course.{SessionRun, chip_of, end_states, is_over, is_finished, next_op_of}
+use Rattle.command_model.specs.Session.{SessionRun, is_finished, next_op_of}
+use Rattle.run_model.specs.Course.{end_states, is_over}
 use Rattle.session_steps.specs.declared.session.Session.{Session}
 use Rattle.session_steps.specs.Standing.{standing, end_of}
-use Rattle.chip_model.specs.Stage.{stage_by, stage_statistics, stage_table}
+use Rattle.chip_paths.specs.Stage.{stage_by, stage_statistics, stage_table}
 use Rattle.ctl_core.specs.declared.bench.Bench.{Bench}
 use Rattle.ctl_core.specs.KeptChip.{KeptChip, kept_as, all_kept}
 use Rattle.ctl_core.specs.Past.{Past, starts_of, sizes_in, course_of}

@@ -8,22 +8,24 @@ use Rattle.nand_iface.specs.declared.flash.Flash.{Ghosts}
 use Rattle.nand_model.specs.declared.geometry.Geometry.{Geometry}
 use Rattle.nand_model.specs.declared.words.Command.{Command}
 use Rattle.nand_model.specs.Chip.{ChipState, FaultModel}
-use Rattle.nand_model.specs.Operation.{Partitions, Known}
-use Rattle.nand_model.specs.ChipRun.{ChipRun, Pending}
+use Rattle.nand_model.specs.Partitions.{Partitions}
+use Rattle.chip_paths.specs.Operation.{Known}
+use Rattle.chip_paths.specs.ChipRun.{ChipRun, Pending}
 use Rattle.nand_model.proofs.Bounds.{bounds_of}
-use Rattle.run_model.specs.Course.{Boot, Course, course_after, unattached}
+use Rattle.command_model.specs.Boot.{Boot}
+use Rattle.run_model.specs.Course.{Course, course_after, unattached}
 use Rattle.run_model.specs.History.{notes_of_chip}
 use Rattle.run_laws.specs.Turns.{busy_turns}
 use Rattle.run_laws.proofs.Courses.{EndOf, by_log, Holds, place_start}
 use Rattle.run_laws.proofs.Faithful.{log_of}
 use Rattle.run_laws.proofs.Places.{position_is, position_none}
-use Rattle.cost_laws.specs.Cost.{boot_cost}
-use Rattle.cost_laws.specs.Laws.{blocks_of}
-use Rattle.cost_laws.proofs.Bounds.{busy_few, events_few}
-use Rattle.cost_laws.proofs.Attaches.{attaches_few}
+use Rattle.turn_laws.specs.Cost.{boot_cost}
+use Rattle.turn_laws.specs.Laws.{blocks_of}
+use Rattle.turn_laws.proofs.Bounds.{busy_few, events_few}
+use Rattle.turn_laws.proofs.Attaches.{attaches_few}
 use Rattle.session_steps.specs.declared.session.Session.{Session}
 use Rattle.session_steps.specs.Standing.{number_of}
-use Rattle.chip_model.specs.Stage.{is_working, stage_by}
+use Rattle.chip_paths.specs.Stage.{is_working, stage_by}
 use Rattle.ctl_core.specs.declared.bench.Bench.{Bench}
 use Rattle.ctl_core.specs.declared.bench.Slot.{Slot}
 use Rattle.ctl_core.specs.KeptChip.{KeptChip, kept_as, holder_by, first_attaching, first_held_by, is_held_by}

@@ -12,10 +12,13 @@ use Rattle.nand_model.specs.declared.words.Flip.{Flip}
 use Rattle.nand_model.specs.declared.words.Reply.{Reply}
 use Rattle.nand_model.specs.Chip.{PageEvent}
 use Rattle.nand_model.specs.Path.{Path, Over, Then, first_event, result_of}
-use Rattle.nand_model.specs.Operation.{Partitions, Finished, part_of, device_of}
-use Rattle.nand_model.specs.ChipRun.{ChipRun, Pending}
-use Rattle.run_model.specs.Command.{command_device}
-use Rattle.run_model.specs.Course.{Course, SessionRun, change_at, chip_of, chip_of_part, session_run, next_op, next_op_of, is_finished, pending_chip, can_begin, is_free_at, is_free, is_idle}
+use Rattle.nand_model.specs.Partitions.{Partitions, part_of, device_of, chip_of, chip_of_part}
+use Rattle.chip_paths.specs.Operation.{Finished}
+use Rattle.chip_paths.specs.ChipRun.{ChipRun, Pending}
+use Rattle.command_model.specs.Command.{command_device}
+use Rattle.run_model.specs.Course.{Course, session_run, pending_chip, can_begin, is_free_at, is_free, is_idle}
+use Rattle.command_model.specs.Session.{SessionRun, next_op, next_op_of, is_finished}
+use Rattle.command_model.specs.Boot.{change_at}
 use Rattle.run_laws.proofs.Courses.{Holds}
 use Rattle.run_laws.proofs.Faithful.{course_holds}
 use Rattle.run_laws.proofs.Places.{position_is, position_none}
@@ -24,8 +27,8 @@ use Rattle.tool_steps.specs.Stage.{CanRun}
 use Rattle.session_steps.specs.declared.session.Session.{Session}
 use Rattle.session_steps.specs.Standing.{number_of, standing, outcomes_by, commands_by, First}
 use Rattle.session_steps.proofs.TakenOps.{next_taken}
-use Rattle.chip_model.specs.Taken.{IsTaken}
-use Rattle.chip_model.specs.Stage.{Stage, Attaches, Rests, Works, failure_told, stage_event, finished_in, is_working, is_resting, stage_by}
+use Rattle.command_model.specs.Taken.{IsTaken}
+use Rattle.chip_paths.specs.Stage.{Stage, Attaches, Rests, Works, failure_told, stage_event, finished_in, is_working, is_resting, stage_by}
 use Rattle.chip_core.specs.Chip.{chip_stage}
 use Rattle.ctl_core.specs.declared.turn.Turn.TheVariants.{Did, Held, Done}
 use Rattle.ctl_core.specs.declared.bench.Bench.{Bench}

@@ -3,7 +3,8 @@ use Rattle.std.proofs.Common.{◌≡◌, ◌+◌, ℕ, zero, suc, false, List, [
 use Rattle.std.specs.Prelude.{if◌then◌else◌}
 use Rattle.std.proofs.lemmas.List.Sums.{fold-append}
 use Rattle.nand_model.specs.Chip.{ChipState, FaultModel}
-use Rattle.run_model.specs.Course.{Boot, Course, attach_step, attach_steps, turn_step, turns_taken, course_after, start_of_boot, sizes_of, is_idle}
+use Rattle.command_model.specs.Boot.{Boot}
+use Rattle.run_model.specs.Course.{Course, attach_step, attach_steps, turn_step, turns_taken, course_after, start_of_boot, sizes_of, is_idle}
 use Rattle.run_laws.specs.Turns.{busy_turns}
 
 module _ {W : Type 0} (model : FaultModel W) (boot : Boot) (starts : List (ChipState W)) where

@@ -2,8 +2,10 @@
 use Rattle.std.proofs.Common.{◌≡◌, inl, inr, ℕ, true, false, List, Some, ap, sym, ◌∙◌}
 use Rattle.std.specs.Prelude.{slice_get}
 use Rattle.nand_model.specs.Chip.{ChipState, FaultModel}
-use Rattle.nand_model.specs.ChipRun.{ChipRun, Pending}
-use Rattle.run_model.specs.Course.{Boot, Course, SessionRun, next_op_of, session_run, sizes_of}
+use Rattle.chip_paths.specs.ChipRun.{ChipRun, Pending}
+use Rattle.command_model.specs.Boot.{Boot}
+use Rattle.run_model.specs.Course.{Course, session_run, sizes_of}
+use Rattle.command_model.specs.Session.{SessionRun, next_op_of}
 use Rattle.run_model.specs.Run.{HaveOneNumberEach}
 use Rattle.run_laws.proofs.Courses.{asked_by, asked_on, asked_at, Holds, IsLive}
 

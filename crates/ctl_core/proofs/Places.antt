@@ -3,7 +3,7 @@ use Rattle.std.proofs.Common.{◌≡◌, ◌<◌, ◌⊎◌, inl, inr, arith, �
 use Rattle.std.specs.Prelude.{slice_get, find, map}
 use Rattle.std.proofs.Math.ListN.{set, length-set}
 use Rattle.std.proofs.lemmas.Bool.{cond-true, cond-false, cases_eq}
-use Rattle.run_model.specs.Course.{change_at}
+use Rattle.command_model.specs.Boot.{change_at}
 use Rattle.run_laws.proofs.Places.{change_here, change_elsewhere}
 
 -- a list with one item changed

@@ -3,7 +3,7 @@ use Rattle.std.proofs.Common.{◌≡◌, ltb, not, arith, ℕ, zero, suc, ◌+�
 use Rattle.std.proofs.lemmas.Bool.{le-ltb, cond-false}
 use Rattle.std.specs.Prelude.{slice_get, position, map}
 use Rattle.std.specs.List.{position_or_len}
-use Rattle.run_model.specs.Course.{change_at}
+use Rattle.command_model.specs.Boot.{change_at}
 
 same_or_len : {A B : Type 0} (p : A → Bool) (q : B → Bool) (f : A → B) (xs : List A) → ((k : ℕ) (x : A) → slice_get xs k ≡ Some x → p x ≡ q (f x))
     → position_or_len p xs ≡ position_or_len q (map f xs)

@@ -8,7 +8,8 @@ use Rattle.nand_model.specs.declared.geometry.Geometry.{Geometry}
 use Rattle.nand_model.specs.declared.words.Command.{Command}
 use Rattle.nand_model.specs.declared.words.Note.{Note}
 use Rattle.nand_model.specs.declared.words.Reply.{Reply}
-use Rattle.run_model.specs.Course.{SessionRun, with_reply, replied, change_at}
+use Rattle.command_model.specs.Session.{SessionRun, with_reply, replied}
+use Rattle.command_model.specs.Boot.{change_at}
 use Rattle.run_model.specs.Run.{HaveOneNumberEach}
 use Rattle.session_steps.specs.declared.session.Session.{Session}
 use Rattle.session_steps.specs.Standing.{number_of, IsWaiting}

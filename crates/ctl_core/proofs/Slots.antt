@@ -3,12 +3,12 @@ use Rattle.std.proofs.Common.{◌≡◌, ℕ, Bool, List, ◌++◌, Option, Some
 use Rattle.std.specs.Prelude.{slice_get, map, option_map, IfSome}
 use Rattle.std.proofs.lemmas.Option.{get_or_from_slice_get}
 use Rattle.nand_model.specs.Chip.{PageEvent}
-use Rattle.nand_model.specs.Attach.{Attaching}
-use Rattle.nand_model.specs.ChipRun.{name_of}
+use Rattle.chip_paths.specs.Attach.{Attaching}
+use Rattle.chip_paths.specs.ChipRun.{name_of}
 use Rattle.nand_model.specs.declared.words.Event.{Event}
 use Rattle.nand_model.specs.declared.words.Fairness.{Fairness}
 use Rattle.nand_model.specs.declared.words.Note.{Note}
-use Rattle.chip_model.specs.Stage.{note_of_news}
+use Rattle.chip_paths.specs.Stage.{note_of_news}
 use Rattle.ctl_core.specs.KeptChip.{failure_notes, news_notes, noted}
 use Rattle.ctl_core.proofs.Positions.{mapped_at}
 

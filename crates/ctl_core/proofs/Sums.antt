@@ -4,10 +4,10 @@ use Rattle.std.specs.Prelude.{slice_get, IfSome}
 use Rattle.nand_iface.specs.declared.flash.Flash.{Ghosts}
 use Rattle.nand_model.specs.declared.words.Op.{Op}
 use Rattle.nand_model.specs.declared.words.Stats.{Stats}
-use Rattle.nand_model.specs.Operation.{Known}
-use Rattle.nand_model.specs.ChipRun.{ChipRun}
-use Rattle.count_laws.proofs.Courses.{counts_small}
-use Rattle.chip_model.specs.Stage.{stage_statistics}
+use Rattle.chip_paths.specs.Operation.{Known}
+use Rattle.chip_paths.specs.ChipRun.{ChipRun}
+use Rattle.statistics_laws.proofs.Courses.{counts_small}
+use Rattle.chip_paths.specs.Stage.{stage_statistics}
 use Rattle.chip_core.specs.Begin.{read_device}
 use Rattle.chip_core.specs.Sums.{AreSmall}
 use Rattle.ctl_core.specs.declared.bench.Bench.{Bench}

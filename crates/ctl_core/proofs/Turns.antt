@@ -8,11 +8,14 @@ use Rattle.nand_model.specs.declared.words.Note.TheVariants.{Began, Answered}
 use Rattle.nand_model.specs.declared.words.Op.{Op}
 use Rattle.nand_model.specs.Chip.{ChipState, FaultModel, PageEvent}
 use Rattle.nand_model.specs.Path.{Path, Over, Then, first_event, result_of}
-use Rattle.nand_model.specs.Operation.{Finished, device_of}
-use Rattle.nand_model.specs.ChipRun.{ChipRun, Pending, next_chip_event}
+use Rattle.chip_paths.specs.Operation.{Finished}
+use Rattle.nand_model.specs.Partitions.{device_of, chip_of}
+use Rattle.chip_paths.specs.ChipRun.{ChipRun, Pending, next_chip_event}
 use Rattle.run_laws.proofs.Sessions.{number_stays}
-use Rattle.run_model.specs.Course.{finish, Boot, Course, SessionRun, change_at, chip_of, next_op, next_op_of, session_run, pending_chip, unattached, turn_step, attach_step, with_flips_before, sizes_of, with_reply}
-use Rattle.chip_model.specs.Stage.{Stage, Attaches, Rests, Works, stage_event, failure_told, finished_in}
+use Rattle.run_model.specs.Course.{finish, Course, session_run, pending_chip, unattached, turn_step, attach_step, with_flips_before, sizes_of}
+use Rattle.command_model.specs.Boot.{Boot, change_at}
+use Rattle.command_model.specs.Session.{SessionRun, next_op, next_op_of, with_reply}
+use Rattle.chip_paths.specs.Stage.{Stage, Attaches, Rests, Works, stage_event, failure_told, finished_in}
 use Rattle.run_laws.proofs.Courses.{Holds}
 use Rattle.run_laws.proofs.Places.{position_is, position_none}
 use Rattle.session_steps.specs.declared.session.Session.{Session}

@@ -1,10 +1,11 @@
 -- How turns are answered, and what they make of a controller.
 use Rattle.std.specs.Prelude.{ℕ, Bool, true, false, Option, Some, None, Result, Ok, Err, option_and_then}
-use Rattle.nand_model.specs.Operation.{Partitions, device_of}
+use Rattle.nand_model.specs.Partitions.{Partitions, device_of, chip_of}
 use Rattle.nand_model.specs.declared.geometry.Geometry.{Geometry}
 use Rattle.nand_model.specs.declared.words.Command.{Command}
 use Rattle.nand_model.specs.declared.words.Op.{Op}
-use Rattle.run_model.specs.Course.{Course, chip_of, session_run, next_op, pending_chip}
+use Rattle.run_model.specs.Course.{Course, session_run, pending_chip}
+use Rattle.command_model.specs.Session.{next_op}
 use Rattle.ctl_core.specs.declared.turn.Turn.{Turn}
 use Rattle.ctl_core.specs.declared.turn.Turn.TheVariants.{Did, Held, Done, Dark}
 use Rattle.ctl_core.specs.Past.{Past, with_attach, with_turn, is_done, session_at}

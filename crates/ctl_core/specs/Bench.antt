@@ -3,11 +3,12 @@ use Rattle.std.specs.Prelude.{◌≡◌, ◌≤◌, ℕ, ◌+◌, ◌++◌, List
 use Rattle.nand_iface.specs.declared.flash.Flash.{Ghosts}
 use Rattle.nand_model.specs.Chip.{PageEvent}
 use Rattle.nand_model.specs.declared.words.Flip.{Flip}
-use Rattle.run_model.specs.Course.{Course, change_at, unattached, course_after}
+use Rattle.run_model.specs.Course.{Course, unattached, course_after}
+use Rattle.command_model.specs.Boot.{change_at}
 use Rattle.run_laws.specs.Turns.{busy_turns}
 use Rattle.chip_core.specs.Chip.{chip_state, chip_stage, chip_spare, chip_bits, chip_news}
-use Rattle.chip_model.specs.Stage.{stage_event, finished_in, failure_told}
-use Rattle.nand_model.specs.Operation.{Finished}
+use Rattle.chip_paths.specs.Stage.{stage_event, finished_in, failure_told}
+use Rattle.chip_paths.specs.Operation.{Finished}
 use Rattle.session_steps.specs.Standing.{number_of}
 use Rattle.ctl_core.specs.declared.bench.Slot.{Slot}
 use Rattle.ctl_core.specs.declared.bench.Bench.{Bench}

@@ -2,16 +2,18 @@
 use Rattle.std.specs.Prelude.{ℕ, false, List, length, map, slice_get, sum_by, Option, Some, None}
 use Rattle.nand_model.specs.Chip.{ChipState}
 use Rattle.nand_model.specs.Sizes.{numbers_from}
-use Rattle.nand_model.specs.Operation.{Partitions, Known}
-use Rattle.nand_model.specs.ChipRun.{ChipRun, bad_blocks, bad_blocks_in}
+use Rattle.nand_model.specs.Partitions.{Partitions, chip_of}
+use Rattle.chip_paths.specs.Operation.{Known}
+use Rattle.chip_paths.specs.ChipRun.{ChipRun, bad_blocks, bad_blocks_in}
 use Rattle.nand_model.specs.declared.words.Stats.{Stats}
 use Rattle.nand_model.specs.declared.words.Command.{Command}
 use Rattle.nand_model.specs.declared.words.Note.{Note}
-use Rattle.run_model.specs.Course.{Boot, Course, SessionRun, chip_of, sizes_of}
-use Rattle.run_model.specs.History.{exchanges_of, session_after}
+use Rattle.command_model.specs.Boot.{Boot}
+use Rattle.run_model.specs.Course.{Course, sizes_of}
+use Rattle.command_model.specs.Session.{SessionRun, exchanges_of, session_after}
 use Rattle.run_model.specs.Run.{session_at_start}
 use Rattle.session_steps.specs.Ended.{EndOfSession}
-use Rattle.chip_model.specs.Stage.{stage_statistics, stage_table}
+use Rattle.chip_paths.specs.Stage.{stage_statistics, stage_table}
 use Rattle.ctl_core.specs.KeptChip.{KeptChip}
 
 -- a session of a course that no power cut ended

@@ -4,7 +4,7 @@ use Rattle.fault_plan.specs.Due.{is_due}
 use Rattle.nand_iface.specs.Flash.{FitsBits}
 use Rattle.nand_model.specs.Chip.{FaultModel, after_trace, flip_events}
 use Rattle.nand_model.specs.declared.words.Flip.{Flip}
-use Rattle.run_model.specs.Course.{change_at}
+use Rattle.command_model.specs.Boot.{change_at}
 use Rattle.ctl_core.specs.KeptChip.{KeptChip}
 
 -- the flips that are due before an event, in the order of their lines

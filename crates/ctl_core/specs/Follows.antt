@@ -2,7 +2,8 @@
 use Rattle.std.specs.Prelude.{ℕ, List}
 use Rattle.nand_model.specs.Chip.{ChipState}
 use Rattle.nand_model.specs.declared.words.Note.{Note}
-use Rattle.run_model.specs.Course.{Boot, Course, sizes_of}
+use Rattle.command_model.specs.Boot.{Boot}
+use Rattle.run_model.specs.Course.{Course, sizes_of}
 use Rattle.session_steps.specs.declared.session.Session.{Session}
 use Rattle.ctl_core.specs.KeptChip.{KeptChip}
 use Rattle.ctl_core.specs.Keeps.{Keeps}

@@ -1,6 +1,6 @@
 -- What a controller keeps, beside the course that it is on.
 use Rattle.std.specs.Prelude.{◌≡◌, ℕ, false, List}
-use Rattle.nand_model.specs.Operation.{Partitions}
+use Rattle.nand_model.specs.Partitions.{Partitions}
 use Rattle.nand_model.specs.declared.words.Note.{Note}
 use Rattle.run_model.specs.Course.{Course}
 use Rattle.ctl_core.specs.KeptChip.{KeptChip, all_kept}

@@ -2,15 +2,16 @@
 use Rattle.std.specs.Prelude.{ℕ, Bool, false, not, ◌==◌, List, [], ◌∷◌, map, position, Option, Some, None}
 use Rattle.nand_model.specs.Chip.{ChipState, FaultModel, PageEvent, Complete, happens}
 use Rattle.nand_model.specs.Path.{answer_to}
-use Rattle.nand_model.specs.Attach.{Attaching}
-use Rattle.nand_model.specs.Operation.{Partitions, Known}
-use Rattle.nand_model.specs.ChipRun.{ChipRun, Pending, name_of}
+use Rattle.chip_paths.specs.Attach.{Attaching}
+use Rattle.nand_model.specs.Partitions.{Partitions}
+use Rattle.chip_paths.specs.Operation.{Known}
+use Rattle.chip_paths.specs.ChipRun.{ChipRun, Pending, name_of}
 use Rattle.nand_model.specs.Quiet.{is_quiet}
 use Rattle.nand_model.specs.declared.words.Fairness.{Fairness}
 use Rattle.nand_model.specs.declared.words.Note.{Note}
 use Rattle.nand_model.specs.declared.words.Note.TheVariants.{Torn}
 use Rattle.nand_model.specs.declared.words.Op.{Op}
-use Rattle.chip_model.specs.Stage.{Stage, Rests, is_attached, first_stage, stage_of, stage_after, stage_begun, news_after, note_of_news}
+use Rattle.chip_paths.specs.Stage.{Stage, Rests, is_attached, first_stage, stage_of, stage_after, stage_begun, news_after, note_of_news}
 
 -- a chip in a controller
 pub record KeptChip (W : Type 0) : Type 0 where

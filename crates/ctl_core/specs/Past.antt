@@ -1,10 +1,12 @@
 -- What a controller did so far in a boot, and the course that follows from it.
 use Rattle.std.specs.Prelude.{ℕ, ◌+◌, Bool, true, List, [], ◌∷◌, ◌++◌, map, slice_get, Option, Some, None}
 use Rattle.nand_model.specs.Chip.{ChipState, FaultModel}
-use Rattle.nand_model.specs.ChipRun.{ChipRun, Pending}
+use Rattle.chip_paths.specs.ChipRun.{ChipRun, Pending}
 use Rattle.nand_model.specs.declared.geometry.Geometry.{Geometry}
 use Rattle.nand_model.specs.declared.words.Command.{Command}
-use Rattle.run_model.specs.Course.{Boot, Course, SessionRun, session_run, is_finished, course_after, turn_step, sizes_of}
+use Rattle.command_model.specs.Boot.{Boot}
+use Rattle.run_model.specs.Course.{Course, session_run, course_after, turn_step, sizes_of}
+use Rattle.command_model.specs.Session.{SessionRun, is_finished}
 
 -- a controller's boot, the flashes with which it was started, the number of its attach steps, and the sessions whose turns did something, in order
 pub record Past (F : Type 0) : Type 0 where

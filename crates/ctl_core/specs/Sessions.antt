@@ -3,7 +3,7 @@ use Rattle.std.specs.Prelude.{◌≡◌, ℕ, ◌<◌, true, List, [], length, s
 use Rattle.nand_model.specs.declared.geometry.Geometry.{Geometry}
 use Rattle.nand_model.specs.declared.words.Command.{Command}
 use Rattle.nand_model.specs.declared.words.Note.{Note}
-use Rattle.run_model.specs.Course.{SessionRun, without_finished, is_finished}
+use Rattle.command_model.specs.Session.{SessionRun, without_finished, is_finished}
 use Rattle.session_steps.specs.declared.session.Session.{Session}
 use Rattle.session_steps.specs.Standing.{number_of, standing, commands_by, IsWaiting}
 use Rattle.session_steps.specs.Mirrors.{CanAllRun, Mirrors}

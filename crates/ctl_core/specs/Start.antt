@@ -2,16 +2,16 @@
 use Rattle.std.specs.Prelude.{◌≡◌, ◌≤◌, ℕ, List, length, All, slice_get, Some, None}
 use Rattle.mtd_part.specs.Blocks.{LiesWithin}
 use Rattle.nand_model.specs.Chip.{ChipState}
-use Rattle.nand_model.specs.Operation.{Partitions, part_of}
+use Rattle.nand_model.specs.Partitions.{Partitions, part_of}
 use Rattle.nand_model.specs.declared.words.Command.{Command}
 use Rattle.nand_model.specs.declared.words.Flip.{Flip}
 use Rattle.nand_model.specs.declared.words.Part.{Part}
 use Rattle.nand_iface.specs.Flash.{FitsBits}
-use Rattle.run_model.specs.Command.{command_device}
-use Rattle.run_model.specs.Course.{Boot}
+use Rattle.command_model.specs.Command.{command_device}
+use Rattle.command_model.specs.Boot.{Boot}
 use Rattle.tool_steps.specs.Stage.{device_size}
 use Rattle.tool_steps.specs.Boot.{session_number}
-use Rattle.cost_laws.specs.Cost.{boot_cost, CanRunBoot}
+use Rattle.turn_laws.specs.Cost.{boot_cost, CanRunBoot}
 use Rattle.ctl_core.specs.Sessions.{AreAscending}
 
 -- a chip without tables

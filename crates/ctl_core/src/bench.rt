@@ -1,8 +1,8 @@
 // The chips, sessions and notes of a controller.
 ghost use Rattle.std.specs.Prelude.{◌≡◌, ◌≤◌, ◌<◌, ◌+◌, ◌-◌, ◌^◌, ◌++◌, ◌==◌, ℕ, All, List, true, None, not, length, position, slice_get, option_map, IsSome, IfSome, OnOk, OnErr, IfOk};
 ghost use Rattle.nand_model.specs.Chip.{ChipState, PageEvent};
-ghost use Rattle.nand_model.specs.ChipRun.{name_of};
-ghost use Rattle.chip_model.specs.Stage.{stage_event, failure_told, finished_in, is_attached, is_resting, is_working};
+ghost use Rattle.chip_paths.specs.ChipRun.{name_of};
+ghost use Rattle.chip_paths.specs.Stage.{stage_event, failure_told, finished_in, is_attached, is_resting, is_working};
 ghost use Rattle.chip_core.specs.Begin.{CanBegin};
 ghost use Rattle.chip_core.specs.Chip.{chip_stage};
 ghost use Rattle.ctl_core.specs.KeptChip.{KeptChip, is_held_by, after_event, after_begin, after_answer, with_news_told, failure_notes, news_notes, noted};
@@ -24,7 +24,7 @@ pub struct Slot<F: Flash, C: PageCode> {
 }
 
 impl<F: Flash, C: PageCode> Slot<F, C> {
-    ghost use Rattle.ctl_core.specs.Bench.{kept_slot};
+    ghost use Rattle.ctl_core.specs.Bench.{kept_slot, DidEvent, StandsAlike, event_at, kept_chips};
 
     // Does the chip's next event, as event `number` of the controller, and puts down what there is to note of it.
     pub fn advance(&mut self, chip: u32, number: u32, notes: &mut History)
@@ -114,7 +114,6 @@ pub struct Bench<F: Flash, C: PageCode> {
 
 impl<F: Flash, C: PageCode> Bench<F, C> {
     ghost use Rattle.session_steps.specs.Standing.{number_of};
-    ghost use Rattle.ctl_core.specs.Bench.{DidEvent, StandsAlike, event_at, kept_chips};
     ghost use Rattle.ctl_core.specs.Flips.{CanFlip, kept_flips_before};
 
     // The first chip that is not attached.

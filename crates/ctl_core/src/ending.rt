@@ -2,7 +2,7 @@
 ghost use Rattle.std.specs.Prelude.{◌≡◌, ◌≤◌, ◌<◌, All, length, map, sum_by, false, IfOk};
 ghost use Rattle.nand_model.specs.declared.words.Part.{Part as Partition};
 ghost use Rattle.session_steps.specs.Standing.{standing, end_of};
-ghost use Rattle.run_model.specs.Course.{chip_of};
+ghost use Rattle.nand_model.specs.Partitions.{chip_of};
 ghost use Rattle.ctl_core.specs.Ended.{kept_state, kept_bad_blocks, kept_statistics, kept_statistics_at, device_numbers};
 ghost use Rattle.ctl_core.specs.Bench.{kept_slot};
 

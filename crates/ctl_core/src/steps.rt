@@ -1,6 +1,6 @@
 // One step of a session.
 ghost use Rattle.std.specs.Prelude.{◌≡◌, ◌≤◌, ◌<◌, ◌-◌, ◌^◌, ◌↔◌, IsTrue, true, not, None, IsSome, is_none, length, slice_get, option_map, OnOk, OnErr, IfOk, IfSome};
-ghost use Rattle.run_model.specs.Command.{command_device};
+ghost use Rattle.command_model.specs.Command.{command_device};
 ghost use Rattle.run_model.specs.Course.{is_idle, is_over, unattached};
 ghost use Rattle.ctl_core.specs.Answer.{is_did, next_chip, turn_answer};
 ghost use Rattle.ctl_core.specs.Sessions.{AreAllDone};

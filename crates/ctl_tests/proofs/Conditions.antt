@@ -5,11 +5,12 @@ use Rattle.nand_iface.specs.Flash.{FitsBits}
 use Rattle.nand_model.specs.Chip.{ChipState}
 use Rattle.nand_model.specs.declared.words.Command.{Command}
 use Rattle.nand_model.specs.declared.words.Flip.{Flip}
-use Rattle.nand_model.specs.Operation.{part_of}
+use Rattle.nand_model.specs.Partitions.{part_of}
 use Rattle.tool_steps.specs.Stage.{CanRun, ErasesAll, DumpsOnePage, device_size}
-use Rattle.run_model.specs.Command.{command_device}
-use Rattle.run_model.specs.Course.{Boot, sizes_of}
-use Rattle.cost_laws.specs.Cost.{boot_cost, CanRunBoot}
+use Rattle.command_model.specs.Command.{command_device}
+use Rattle.command_model.specs.Boot.{Boot}
+use Rattle.run_model.specs.Course.{sizes_of}
+use Rattle.turn_laws.specs.Cost.{boot_cost, CanRunBoot}
 use Rattle.ctl_core.specs.Sessions.{AreAscending}
 use Rattle.ctl_core.specs.Start.{CanStart, IsPlain, IsOnChip, IsOfDevice, IsOnFlash}
 use Rattle.ctl_tests.specs.Small.{IsSmall, IsSmallFlip, ArePairOfSmall, erasing, asking, dumping, boot_of, first_block, reading_sessions, small_parts, small_sessions, small_sizes}

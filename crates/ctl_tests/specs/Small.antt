@@ -1,14 +1,14 @@
 -- Boots of two chips with one device each: two sessions that erase and ask, and one that dumps a page.
 use Rattle.std.specs.Prelude.{◌≡◌, ◌<◌, ℕ, true, false, List, [], ◌∷◌, All, refl}
 use Rattle.nand_model.specs.Chip.{ChipState}
-use Rattle.nand_model.specs.Operation.{Partitions}
+use Rattle.nand_model.specs.Partitions.{Partitions}
 use Rattle.nand_model.specs.declared.geometry.Geometry.{Geometry}
 use Rattle.nand_model.specs.declared.words.BadMode.TheVariants.{DumpBad}
 use Rattle.nand_model.specs.declared.words.Command.{Command}
 use Rattle.nand_model.specs.declared.words.Command.TheVariants.{FlashErase, IsBad, NandDump}
 use Rattle.nand_model.specs.declared.words.Flip.{Flip}
 use Rattle.nand_model.specs.declared.words.Part.{Part}
-use Rattle.run_model.specs.Course.{Boot}
+use Rattle.command_model.specs.Boot.{Boot}
 use Rattle.tool_steps.specs.Boot.{boot_with}
 
 -- flash_erase -N of a device of one block

@@ -1,5 +1,5 @@
 -- Flips of bits of a page. Bit k of a page is in byte k / 8, and k mod 8 = 0 is its highest bit.
-use Rattle.std.specs.Prelude.{ℕ, ◌-◌, ◌/◌, ◌%◌, ◌^◌, ◌&&◌, nat_le, nat_lt, List, count_by, slice_index, slice_set, bit_xor}
+use Rattle.std.specs.Prelude.{ℕ, ◌-◌, ◌/◌, ◌%◌, ◌^◌, ◌&&◌, nat_le, nat_lt, List, count_by, slice_index, slice_set, bit_xor, fold}
 
 -- the page with bit k turned
 abbrev pub with_bit_turned : List ℕ → ℕ → List ℕ
@@ -8,3 +8,7 @@ with_bit_turned cells k = slice_set cells (k / 8) (bit_xor (slice_index cells (k
 -- how many of these flips were made in bits from one up to but not including another
 abbrev pub flips_between : List ℕ → ℕ → ℕ → ℕ
 flips_between flips from to = count_by (λ bit. nat_le from bit && nat_lt bit to) flips
+
+-- the page with these bits turned
+abbrev pub with_bits_turned : List ℕ → List ℕ → List ℕ
+with_bits_turned cells bits = fold with_bit_turned cells bits

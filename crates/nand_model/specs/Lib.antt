@@ -8,7 +8,5 @@ pub mod Chip
 pub mod Flips
 pub mod Table
 pub mod Path
-pub mod Attach
 pub mod Quiet
-pub mod Operation
-pub mod ChipRun
+pub mod Partitions

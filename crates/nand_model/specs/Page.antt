@@ -1,9 +1,11 @@
 -- A page with its steps, words and parities (the large-page layout of nand_base), and what a read of it decodes.
-use Rattle.std.specs.Prelude.{ℕ, ◌+◌, ◌*◌, ◌<◌, max, List, [], ◌∷◌, ◌++◌, map, take, drop, flat_map, sum_by, count_by, fold, slice_range, Option, Some, None, is_none, unwrap_or}
+use Rattle.std.specs.Prelude.{ℕ, ◌+◌, ◌*◌, ◌<◌, max, List, [], ◌∷◌, ◌++◌, map, take, drop, flat_map, sum_by, count_by, fold, slice_range, Option, Some, None, is_none, unwrap_or, slice_index, ◌==◌, nat_le, if◌then◌else◌, ◌-◌, replicate, ◌≡◌, length, All}
 use Rattle.code_model.specs.Bits.{bits_of, bytes_of_bits}
 use Rattle.code_model.specs.Code.{Code, body_bits, parity_bits, IsCodeWord, nearest, parity_of, masked}
 use Rattle.nand_model.specs.Sizes.{code_of, step_count, parity_bytes, parity_start, numbers_from}
 use Rattle.nand_model.specs.declared.geometry.Geometry.{Geometry}
+use Rattle.nand_model.specs.declared.words.PageKind.{PageKind}
+use Rattle.nand_model.specs.declared.words.PageKind.TheVariants.{Clean, Bitflips, Uncorrectable}
 
 -- the body of a step in a page
 abbrev pub step_body : Geometry → List ℕ → ℕ → List ℕ
@@ -82,3 +84,27 @@ decoding_of g cells reads =
 -- each step decoded by the nearest code word
 abbrev pub decoded : Geometry → List ℕ → Decoding
 decoded g cells = decoding_of g cells (map (step_read g cells) (numbers_from 0 (step_count g)))
+
+-- the marker byte of a block's first page: spare byte 0
+abbrev pub marker_byte : Geometry → List ℕ → ℕ
+marker_byte g cells = slice_index cells g.page
+
+-- what a decoded read is called: uncorrectable where a step failed, bitflips from the threshold on
+abbrev pub kind_of : Geometry → Decoding → PageKind
+kind_of g d = if d.failed == 0 then (if nat_le g.threshold d.greatest then Bitflips else Clean) else Uncorrectable
+
+-- the image that marks a block: 0x00 in spare byte 0, and 0xFF elsewhere
+abbrev pub marker_image : Geometry → List ℕ
+marker_image g = replicate g.page 0xff ++ 0 ∷ replicate (g.spare - 1) 0xff
+
+-- a body and free bytes that fill their places in a page
+pub record FillsPlaces (g : Geometry) (body free : List ℕ) : Type 0 where
+  pub body_length : length body ≡ g.page
+  pub free_length : 2 + length free ≡ parity_start g
+
+-- body and free bytes that fill their places in a page
+pub record FillsPage (g : Geometry) (body free : List ℕ) : Type 0 where
+  pub body_length : length body ≡ g.page
+  pub free_length : length free ≡ parity_start g - 2
+  pub body_bytes : All (λ byte. byte < 256) body
+  pub free_bytes : All (λ byte. byte < 256) free

@@ -5,8 +5,7 @@ use Rattle.nand_model.specs.Sizes.{code_of, step_count, parity_bytes, parity_sta
 use Rattle.code_model.specs.Code.{body_bits, parity_bits}
 use Rattle.nand_model.specs.Chip.{PageState, PageEvent, ReadEvent, ProgramEvent, EraseEvent}
 use Rattle.nand_model.specs.Flips.{flips_between}
-use Rattle.nand_model.specs.Table.{Copy, copy_in, same_copy}
-use Rattle.nand_model.specs.Attach.{has_tables, table_blocks}
+use Rattle.nand_model.specs.Table.{Copy, copy_in, same_copy, has_tables, table_blocks}
 use Rattle.nand_model.specs.declared.geometry.Geometry.{Geometry}
 use Rattle.nand_model.specs.declared.words.Fairness.{Fairness}
 use Rattle.nand_model.specs.declared.words.Fairness.TheVariants.{Plain, Missing, Whole, Foul}

@@ -6,7 +6,7 @@
 --   table, blocks / 4    body from 0             body from 5
 --
 -- The entry of block b stands in table byte b / 4 at bits 2 (b mod 4) and the next higher one; all other bytes are 0xFF.
-use Rattle.std.specs.Prelude.{◌≡◌, ℕ, ◌+◌, ◌-◌, ◌*◌, ◌/◌, ◌%◌, Bool, true, false, ◌&&◌, ◌==◌, if◌then◌else◌, List, [], ◌∷◌, ◌++◌, length, map, flat_map, slice_range, slice_index, replicate, Option, Some, None, is_none, is_some, bytes_eq, refl}
+use Rattle.std.specs.Prelude.{◌≡◌, ℕ, ◌+◌, ◌-◌, ◌*◌, ◌/◌, ◌%◌, Bool, true, false, ◌&&◌, ◌==◌, if◌then◌else◌, List, [], ◌∷◌, ◌++◌, length, map, flat_map, slice_range, slice_index, replicate, Option, Some, None, is_none, is_some, bytes_eq, refl, not}
 use Rattle.nand_model.specs.Page.{Decoding, encoded, decoded, step_read}
 use Rattle.nand_model.specs.declared.geometry.Geometry.{Geometry}
 use Rattle.nand_model.specs.declared.words.Which.{Which}
@@ -123,3 +123,15 @@ table_row = refl
 
 pub states_row : states_in (0xff ∷ 0x3b ∷ 0xff ∷ 0xff ∷ []) ≡ 0 ∷ 0 ∷ 0 ∷ 0 ∷ 0 ∷ 1 ∷ 0 ∷ 3 ∷ 0 ∷ 0 ∷ 0 ∷ 0 ∷ 0 ∷ 0 ∷ 0 ∷ 0 ∷ []
 states_row = refl
+
+-- whether a chip has tables on flash
+abbrev pub has_tables : Geometry → Bool
+has_tables g = not (g.bbt == 0)
+
+-- the last four blocks, from the last downwards
+abbrev pub table_blocks : Geometry → List ℕ
+table_blocks g = (g.blocks - 1) ∷ (g.blocks - 2) ∷ (g.blocks - 3) ∷ (g.blocks - 4) ∷ []
+
+-- states as they are after they were written and read: reserved ones as good
+abbrev pub read_again : List ℕ → List ℕ
+read_again states = map (λ s. state_read (written_code s)) states

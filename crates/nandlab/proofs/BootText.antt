@@ -9,10 +9,10 @@ use Rattle.nand_model.specs.declared.geometry.Geometry.{Geometry}
 use Rattle.nand_model.specs.declared.words.Command.{Command}
 use Rattle.nand_model.specs.declared.words.Note.{Note}
 use Rattle.nand_model.specs.declared.words.Stats.{Stats}
-use Rattle.run_model.specs.Course.{SessionRun, is_finished, without_finished}
-use Rattle.run_model.specs.History.{exchanges_of, session_after}
-use Rattle.report_model.specs.Plan.{PlanData, SessionPlan}
-use Rattle.report_model.specs.Report.{cut_line, device_line, device_lines, geometry_in, line, note_text, outcome_lines, reads_of, report_text, session_lines, session_text}
+use Rattle.command_model.specs.Session.{SessionRun, is_finished, without_finished, exchanges_of, session_after}
+use Rattle.plan_model.specs.Plan.{PlanData, SessionPlan}
+use Rattle.report_model.specs.Report.{cut_line, device_line, device_lines, geometry_in, line, note_text, outcome_lines, report_text, session_lines, session_text}
+use Rattle.command_model.specs.Reads.{reads_of}
 use Rattle.report_model.proofs.Printed.{take_next}
 use Rattle.session_steps.specs.Ended.{EndOfSession}
 use Rattle.several_chip_plan.specs.SeveralChips.{boot_of, plan_of, session_of}

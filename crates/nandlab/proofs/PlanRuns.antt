@@ -12,19 +12,22 @@ use Rattle.nand_model.specs.declared.words.Command.{Command}
 use Rattle.nand_model.specs.declared.words.Flip.{Flip}
 use Rattle.nand_model.specs.declared.words.Note.{Note}
 use Rattle.nand_model.specs.declared.words.Stats.{Stats}
-use Rattle.run_model.specs.Course.{Course, SessionRun, chip_of as chip_of_device, course_after, geometry_for, is_finished, is_over, sizes_of, with_reply, without_finished}
-use Rattle.run_model.specs.History.{Exchange, Asked, Replied, exchanges_of, session_after}
+use Rattle.run_model.specs.Course.{Course, course_after, is_over, sizes_of}
+use Rattle.command_model.specs.Session.{SessionRun, is_finished, with_reply, without_finished, Exchange, Asked, Replied, exchanges_of, session_after}
+use Rattle.nand_model.specs.Partitions.{chip_of as chip_of_device}
+use Rattle.command_model.specs.Boot.{geometry_for}
 use Rattle.run_model.specs.Run.{AreComplete, CoursesAreFaithful, HaveOneNumberEach}
-use Rattle.count_laws.specs.Counts.{StatisticsFollow}
-use Rattle.count_laws.proofs.Follows.{statistics_follow}
+use Rattle.statistics_laws.specs.Counts.{StatisticsFollow}
+use Rattle.statistics_laws.proofs.Follows.{statistics_follow}
 use Rattle.read_laws.specs.Fresh.{IsFresh}
 use Rattle.read_laws.specs.Laws.{CoursesReadBack}
 use Rattle.read_laws.proofs.Filled.{new_fresh}
 use Rattle.read_laws.proofs.Lives.{course_reads}
 use Rattle.run_laws.proofs.Faithful.{faithful}
 use Rattle.run_laws.proofs.Sessions.{number_stays}
-use Rattle.report_model.specs.Plan.{ChipPlan, devices_of, new_chips, sessions_from}
-use Rattle.report_model.specs.Report.{geometry_in, reads_of, report_text}
+use Rattle.plan_model.specs.Plan.{ChipPlan, devices_of, new_chips, sessions_from}
+use Rattle.report_model.specs.Report.{geometry_in, report_text}
+use Rattle.command_model.specs.Reads.{reads_of}
 use Rattle.report_model.proofs.Printed.{take_next}
 use Rattle.several_chip_plan.specs.SeveralChips.{IsPlan, boot_of, chip_of, geometry_of, plan_of, session_of, sizes_of as sizes_by}
 use Rattle.several_chip_plan.specs.declared.lines.ChipLines.{ChipLines}

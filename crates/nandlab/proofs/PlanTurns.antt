@@ -7,8 +7,8 @@ use Rattle.std.proofs.lemmas.List.Elements.{filter-append}
 use Rattle.std.specs.List.{concat}
 use Rattle.nand_model.specs.Sizes.{numbers_from}
 use Rattle.nand_model.specs.declared.words.Command.{Command}
-use Rattle.report_model.specs.Plan.{sessions_from}
-use Rattle.report_model.specs.Headline.{is_own, replay_turns}
+use Rattle.plan_model.specs.Plan.{sessions_from}
+use Rattle.headline_model.specs.Headline.{is_own, replay_turns}
 use Rattle.several_chip_plan.specs.SeveralChips.{boot_of, session_of}
 use Rattle.several_chip_plan.specs.declared.lines.PlanLines.{PlanLines}
 use Rattle.several_chip_plan.specs.declared.lines.ChipLines.{ChipLines}

@@ -6,7 +6,7 @@ use Rattle.run_model.specs.History.{AreOneThread, ChipBoot}
 use Rattle.run_model.specs.Log.{AreOfLog, Log}
 use Rattle.run_model.specs.ReadBack.{ReadsBackAlong}
 use Rattle.run_model.specs.Run.{AreComplete, AreInOrder}
-use Rattle.report_model.specs.Headline.{replay_turns}
+use Rattle.headline_model.specs.Headline.{replay_turns}
 use Rattle.report_model.specs.Report.{line, report_text}
 use Rattle.several_chip_plan.specs.SeveralChips.{boot_of, plan_of, IsSeveralChipPlan, IsOfTheForm}
 use Rattle.several_chip_plan.specs.declared.lines.PlanLines.{PlanLines}

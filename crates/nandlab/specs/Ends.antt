@@ -1,15 +1,15 @@
 -- How a boot's sessions ended and what its devices counted, by the notes of their controller, and the lines of both.
 use Rattle.std.specs.Prelude.{ℕ, ◌+◌, Bool, true, false, not, List, [], ◌∷◌, ◌++◌, length, map, sum_by, codes, decimal}
-use Rattle.run_model.specs.Course.{SessionRun, is_finished, without_finished}
-use Rattle.run_model.specs.History.{exchanges_of, session_after}
+use Rattle.command_model.specs.Session.{SessionRun, is_finished, without_finished, exchanges_of, session_after}
 use Rattle.nand_model.specs.Sizes.{numbers_from}
 use Rattle.nand_model.specs.declared.geometry.Geometry.{Geometry}
 use Rattle.nand_model.specs.declared.words.Command.{Command}
 use Rattle.nand_model.specs.declared.words.Note.{Note}
 use Rattle.nand_model.specs.declared.words.PageRead.{PageRead}
 use Rattle.nand_model.specs.declared.words.Stats.{Stats}
-use Rattle.report_model.specs.Plan.{SessionPlan}
-use Rattle.report_model.specs.Report.{corrected_of, device_name, failed_of, line, outcome_lines, reads_of}
+use Rattle.plan_model.specs.Plan.{SessionPlan}
+use Rattle.command_model.specs.Reads.{corrected_of, failed_of, reads_of}
+use Rattle.report_model.specs.Report.{device_name, line, outcome_lines}
 use Rattle.session_steps.specs.Ended.{EndOfSession}
 
 -- where a session is cut short, how many of its commands are finished

@@ -1,7 +1,7 @@
 // The lines of finished commands, of sessions and of devices, appended to a text.
 ghost use Rattle.std.specs.Prelude.{◌≡◌, ◌≤◌, ◌∷◌, ◌++◌, ◌^◌, ℕ, [], length, map, All, flat_map, take, OnOk, IfOk, string_bytes, codes, decimal};
 ghost use Rattle.report_model.specs.Report.{block_text, device_name, ending_text, line, outcome_lines, outcome_text, reply_text};
-ghost use Rattle.run_model.specs.Command.{command_device};
+ghost use Rattle.command_model.specs.Command.{command_device};
 ghost use Rattle.several_chip_plan.specs.SeveralChips.{IsCommand, command_of};
 ghost use Rattle.nandlab.specs.Ends.{ended_text, device_text};
 

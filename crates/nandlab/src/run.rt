@@ -1,6 +1,6 @@
 // The run of a several-chip plan.
 ghost use Rattle.std.specs.Prelude.{◌≡◌, ◌++◌, ◌∷◌, [], map, IfOk, OnOk};
-ghost use Rattle.report_model.specs.Plan.{new_chips};
+ghost use Rattle.plan_model.specs.Plan.{new_chips};
 ghost use Rattle.chip_sim.specs.State.{sim_state};
 ghost use Rattle.several_chip_plan.specs.SeveralChips.{IsPlan, chip_of};
 ghost use Rattle.chips_boot.specs.Ready.{IsReady};

@@ -4,13 +4,14 @@ use Rattle.std.specs.Prelude.{None, map, replicate, fold}
 use Rattle.std.proofs.Math.ListN.{replicate-append-replicate}
 use Rattle.hex.specs.Hex.{IsBytes}
 use Rattle.nand_model.specs.Chip.{SimFaults, sim_faults}
-use Rattle.nand_model.specs.Operation.{raw_reply}
+use Rattle.chip_paths.specs.Operation.{raw_reply}
 use Rattle.nand_model.specs.Path.{Data, Good}
-use Rattle.run_model.specs.Command.{Do, Over, next_step}
-use Rattle.run_model.specs.Course.{Course, SessionRun, attach_steps, course_after, is_over, op_of_next, start_of_boot, turn_step, without_finished}
+use Rattle.command_model.specs.Command.{Do, Over, next_step}
+use Rattle.run_model.specs.Course.{Course, attach_steps, course_after, is_over, start_of_boot, turn_step}
+use Rattle.command_model.specs.Session.{SessionRun, op_of_next, without_finished}
 use Rattle.run_model.specs.Run.{AreBoots}
-use Rattle.report_model.specs.Plan.{boot_part}
-use Rattle.report_model.specs.Headline.{all_replay_turns, for_controller, replay_turns}
+use Rattle.plan_model.specs.Plan.{boot_part}
+use Rattle.headline_model.specs.Headline.{all_replay_turns, for_controller, replay_turns}
 use Rattle.nand_model.specs.declared.geometry.Geometry.{Geometry}
 use Rattle.nand_model.specs.declared.words.Command.{Command}
 use Rattle.nand_model.specs.declared.words.Ending.TheVariants.{Whole}

@@ -4,11 +4,10 @@ use Rattle.std.specs.Prelude.{codes, decimal, flat_map, replicate}
 use Rattle.std.proofs.lemmas.Fmt.{decimal_digit}
 use Rattle.std.proofs.lemmas.List.{append-nil, append_assoc}
 use Rattle.hex.specs.Hex.{IsBytes}
-use Rattle.nand_model.specs.Operation.{raw_reply}
-use Rattle.run_model.specs.Course.{SessionRun, without_finished}
-use Rattle.run_model.specs.History.{session_after, Exchange, Asked, Replied}
+use Rattle.chip_paths.specs.Operation.{raw_reply}
+use Rattle.command_model.specs.Session.{SessionRun, without_finished, session_after, Exchange, Asked, Replied}
 use Rattle.report_model.specs.Report.{cut_line, line, note_text, outcome_lines, outcome_text, report_text, rows_text, session_lines}
-use Rattle.report_model.specs.Plan.{SessionPlan}
+use Rattle.plan_model.specs.Plan.{SessionPlan}
 use Rattle.nand_model.specs.declared.words.Ending.TheVariants.{Whole}
 use Rattle.nand_model.specs.declared.words.Note.TheVariants.{Answered, Attached, Began}
 use Rattle.nand_model.specs.declared.words.Op.TheVariants.{IsBad, RawRead, RawWrite}

@@ -3,10 +3,12 @@ use Rattle.std.proofs.Common.{◌≡◌, ℕ, Bool, true, false, List, [], ◌�
 use Rattle.std.specs.Prelude.{◌==◌, not, Option, Some, None, replicate, slice_index}
 use Rattle.hex.specs.Hex.{IsBytes}
 use Rattle.nand_model.specs.Chip.{ChipState, SimFaults, ProgramEvent, sim_faults, new_page, with_page}
-use Rattle.nand_model.specs.ChipRun.{ChipRun, Pending}
-use Rattle.nand_model.specs.Operation.{Known, Finished, Partitions, answer, device_of, done_or, only_if, raw_reply}
+use Rattle.chip_paths.specs.ChipRun.{ChipRun, Pending}
+use Rattle.chip_paths.specs.Operation.{Known, Finished, answer, done_or, only_if, raw_reply}
+use Rattle.nand_model.specs.Partitions.{Partitions, device_of, chip_of}
 use Rattle.nand_model.specs.Path.{Answer, Data, Good, Path, Then, after_answers, next_event, result_of}
-use Rattle.run_model.specs.Course.{Course, SessionRun, attach_steps, begin_at, begin_step, can_begin, chip_of, event_or_answer, finish, is_free_at, is_idle, next_op_of, sizes_of, turn_step, turn_unless, without_finished}
+use Rattle.run_model.specs.Course.{Course, attach_steps, begin_at, begin_step, can_begin, event_or_answer, finish, is_free_at, is_idle, sizes_of, turn_step, turn_unless}
+use Rattle.command_model.specs.Session.{SessionRun, next_op_of, without_finished}
 use Rattle.nand_model.specs.declared.geometry.Geometry.{Geometry}
 use Rattle.nand_model.specs.declared.words.Command.{Command}
 use Rattle.nand_model.specs.declared.words.Note.{Note}

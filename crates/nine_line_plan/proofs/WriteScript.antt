@@ -2,7 +2,7 @@
 use Rattle.std.proofs.Common.{◌≡◌, ℕ, ◌+◌, ◌-◌, ◌/◌, ◌≤◌, true, false, List, [], ◌∷◌, ◌++◌, length, ap, ◌∙◌, arith}
 use Rattle.std.specs.Prelude.{replicate}
 use Rattle.std.proofs.lemmas.List.{take_all}
-use Rattle.run_model.specs.Command.{Next, Do, Over, after_replies, next_in, next_step, units_of, unit_count, write_blocks}
+use Rattle.command_model.specs.Command.{Next, Do, Over, after_replies, next_in, next_step, units_of, unit_count, write_blocks}
 use Rattle.nand_model.specs.declared.words.Ending.TheVariants.{Whole}
 use Rattle.nand_model.specs.declared.words.Op.TheVariants.{IsBad, RawWrite}
 use Rattle.nand_model.specs.declared.words.Outcome.TheVariants.{NandWrite as Written}

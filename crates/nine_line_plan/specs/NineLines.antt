@@ -15,9 +15,10 @@ use Rattle.std.specs.Prelude.{◌≡◌, ℕ, ◌≤◌, true, false, List, [], 
 use Rattle.hex.specs.Hex.{IsBytes, encode_lower}
 use Rattle.nand_model.specs.Chip.{ChipState, SimFaults, sim_faults}
 use Rattle.nand_model.specs.Table.{padded}
-use Rattle.run_model.specs.Course.{Boot, Course, course_after}
-use Rattle.report_model.specs.Plan.{PlanData, ChipPlan, BootPlan, boot_part, new_chips}
-use Rattle.report_model.specs.Headline.{replay_turns}
+use Rattle.command_model.specs.Boot.{Boot}
+use Rattle.run_model.specs.Course.{Course, course_after}
+use Rattle.plan_model.specs.Plan.{PlanData, ChipPlan, BootPlan, boot_part, new_chips}
+use Rattle.headline_model.specs.Headline.{replay_turns}
 use Rattle.report_model.specs.Report.{line, rows_text}
 use Rattle.nand_model.specs.declared.geometry.Geometry.{Geometry}
 use Rattle.nand_model.specs.declared.words.BadMode.TheVariants.{DumpBad}

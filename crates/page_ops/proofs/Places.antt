@@ -4,7 +4,7 @@ use Rattle.std.proofs.lemmas.Nat.{mul-lt}
 use Rattle.std.proofs.Math.Nat.{mul-lt-mul_of_pos_right, sub_self}
 use Rattle.std.proofs.Math.ListN.{set}
 use Rattle.std.proofs.lemmas.List.{replicate-append-replicate, set-append_right, length-replicate}
-use Rattle.nand_model.specs.Operation.{marker_image}
+use Rattle.nand_model.specs.Page.{marker_image}
 use Rattle.nand_model.specs.Sizes.{first_page, page_count, raw_len}
 use Rattle.nand_model.specs.declared.geometry.Geometry.{Geometry}
 use Rattle.nand_model.proofs.Bounds.{bounds}

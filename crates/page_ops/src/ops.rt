@@ -1,9 +1,7 @@
 // Operations of one page event.
 ghost use Rattle.std.specs.Prelude.{◌≡◌, ◌≢◌, ◌<◌, ◌≤◌, ◌+◌, length, replicate, is_ok, is_none, OnErr};
-ghost use Rattle.nand_model.specs.Attach.{marker_byte};
+ghost use Rattle.nand_model.specs.Page.{marker_byte, kind_of, marker_image, Decoding, decoded, encoded};
 ghost use Rattle.nand_model.specs.Chip.{ProgramCall, EraseCall, Complete, ProgramEvent, EraseEvent, happens, failure_of};
-ghost use Rattle.nand_model.specs.Operation.{kind_of, marker_image};
-ghost use Rattle.nand_model.specs.Page.{Decoding, decoded, encoded};
 ghost use Rattle.nand_model.specs.Sizes.{first_page, page_count, raw_len};
 ghost use Rattle.nand_iface.specs.Flash.{FitsPage, HasRisen};
 ghost use Rattle.page_ops.specs.Writes.{write_ended, erase_ended};

@@ -7,11 +7,11 @@ use Rattle.std.proofs.lemmas.List.Sums.{sum-map}
 use Rattle.std.proofs.lemmas.List.Folds.{fold-map}
 use Rattle.code_model.specs.Word.{distance}
 use Rattle.nand_model.specs.Sizes.{step_count, numbers_from, parity_bytes, raw_len, first_page}
-use Rattle.nand_model.specs.Page.{decoded, step_body, page_image}
+use Rattle.nand_model.specs.Page.{decoded, step_body, page_image, FillsPage}
 use Rattle.nand_model.specs.Chip.{ChipState, FaultModel, ChipEvent, PageState, after_trace, blank_page, new_page}
 use Rattle.nand_model.specs.Quiet.{word_flips}
 use Rattle.nand_model.specs.declared.geometry.Geometry.{Geometry}
-use Rattle.run_model.specs.ReadBack.{Past, Erased, Programmed, past_of, wrong_bits, ReadsBack, FillsPage}
+use Rattle.run_model.specs.ReadBack.{Past, Erased, Programmed, past_of, wrong_bits, ReadsBack}
 use Rattle.ecc_page.specs.Steps.{parity_stored}
 use Rattle.ecc_page.specs.Written.{GivesBack, IsNearImage}
 use Rattle.ecc_page.proofs.PageLemmas.{page-steps, parities-room}

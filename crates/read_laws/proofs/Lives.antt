@@ -6,16 +6,18 @@ use Rattle.std.proofs.lemmas.Option.{slice_get-map}
 use Rattle.nand_model.specs.Page.{page_image, decoded}
 use Rattle.nand_model.specs.Chip.{ChipState, FaultModel, ChipEvent, Complete, ReadEvent, after_trace}
 use Rattle.nand_model.specs.Path.{answers_of, after_answers, result_of}
-use Rattle.nand_model.specs.Attach.{Attaching}
-use Rattle.nand_model.specs.ChipRun.{known_at_first}
-use Rattle.nand_model.specs.Operation.{Partitions, Known, read_reply, operation_path}
+use Rattle.chip_paths.specs.Attach.{Attaching}
+use Rattle.chip_paths.specs.ChipRun.{known_at_first}
+use Rattle.nand_model.specs.Partitions.{Partitions}
+use Rattle.chip_paths.specs.Operation.{Known, read_reply, operation_path}
 use Rattle.nand_model.specs.declared.geometry.Geometry.{Geometry}
 use Rattle.nand_model.specs.declared.words.Op.{Op}
 use Rattle.nand_model.specs.declared.words.Reply.{Reply}
 use Rattle.nand_model.specs.declared.words.Note.{Note}
 use Rattle.run_model.specs.History.{OperationTrace, ChipBoot, events_in, trace_of, known_then, attach_outcome, IsOperationTrace, AreOperationTraces, GoesOn, IsChipLife, AreOneThread}
 use Rattle.run_model.specs.ReadBack.{is_read, ReadsBack, IsReadBack, OperationReadsBack, OperationsReadBack, ReadsBackAlong}
-use Rattle.run_model.specs.Course.{Boot, Course, course_after}
+use Rattle.command_model.specs.Boot.{Boot}
+use Rattle.run_model.specs.Course.{Course, course_after}
 use Rattle.run_model.specs.Run.{AreBoots}
 use Rattle.run_laws.proofs.Traces.{after-append, geometry_after}
 use Rattle.run_laws.proofs.Faithful.{faithful}

@@ -3,10 +3,11 @@ use Rattle.std.proofs.Common.{◌≡◌, ℕ, Bool, true, false, if◌then◌els
 use Rattle.std.specs.Prelude.{nat_le}
 use Rattle.std.proofs.lemmas.Bool.{eq-eqb, false≢true}
 use Rattle.std.proofs.lemmas.Option.{none-some, same_Some}
-use Rattle.nand_model.specs.Page.{Decoding, decoded}
+use Rattle.nand_model.specs.Page.{Decoding, decoded, kind_of}
 use Rattle.nand_model.specs.Chip.{ChipState, FaultModel, ChipEvent, Complete, PowerCut, Flipped, PageEvent, ReadEvent, happens, after_trace}
 use Rattle.nand_model.specs.Path.{Answer, Data, cells_of, Path, Over, Then, after_answers, next_event, result_of, GoesAlong, answers_of, answer_to}
-use Rattle.nand_model.specs.Operation.{Partitions, part_of, Known, Finished, only_if, has_page, chip_page, kind_of, read_reply, after_read, operation_by, operation_path, Performs}
+use Rattle.nand_model.specs.Partitions.{Partitions, part_of}
+use Rattle.chip_paths.specs.Operation.{Known, Finished, only_if, has_page, chip_page, read_reply, after_read, operation_by, operation_path, Performs}
 use Rattle.nand_model.specs.declared.geometry.Geometry.{Geometry}
 use Rattle.nand_model.specs.declared.words.Part.{Part}
 use Rattle.nand_model.specs.declared.words.PageKind.TheVariants.{Bitflips, Clean, Uncorrectable}

@@ -6,7 +6,7 @@ use Rattle.std.proofs.lemmas.Option.{none-some, same_Some}
 use Rattle.nand_model.specs.Page.{page_image}
 use Rattle.nand_model.specs.Chip.{ChipState, FaultModel, ChipEvent, Complete, PowerCut, Flipped, PageEvent, ProgramEvent, ProgramCall, DoneBits, failure_of, happens}
 use Rattle.nand_model.specs.Path.{Answer, Path, Then, after_answers, next_event, result_of, GoesAlong, answers_of, answer_to, good_or_failed}
-use Rattle.nand_model.specs.Operation.{chip_page, chip_block, has_page, is_good_block, Known, Finished, answer, only_if, done_or, operation_by}
+use Rattle.chip_paths.specs.Operation.{chip_page, chip_block, has_page, is_good_block, Known, Finished, answer, only_if, done_or, operation_by}
 use Rattle.nand_model.specs.declared.words.Part.{Part}
 use Rattle.nand_model.specs.declared.words.Op.TheVariants.{Write}
 use Rattle.nand_model.specs.declared.words.Reply.{Reply}

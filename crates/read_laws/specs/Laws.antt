@@ -1,16 +1,18 @@
 -- What the laws say of pages that one program has filled, and of whole courses and runs.
 use Rattle.std.specs.Prelude.{◌≡◌, ℕ, ◌<◌, ◌≤◌, List, [], ◌∷◌, length, Some, slice_get}
 use Rattle.nand_model.specs.Sizes.{step_count, raw_len}
-use Rattle.nand_model.specs.Page.{page_image}
+use Rattle.nand_model.specs.Page.{page_image, FillsPage}
 use Rattle.nand_model.specs.Chip.{ChipState, FaultModel, ChipEvent, after_trace}
 use Rattle.nand_model.specs.Quiet.{word_flips}
-use Rattle.nand_model.specs.Operation.{Partitions, part_of, chip_page, Known, Performs}
+use Rattle.nand_model.specs.Partitions.{Partitions, part_of}
+use Rattle.chip_paths.specs.Operation.{chip_page, Known, Performs}
 use Rattle.nand_model.specs.declared.words.Part.{Part}
 use Rattle.nand_model.specs.declared.words.Op.TheVariants.{Write}
 use Rattle.nand_model.specs.declared.words.Reply.TheVariants.{Done}
-use Rattle.run_model.specs.Course.{Boot, Course}
+use Rattle.command_model.specs.Boot.{Boot}
+use Rattle.run_model.specs.Course.{Course}
 use Rattle.run_model.specs.History.{ChipBoot}
-use Rattle.run_model.specs.ReadBack.{Erased, Programmed, past_of, wrong_bits, ReadsBack, HasFewFlips, FillsPage, ReadsBackAlong}
+use Rattle.run_model.specs.ReadBack.{Erased, Programmed, past_of, wrong_bits, ReadsBack, HasFewFlips, ReadsBackAlong}
 use Rattle.run_model.specs.Run.{CoursesAreFaithful, RunsAreFaithful}
 use Rattle.read_laws.specs.Fresh.{IsFreshPage, IsFresh}
 

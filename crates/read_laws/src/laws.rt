@@ -1,10 +1,11 @@
 ghost use Rattle.std.specs.Prelude.{◌≡◌, ℕ, List, [], Some, slice_get, Contains};
 ghost use Rattle.nand_model.specs.Chip.{ChipState, FaultModel, new_chip};
-ghost use Rattle.nand_model.specs.Operation.{Partitions};
+ghost use Rattle.nand_model.specs.Partitions.{Partitions};
 ghost use Rattle.nand_model.specs.declared.geometry.Geometry.{Geometry};
 ghost use Rattle.nand_model.specs.declared.words.Note.{Note};
 ghost use Rattle.nand_model.specs.declared.words.Weak.{Weak};
-ghost use Rattle.run_model.specs.Course.{Boot, Course};
+ghost use Rattle.command_model.specs.Boot.{Boot};
+ghost use Rattle.run_model.specs.Course.{Course};
 ghost use Rattle.run_model.specs.History.{ChipBoot, IsChipLife, AreOneThread};
 ghost use Rattle.run_model.specs.ReadBack.{ProgrammedPagesReadBack, ReadsBackAlong};
 ghost use Rattle.run_model.specs.Run.{AreBoots};

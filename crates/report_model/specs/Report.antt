@@ -5,29 +5,31 @@
 --     for each session             session S, the lines of its finished commands, and where some are left: cut after K
 --     for each device              device mtdJ corrected N failed N
 --                                  end boot B
-use Rattle.std.specs.Prelude.{◌≡◌, ℕ, zero, suc, ◌+◌, ◌*◌, ◌/◌, ◌%◌, ◌^◌, Bool, true, false, ◌==◌, if◌then◌else◌, List, [], ◌∷◌, ◌++◌, length, map, take, drop, flat_map, sum_by, slice_index, slice_index_or, replicate, bytes_eq, codes, decimal, refl}
-use Rattle.hex.specs.Hex.{encode_lower}
+use Rattle.std.specs.Prelude.{ℕ, List, [], ◌∷◌, ◌++◌, codes, decimal, zero, suc, take, drop, ◌+◌, ◌/◌, length, if◌then◌else◌, bytes_eq, ◌*◌, flat_map, ◌==◌, Bool, true, false, sum_by, slice_index_or, map, ◌≡◌, replicate, refl}
 use Rattle.std.specs.Int.{to_be_bytes, w32}
+use Rattle.hex.specs.Hex.{encode_lower}
+use Rattle.command_model.specs.Command.{command_device}
+use Rattle.command_model.specs.Session.{SessionRun, without_finished, exchanges_of, session_after}
+use Rattle.command_model.specs.Reads.{corrected_of, failed_of, reads_of}
+use Rattle.plan_model.specs.Plan.{PlanData, ChipPlan, devices_of, SessionPlan, BootPlan}
+use Rattle.command_model.specs.Boot.{geometry_for}
 use Rattle.nand_model.specs.Sizes.{numbers_from}
-use Rattle.nand_model.specs.Operation.{Partitions}
-use Rattle.run_model.specs.Course.{SessionRun, without_finished, with_reply, geometry_for}
-use Rattle.run_model.specs.History.{Exchange, Asked, Replied, exchanges_of, session_after}
-use Rattle.nand_model.specs.declared.geometry.Geometry.{Geometry}
+use Rattle.nand_model.specs.Partitions.{Partitions}
+use Rattle.nand_model.specs.declared.words.Op.{Op}
+use Rattle.nand_model.specs.declared.words.Op.TheVariants.{Read, Write, RawRead, RawWrite, Erase, IsBad, Mark, Stats}
 use Rattle.nand_model.specs.declared.words.Which.{Which}
 use Rattle.nand_model.specs.declared.words.Which.TheVariants.{Primary, Mirror}
 use Rattle.nand_model.specs.declared.words.PageKind.{PageKind}
 use Rattle.nand_model.specs.declared.words.PageKind.TheVariants.{Raw, Clean, Bitflips, Uncorrectable}
 use Rattle.nand_model.specs.declared.words.PageRead.{PageRead}
-use Rattle.nand_model.specs.declared.words.Fairness.{Fairness}
-use Rattle.nand_model.specs.declared.words.Fairness.TheVariants.{Plain, Missing, Whole, Foul}
-use Rattle.nand_model.specs.declared.words.Event.{Event}
-use Rattle.nand_model.specs.declared.words.Event.TheVariants.{Read as ReadOf, Program as ProgramOf, Erase as EraseOf}
-use Rattle.nand_model.specs.declared.words.Origin.{Origin}
-use Rattle.nand_model.specs.declared.words.Origin.TheVariants.{Primary as FromPrimary, Mirror as FromMirror, Markers}
-use Rattle.nand_model.specs.declared.words.Op.{Op}
-use Rattle.nand_model.specs.declared.words.Op.TheVariants.{Read, Write, RawRead, RawWrite, Erase, IsBad, Mark, Stats}
 use Rattle.nand_model.specs.declared.words.Reply.{Reply}
 use Rattle.nand_model.specs.declared.words.Reply.TheVariants.{Done, OutOfRange, BadBlock, MarkerByte, ProgramFailed, EraseFailed, MarkerFailed, TableFailed, Reserved, Copies, State, Counts, Page}
+use Rattle.nand_model.specs.declared.words.Origin.{Origin}
+use Rattle.nand_model.specs.declared.words.Origin.TheVariants.{Primary as FromPrimary, Mirror as FromMirror, Markers}
+use Rattle.nand_model.specs.declared.words.Event.{Event}
+use Rattle.nand_model.specs.declared.words.Event.TheVariants.{Read as ReadOf, Program as ProgramOf, Erase as EraseOf}
+use Rattle.nand_model.specs.declared.words.Fairness.{Fairness}
+use Rattle.nand_model.specs.declared.words.Fairness.TheVariants.{Plain, Missing, Whole, Foul}
 use Rattle.nand_model.specs.declared.words.Note.{Note}
 use Rattle.nand_model.specs.declared.words.Note.TheVariants.{Began, Answered, Attached, Torn}
 use Rattle.nand_model.specs.declared.words.Ending.{Ending}
@@ -36,8 +38,7 @@ use Rattle.nand_model.specs.declared.words.Command.{Command}
 use Rattle.nand_model.specs.declared.words.Command.TheVariants.{MarkBad, IsBad as AskBad}
 use Rattle.nand_model.specs.declared.words.Outcome.{Outcome}
 use Rattle.nand_model.specs.declared.words.Outcome.TheVariants.{FlashErase as Erased, NandWrite as Written, NandDump as Dumped, NandTest as Tested, MarkBad as MarkedBad, IsBad as AskedBad, Stats as AskedStats}
-use Rattle.run_model.specs.Command.{command_device}
-use Rattle.report_model.specs.Plan.{PlanData, ChipPlan, BootPlan, SessionPlan, devices_of}
+use Rattle.nand_model.specs.declared.geometry.Geometry.{Geometry}
 
 -- a line: words one after the other, and LF
 abbrev pub line : List ℕ → List ℕ
@@ -240,26 +241,6 @@ abbrev pub session_text : (Command → Geometry) → ℕ → List Command → Li
 session_text sizes number commands notes =
     let s : SessionRun = session_after sizes (without_finished sizes number commands [] []) (exchanges_of number notes) in
     line (codes "session " ++ decimal number) ++ outcome_lines commands s.outcomes ++ cut_line s s.commands
-
--- the statistics of the answered reads of a device
-abbrev pub is_read_of : ℕ → Op → Bool
-is_read_of dev (Read d page) = d == dev
-is_read_of dev _ = false
-
-abbrev pub read_counts : ℕ → List Exchange → List PageRead
-read_counts dev (Asked op ∷ Replied (Page kind read image) ∷ rest) = (if is_read_of dev op then read ∷ [] else []) ++ read_counts dev rest
-read_counts dev (_ ∷ rest) = read_counts dev rest
-read_counts dev [] = []
-
-abbrev pub corrected_of : PageRead → ℕ
-corrected_of r = r.corrected
-
-abbrev pub failed_of : PageRead → ℕ
-failed_of r = r.failed
-
--- the reads of a device in a boot, over the sessions of its controller
-abbrev pub reads_of : ℕ → List ℕ → List Note → List PageRead
-reads_of dev sessions notes = flat_map (λ s. read_counts dev (exchanges_of s notes)) sessions
 
 abbrev pub device_line : ℕ → List PageRead → List ℕ
 device_line dev reads =

@@ -9,9 +9,10 @@ use Rattle.nand_model.specs.declared.words.CutAt.{CutAt}
 use Rattle.nand_model.specs.declared.words.Flip.{Flip}
 use Rattle.nand_model.specs.Chip.{ChipState, FaultModel, ChipEvent, Complete, PowerCut, Flipped, PageEvent, happens}
 use Rattle.nand_model.specs.Path.{Answer, GoesAlong, answers_of, answer_to, is_failure}
-use Rattle.nand_model.specs.Operation.{Partitions, device_of}
-use Rattle.nand_model.specs.ChipRun.{torn_notes}
-use Rattle.run_model.specs.Course.{Boot, chip_of, tear_at}
+use Rattle.nand_model.specs.Partitions.{Partitions, device_of, chip_of}
+use Rattle.chip_paths.specs.ChipRun.{torn_notes}
+use Rattle.command_model.specs.Boot.{Boot}
+use Rattle.run_model.specs.Course.{tear_at}
 use Rattle.run_model.specs.History.{LastChips, events_in, notes_of_event, notes_of_trace, is_chip, note_chip, last_after, notes_of_chip_from}
 use Rattle.run_model.specs.Log.{Log, befalls, torn_by_cut}
 use Rattle.run_model.specs.Laws.{ops_in, replies_in, IsCalm}

@@ -3,10 +3,11 @@ use Rattle.std.proofs.Common.{◌≡◌, ◌<◌, subst, ℕ, Bool, true, false,
 use Rattle.std.specs.Prelude.{if◌then◌else◌}
 use Rattle.std.proofs.lemmas.Bool.{eq-eqb, ne_eqb}
 use Rattle.nand_model.specs.declared.words.Note.{Note}
-use Rattle.nand_model.specs.Operation.{Partitions}
+use Rattle.nand_model.specs.Partitions.{Partitions}
 use Rattle.nand_model.specs.Chip.{ChipState, PageEvent}
-use Rattle.nand_model.specs.ChipRun.{torn_notes}
-use Rattle.run_model.specs.History.{LastChips, last_after, note_chip, is_chip, notes_of_chip_from, IsThere, AreOfChips, exchange_in, exchanges_of}
+use Rattle.chip_paths.specs.ChipRun.{torn_notes}
+use Rattle.run_model.specs.History.{LastChips, last_after, note_chip, is_chip, notes_of_chip_from, IsThere, AreOfChips}
+use Rattle.command_model.specs.Session.{exchange_in, exchanges_of}
 
 -- on which chip each session last began, after these notes
 abbrev pub lasts : Partitions → LastChips → List Note → LastChips

@@ -6,9 +6,10 @@ use Rattle.nand_model.specs.declared.words.Note.TheVariants.{Began, Answered}
 use Rattle.nand_model.specs.declared.words.Op.{Op}
 use Rattle.nand_model.specs.Chip.{ChipState, FaultModel, ChipEvent, Complete, PowerCut, Flipped, PageEvent, DoneBits, happens, after_trace, flip_events}
 use Rattle.nand_model.specs.Path.{Answer, GoesAlong, answers_of, answer_to, is_uncut, after_answers, next_event, result_of}
-use Rattle.nand_model.specs.Attach.{Attaching, attach_path}
-use Rattle.nand_model.specs.Operation.{Partitions, Known, Finished, operation_path, Performs}
-use Rattle.nand_model.specs.ChipRun.{ChipRun, Pending, attach_note, known_at_first, with_finished}
+use Rattle.chip_paths.specs.Attach.{Attaching, attach_path}
+use Rattle.nand_model.specs.Partitions.{Partitions}
+use Rattle.chip_paths.specs.Operation.{Known, Finished, operation_path, Performs}
+use Rattle.chip_paths.specs.ChipRun.{ChipRun, Pending, attach_note, known_at_first, with_finished}
 use Rattle.nand_model.specs.Quiet.{is_quiet}
 use Rattle.run_model.specs.History.{OperationTrace, Turned, turned_events, events_in, notes_of_event, notes_of_trace, notes_of_operation, was_quiet, attach_outcome, outcome_if, known_then, AreOperationTraces, GoesOn}
 use Rattle.run_laws.proofs.Traces.{uncut-append, events-append, after-append, quiet-append, geometry_after}

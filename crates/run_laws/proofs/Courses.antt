@@ -9,12 +9,15 @@ use Rattle.nand_model.specs.declared.words.Note.{Note}
 use Rattle.nand_model.specs.declared.words.Op.{Op}
 use Rattle.nand_model.specs.declared.words.Flip.{Flip}
 use Rattle.nand_model.specs.Chip.{ChipState, FaultModel, ChipEvent, PageEvent, Flipped, flip_events}
-use Rattle.nand_model.specs.Operation.{Partitions, Known, operation_path}
+use Rattle.nand_model.specs.Partitions.{Partitions}
+use Rattle.chip_paths.specs.Operation.{Known, operation_path}
 use Rattle.nand_model.specs.Sizes.{raw_len}
 use Rattle.nand_model.specs.Path.{Answer, next_event}
-use Rattle.nand_model.specs.Attach.{attach_path}
-use Rattle.nand_model.specs.ChipRun.{ChipRun, Pending, next_event_by, next_chip_event, with_flips}
-use Rattle.run_model.specs.Course.{Boot, Course, SessionRun, change_at, sizes_of, with_flip, with_flips_before}
+use Rattle.chip_paths.specs.Attach.{attach_path}
+use Rattle.chip_paths.specs.ChipRun.{ChipRun, Pending, next_event_by, next_chip_event, with_flips}
+use Rattle.command_model.specs.Boot.{Boot, change_at}
+use Rattle.run_model.specs.Course.{Course, sizes_of, with_flip, with_flips_before}
+use Rattle.command_model.specs.Session.{SessionRun}
 use Rattle.run_model.specs.Log.{Log, flips_of, due_flips, befalls}
 use Rattle.run_model.specs.History.{notes_of_chip, AreOfChips}
 use Rattle.run_laws.proofs.Traces.{geometry_after}

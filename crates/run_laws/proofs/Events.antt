@@ -10,12 +10,15 @@ use Rattle.nand_model.specs.declared.words.Note.TheVariants.{Torn}
 use Rattle.nand_model.specs.Sizes.{raw_len}
 use Rattle.nand_model.specs.Chip.{ChipState, FaultModel, ChipEvent, Complete, PowerCut, PageEvent, DoneBits, happens, done_bits}
 use Rattle.nand_model.specs.Path.{Answer, Path, Over, Then, is_failure, answer_to, after_answers, next_event, result_of}
-use Rattle.nand_model.specs.Attach.{Attaching, attach_path}
-use Rattle.nand_model.specs.Operation.{Partitions, Known}
+use Rattle.chip_paths.specs.Attach.{Attaching, attach_path}
+use Rattle.nand_model.specs.Partitions.{Partitions}
+use Rattle.chip_paths.specs.Operation.{Known}
 use Rattle.nand_model.specs.Quiet.{is_quiet, fairness_of}
-use Rattle.nand_model.specs.ChipRun.{ChipRun, name_of, Pending, next_event_by, next_chip_event, pending_after, known_once_over, attach_notes_of, answered_by, torn_by, attach_notes_by, advanced, torn_at}
-use Rattle.run_model.specs.Course.{Boot, Course, SessionRun, change_at, with_flips_before, tear_at, event_done, event_on, sizes_of}
-use Rattle.run_model.specs.History.{LastChips, AreOfChips, notes_of_chip, notes_of_event, exchanges_of, events_in}
+use Rattle.chip_paths.specs.ChipRun.{ChipRun, name_of, Pending, next_event_by, next_chip_event, pending_after, known_once_over, attach_notes_of, answered_by, torn_by, attach_notes_by, advanced, torn_at}
+use Rattle.command_model.specs.Boot.{Boot, change_at}
+use Rattle.run_model.specs.Course.{Course, with_flips_before, tear_at, event_done, event_on, sizes_of}
+use Rattle.command_model.specs.Session.{SessionRun, exchanges_of}
+use Rattle.run_model.specs.History.{LastChips, AreOfChips, notes_of_chip, notes_of_event, events_in}
 use Rattle.run_model.specs.Log.{Log, due_flips, torn_by_cut, befalls}
 use Rattle.run_laws.proofs.Traces.{geometry_after, geometry_happens}
 use Rattle.run_laws.proofs.ChipNotes.{of_chips-append, lasts, lasts-append, AreOf, nothing_is_of, torn_are_of, torn_last, torn_exchanges, one_is_of, both_are_of, exchanges-append}

@@ -8,11 +8,13 @@ use Rattle.std.proofs.lemmas.List.{length-map}
 use Rattle.nand_model.specs.declared.words.Note.{Note}
 use Rattle.nand_model.specs.declared.words.Op.{Op}
 use Rattle.nand_model.specs.Chip.{ChipState, FaultModel, after_trace}
-use Rattle.nand_model.specs.ChipRun.{ChipRun}
+use Rattle.chip_paths.specs.ChipRun.{ChipRun}
 use Rattle.nand_model.specs.Sizes.{raw_len}
 use Rattle.run_model.specs.Log.{Log, befalls}
-use Rattle.run_model.specs.Course.{sizes_of, Boot, Course, SessionRun, next_op_of, start_of_boot, attach_step, turn_step, attach_steps, course_after, end_states, is_finished, is_over}
-use Rattle.run_model.specs.History.{events_in, numbered_of, notes_of_chip, exchanges_of, ChipBoot, trace_of, IsChipHistory, IsChipLife, Alternate, AreOfChips, session_after, FollowsCommands}
+use Rattle.run_model.specs.Course.{sizes_of, Course, start_of_boot, attach_step, turn_step, attach_steps, course_after, end_states, is_over}
+use Rattle.command_model.specs.Boot.{Boot}
+use Rattle.command_model.specs.Session.{SessionRun, next_op_of, is_finished, exchanges_of, Alternate, session_after, FollowsCommands}
+use Rattle.run_model.specs.History.{events_in, numbered_of, notes_of_chip, ChipBoot, trace_of, IsChipHistory, IsChipLife, AreOfChips}
 use Rattle.run_model.specs.Run.{CoursesAreFaithful, AreInOrder, AreComplete, session_at_start, HaveOneNumberEach}
 use Rattle.run_laws.proofs.Life.{ChipEnd}
 use Rattle.run_laws.proofs.Sessions.{asked, nowhere}

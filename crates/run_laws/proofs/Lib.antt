@@ -16,6 +16,4 @@ pub mod Alone
 pub mod Replies
 pub mod Turns
 pub mod AttachTurns
-pub mod Devices
 pub mod Progress
-pub mod Troubles

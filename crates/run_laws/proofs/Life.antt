@@ -5,9 +5,10 @@ use Rattle.nand_model.specs.declared.words.Note.{Note}
 use Rattle.nand_model.specs.declared.words.Note.TheVariants.{Began}
 use Rattle.nand_model.specs.Chip.{ChipState, FaultModel, ChipEvent, Complete, Flipped, PageEvent, happens, after_trace}
 use Rattle.nand_model.specs.Path.{Answer, GoesAlong, answers_of, answer_to, is_uncut, after_answers, next_event, result_of}
-use Rattle.nand_model.specs.Attach.{Attaching, attach_path}
-use Rattle.nand_model.specs.Operation.{Partitions, Known, operation_path}
-use Rattle.nand_model.specs.ChipRun.{ChipRun, Pending, attach_note, known_at_first}
+use Rattle.chip_paths.specs.Attach.{Attaching, attach_path}
+use Rattle.nand_model.specs.Partitions.{Partitions}
+use Rattle.chip_paths.specs.Operation.{Known, operation_path}
+use Rattle.chip_paths.specs.ChipRun.{ChipRun, Pending, attach_note, known_at_first}
 use Rattle.run_model.specs.History.{OperationTrace, ChipBoot, Turned, turned_events, numbered_of, events_in, notes_of_event, notes_of_trace, was_quiet, attach_outcome, AreOperationTraces, IsChipHistory}
 use Rattle.run_laws.proofs.Traces.{uncut-append, events-append, after-append, answers-append, along-append, notes-append}
 

@@ -3,7 +3,8 @@ use Rattle.std.proofs.Common.{◌≡◌, ℕ, suc, ◌+◌, List, [], ◌∷◌,
 use Rattle.std.specs.Prelude.{if◌then◌else◌, ◌==◌}
 use Rattle.std.proofs.lemmas.Bool.{eq-eqb, ne_eqb}
 use Rattle.nand_model.specs.Chip.{ChipEvent, PageEvent}
-use Rattle.run_model.specs.Course.{Boot, tear_at}
+use Rattle.command_model.specs.Boot.{Boot}
+use Rattle.run_model.specs.Course.{tear_at}
 use Rattle.run_model.specs.Log.{Log, due_flips, torn_by_cut, befalls}
 
 -- the event itself, on its own chip

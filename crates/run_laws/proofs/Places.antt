@@ -5,7 +5,7 @@ use Rattle.std.proofs.lemmas.Bool.{ltb-true, lt-ltb, cond-true, false_from_ne_tr
 use Rattle.std.proofs.lemmas.Option.{cond_some, slice_get_cases, none-some, same_Some}
 use Rattle.std.proofs.lemmas.List.Quantifiers.{position-Some}
 use Rattle.std.specs.List.{position_or_len}
-use Rattle.run_model.specs.Course.{change_at}
+use Rattle.command_model.specs.Boot.{change_at}
 
 pub change_here : {A : Type 0} (xs : List A) (k : ℕ) (f : A → A) → slice_get (change_at xs k f) k ≡ option_map f (slice_get xs k)
 change_here [] k f = refl

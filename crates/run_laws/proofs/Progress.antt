@@ -12,14 +12,18 @@ use Rattle.nand_model.specs.declared.words.Note.{Note}
 use Rattle.nand_model.specs.declared.words.Op.{Op}
 use Rattle.nand_model.specs.declared.words.Reply.{Reply}
 use Rattle.nand_model.specs.Chip.{ChipState, FaultModel, PageEvent}
-use Rattle.nand_model.specs.Operation.{Known, Finished, device_of}
-use Rattle.nand_model.specs.ChipRun.{ChipRun, Pending, finished_by, next_chip_event}
-use Rattle.run_model.specs.Command.{Script, End, Ask, Next, Do, Over, after_replies, next_in, next_step, script_of, command_device}
-use Rattle.run_model.specs.Course.{Boot, Course, SessionRun, without_finished, with_reply, replied, next_op_of, op_of_next, next_op, session_run, chip_of, finish, with_answer, tear_at, with_flips_before, event_done, event_on, event_or_answer, chip_step, began, begin_on, begin_at, begin_step, session_step, turn_unless, turn_step, attach_first, attach_step, attach_steps, course_after, start_of_boot, sizes_of, is_idle, is_finished, is_free, is_free_at, can_begin, unattached, pending_chip, is_pending_of}
+use Rattle.chip_paths.specs.Operation.{Known, Finished}
+use Rattle.nand_model.specs.Partitions.{device_of, chip_of}
+use Rattle.chip_paths.specs.ChipRun.{ChipRun, Pending, finished_by, next_chip_event}
+use Rattle.command_model.specs.Command.{Script, End, Ask, Next, Do, Over, after_replies, next_in, next_step, script_of, command_device}
+use Rattle.command_model.specs.Boot.{Boot}
+use Rattle.run_model.specs.Course.{Course, session_run, finish, with_answer, tear_at, with_flips_before, event_done, event_on, event_or_answer, chip_step, began, begin_on, begin_at, begin_step, session_step, turn_unless, turn_step, attach_first, attach_step, attach_steps, course_after, start_of_boot, sizes_of, is_idle, is_free, is_free_at, can_begin, unattached, pending_chip, is_pending_of}
+use Rattle.command_model.specs.Session.{SessionRun, without_finished, with_reply, replied, next_op_of, op_of_next, next_op, is_finished}
 use Rattle.run_model.specs.History.{notes_of_chip, IsThere}
 use Rattle.run_model.specs.Run.{HaveOneNumberEach}
-use Rattle.run_laws.specs.Turns.{AsksOnly, HaveChips, SomeTurnIsBusy}
-use Rattle.run_laws.proofs.Devices.{own_device}
+use Rattle.command_model.specs.Laws.{AsksOnly}
+use Rattle.run_laws.specs.Turns.{HaveChips, SomeTurnIsBusy}
+use Rattle.command_model.proofs.Devices.{own_device}
 use Rattle.run_laws.proofs.Places.{position_is, position_none}
 use Rattle.run_laws.proofs.Sessions.{number_stays}
 use Rattle.run_laws.proofs.Courses.{AtPlace, asked_on, asked_by, LawOf, by_log, IsLive, Holds}

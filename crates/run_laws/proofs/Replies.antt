@@ -12,10 +12,11 @@ use Rattle.nand_model.specs.declared.words.Reply.{Reply}
 use Rattle.nand_model.specs.Sizes.{raw_len}
 use Rattle.nand_model.specs.Chip.{ChipState, FaultModel, ChipEvent, after_trace}
 use Rattle.nand_model.specs.Path.{Path, GoesAlong, answers_of, is_uncut, after_answers, first_event, next_event, result_of}
-use Rattle.nand_model.specs.Attach.{Attaching, attach_path}
-use Rattle.nand_model.specs.Operation.{Partitions, part_of, Known, Finished, operation_in, operation_by, operation_path, device_of}
-use Rattle.nand_model.specs.ChipRun.{known_at_first}
-use Rattle.run_model.specs.Course.{chip_of, chip_of_part, course_after}
+use Rattle.chip_paths.specs.Attach.{Attaching, attach_path}
+use Rattle.nand_model.specs.Partitions.{Partitions, part_of, device_of, chip_of, chip_of_part}
+use Rattle.chip_paths.specs.Operation.{Known, Finished, operation_in, operation_by, operation_path}
+use Rattle.chip_paths.specs.ChipRun.{known_at_first}
+use Rattle.run_model.specs.Course.{course_after}
 use Rattle.run_model.specs.History.{OperationTrace, ChipBoot, events_in, notes_of_trace, notes_of_operation, answer_note, attach_outcome, outcome_if, known_then, IsOperationTrace, AreOperationTraces, GoesOn, IsChipHistory}
 use Rattle.run_model.specs.Laws.{ops_in, replies_in, AgreeAsFar, IsSamePart, SamePartitions, RepliesDependOnTheChip}
 use Rattle.run_laws.proofs.Paths.{over_has_no_event}

@@ -8,10 +8,12 @@ use Rattle.nand_model.specs.declared.geometry.Geometry.{Geometry}
 use Rattle.nand_model.specs.declared.words.Note.{Note}
 use Rattle.nand_model.specs.declared.words.Command.{Command}
 use Rattle.nand_model.specs.Chip.{ChipState, FaultModel, after_trace}
-use Rattle.nand_model.specs.Operation.{Partitions}
-use Rattle.nand_model.specs.ChipRun.{ChipRun}
-use Rattle.run_model.specs.Course.{Boot, Course, IsWholeCourse, end_states, geometry_for, without_finished, is_finished}
-use Rattle.run_model.specs.History.{notes_of_chip, ChipBoot, trace_of, events_in, exchanges_of, Alternate, AreOfChips, session_after, FollowsCommands, IsChipHistory, IsChipLife}
+use Rattle.nand_model.specs.Partitions.{Partitions}
+use Rattle.chip_paths.specs.ChipRun.{ChipRun}
+use Rattle.command_model.specs.Boot.{Boot, geometry_for}
+use Rattle.run_model.specs.Course.{Course, IsWholeCourse, end_states}
+use Rattle.command_model.specs.Session.{without_finished, is_finished, exchanges_of, Alternate, session_after, FollowsCommands}
+use Rattle.run_model.specs.History.{notes_of_chip, ChipBoot, trace_of, events_in, AreOfChips, IsChipHistory, IsChipLife}
 use Rattle.run_model.specs.Log.{Log, AreOfLog, AreOfLogs, first_boots, later_boots}
 use Rattle.run_model.specs.Run.{AreBoots, AreInOrder, HaveOneNumberEach, RunsAreFaithful}
 use Rattle.run_laws.proofs.Traces.{geometry_after}

@@ -11,11 +11,11 @@ use Rattle.nand_model.specs.declared.words.Op.{Op}
 use Rattle.nand_model.specs.declared.words.Reply.{Reply}
 use Rattle.nand_model.specs.declared.words.Command.{Command}
 use Rattle.nand_model.specs.declared.words.Outcome.{Outcome}
-use Rattle.run_model.specs.Command.{Next, Do, Over, next_step}
-use Rattle.nand_model.specs.Operation.{Partitions, device_of}
-use Rattle.run_model.specs.Course.{SessionRun, without_finished, with_reply, replied, next_op_of, chip_of}
+use Rattle.command_model.specs.Command.{Next, Do, Over, next_step}
+use Rattle.nand_model.specs.Partitions.{Partitions, device_of, chip_of}
+use Rattle.command_model.specs.Session.{SessionRun, without_finished, with_reply, replied, next_op_of, Exchange, Asked, Replied, exchanges_of, FollowsCommands, session_after, Alternate}
 use Rattle.run_model.specs.Run.{HaveOneNumberEach}
-use Rattle.run_model.specs.History.{LastChips, Exchange, Asked, Replied, exchanges_of, FollowsCommands, session_after, Alternate}
+use Rattle.run_model.specs.History.{LastChips}
 use Rattle.run_laws.proofs.ChipNotes.{lasts, lasts-append, exchanges-append}
 
 -- an operation that was not answered yet

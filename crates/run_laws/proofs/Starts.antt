@@ -8,10 +8,13 @@ use Rattle.nand_model.specs.declared.words.Op.{Op}
 use Rattle.nand_model.specs.declared.words.Command.{Command}
 use Rattle.nand_model.specs.Sizes.{numbers_from}
 use Rattle.nand_model.specs.Chip.{ChipState, FaultModel}
-use Rattle.nand_model.specs.Attach.{attach_path, attach_by, has_tables, read_first_pages}
+use Rattle.chip_paths.specs.Attach.{attach_path, attach_by, read_first_pages}
+use Rattle.nand_model.specs.Table.{has_tables}
 use Rattle.nand_model.specs.Path.{Path, next_event, result_of}
-use Rattle.nand_model.specs.ChipRun.{chip_at_start}
-use Rattle.run_model.specs.Course.{Boot, SessionRun, without_finished, sizes_of, start_of_boot}
+use Rattle.chip_paths.specs.ChipRun.{chip_at_start}
+use Rattle.command_model.specs.Boot.{Boot}
+use Rattle.command_model.specs.Session.{SessionRun, without_finished}
+use Rattle.run_model.specs.Course.{sizes_of, start_of_boot}
 use Rattle.run_laws.proofs.Life.{goes_start, ChipLaw}
 use Rattle.run_laws.proofs.Sessions.{number_stays}
 use Rattle.run_laws.proofs.Courses.{AtPlace, asked_on, SessionsHold, LawOf, by_log, IsLive}

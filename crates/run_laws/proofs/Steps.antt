@@ -7,9 +7,12 @@ use Rattle.nand_model.specs.declared.words.Note.{Note}
 use Rattle.nand_model.specs.declared.words.Note.TheVariants.{Began, Answered}
 use Rattle.nand_model.specs.declared.words.Op.{Op}
 use Rattle.nand_model.specs.Chip.{ChipState, FaultModel, PageEvent}
-use Rattle.nand_model.specs.Operation.{Known, Finished, device_of}
-use Rattle.nand_model.specs.ChipRun.{ChipRun, Pending, next_chip_event, with_pending, finished_by, with_finished}
-use Rattle.run_model.specs.Course.{Boot, Course, SessionRun, change_at, with_flips_before, chip_of, next_op, session_run, unattached, pending_chip, is_pending_of, began, finish, with_answer, is_idle, turn_unless, event_or_answer, chip_step, begin_on, begin_at, begin_step, session_step, turn_step, attach_first, attach_step, sizes_of}
+use Rattle.chip_paths.specs.Operation.{Known, Finished}
+use Rattle.nand_model.specs.Partitions.{device_of, chip_of}
+use Rattle.chip_paths.specs.ChipRun.{ChipRun, Pending, next_chip_event, with_pending, finished_by, with_finished}
+use Rattle.command_model.specs.Boot.{Boot, change_at}
+use Rattle.run_model.specs.Course.{Course, with_flips_before, session_run, unattached, pending_chip, is_pending_of, began, finish, with_answer, is_idle, turn_unless, event_or_answer, chip_step, begin_on, begin_at, begin_step, session_step, turn_step, attach_first, attach_step, sizes_of}
+use Rattle.command_model.specs.Session.{SessionRun, next_op}
 use Rattle.run_model.specs.History.{notes_of_chip}
 use Rattle.run_laws.proofs.ChipNotes.{of_chips-append, lasts, AreOf, one_is_of}
 use Rattle.run_laws.proofs.Places.{none_there, position_none, change_here, change_elsewhere}

@@ -9,9 +9,12 @@ use Rattle.nand_model.specs.declared.words.Command.{Command}
 use Rattle.nand_model.specs.declared.words.Op.{Op}
 use Rattle.nand_model.specs.declared.words.Note.TheVariants.{Answered}
 use Rattle.nand_model.specs.Chip.{ChipState, FaultModel, PageEvent}
-use Rattle.nand_model.specs.Operation.{Known, Finished, device_of}
-use Rattle.nand_model.specs.ChipRun.{ChipRun, Pending, next_event_by, next_chip_event, finished_by}
-use Rattle.run_model.specs.Course.{Boot, Course, chip_of, can_begin, is_free_at, is_free, is_idle, is_pending_of, pending_chip, unattached, began, next_op, session_run, tear_at, with_flips_before, with_answer, finish, event_done, event_on, event_or_answer, chip_step, begin_on, begin_at, begin_step, session_step, turn_unless, turn_step, sizes_of}
+use Rattle.chip_paths.specs.Operation.{Known, Finished}
+use Rattle.nand_model.specs.Partitions.{device_of, chip_of}
+use Rattle.chip_paths.specs.ChipRun.{ChipRun, Pending, next_event_by, next_chip_event, finished_by}
+use Rattle.command_model.specs.Boot.{Boot}
+use Rattle.run_model.specs.Course.{Course, can_begin, is_free_at, is_free, is_idle, is_pending_of, pending_chip, unattached, began, session_run, tear_at, with_flips_before, with_answer, finish, event_done, event_on, event_or_answer, chip_step, begin_on, begin_at, begin_step, session_step, turn_unless, turn_step, sizes_of}
+use Rattle.command_model.specs.Session.{next_op}
 use Rattle.run_laws.specs.Turns.{IsStep, Begins, DoesEvent, Answers, TurnIsStep, busy_turns, BusyTurnsSuffice}
 use Rattle.run_laws.proofs.Paths.{result_by}
 use Rattle.run_laws.proofs.Places.{none_there, position_is, position_none}

@@ -1,16 +1,17 @@
 -- What a turn does to a course, and which turns of a list do anything.
-use Rattle.std.specs.Prelude.{◌≡◌, ℕ, ◌+◌, true, false, if◌then◌else◌, List, [], ◌∷◌, ◌++◌, length, Some, None, Contains, ⊤}
+use Rattle.std.specs.Prelude.{◌≡◌, ℕ, ◌+◌, List, [], ◌∷◌, ◌++◌, true, false, Some, None, if◌then◌else◌, length, Contains}
+use Rattle.run_model.specs.Course.{Course, is_idle, turn_step, unattached, attach_step, sizes_of, turns_taken, is_over}
 use Rattle.nand_model.specs.Chip.{FaultModel, ChipState}
-use Rattle.nand_model.specs.Operation.{device_of}
-use Rattle.run_model.specs.Command.{Script, End, Ask, command_device}
-use Rattle.run_model.specs.Course.{Boot, Course, chip_of, is_idle, is_over, sizes_of, unattached, attach_step, turn_step, turns_taken}
+use Rattle.command_model.specs.Boot.{Boot}
+use Rattle.command_model.specs.Command.{command_device}
+use Rattle.nand_model.specs.Partitions.{chip_of}
 use Rattle.run_model.specs.History.{IsThere}
-use Rattle.nand_model.specs.declared.geometry.Geometry.{Geometry}
-use Rattle.nand_model.specs.declared.words.Command.{Command}
 use Rattle.nand_model.specs.declared.words.Note.{Note}
 use Rattle.nand_model.specs.declared.words.Note.TheVariants.{Began, Answered}
 use Rattle.nand_model.specs.declared.words.Op.{Op}
 use Rattle.nand_model.specs.declared.words.Reply.{Reply}
+use Rattle.nand_model.specs.declared.geometry.Geometry.{Geometry}
+use Rattle.nand_model.specs.declared.words.Command.{Command}
 
 -- one step of a session: an operation begins, or one page event is done, or the operation is answered
 pub data IsStep {W : Type 0} (session : ℕ) (before after : Course W) : Type 0 where
@@ -41,11 +42,6 @@ module _ {W : Type 0} (model : FaultModel W) (boot : Boot) (starts : List (ChipS
   pub record BusyTurnsSuffice (turns : List ℕ) (course : Course W) : Type 0 where
     pub same_course : turns_taken model boot starts (busy_turns turns course) course ≡ turns_taken model boot starts turns course
     pub all_busy : busy_turns (busy_turns turns course) course ≡ busy_turns turns course
-
--- each operation that a script asks for, whatever the replies, is of this device
-abbrev pub AsksOnly : ℕ → Script → Type 0
-AsksOnly dev (End outcome) = ⊤
-AsksOnly dev (Ask op go_on) = (device_of op ≡ dev) × ((reply : Reply) → AsksOnly dev (go_on reply))
 
 -- each command of a boot is of a device whose chip is there
 abbrev pub HaveChips : {W : Type 0} → Boot → List (ChipState W) → Type 0

@@ -1,13 +1,13 @@
 ghost use Rattle.std.specs.Prelude.{ℕ, List, ◌≡◌, Contains};
 ghost use Rattle.nand_model.specs.Chip.{ChipState, FaultModel};
-ghost use Rattle.nand_model.specs.Operation.{Partitions};
-ghost use Rattle.run_model.specs.Command.{command_device, script_of};
-ghost use Rattle.run_model.specs.Course.{Boot, Course, course_after};
-ghost use Rattle.run_model.specs.Laws.{RepliesDependOnTheChip, TroublesAreFew};
+ghost use Rattle.nand_model.specs.Partitions.{Partitions};
+ghost use Rattle.command_model.specs.Boot.{Boot};
+ghost use Rattle.run_model.specs.Course.{Course, course_after};
+ghost use Rattle.run_model.specs.Laws.{RepliesDependOnTheChip};
 ghost use Rattle.run_model.specs.Run.{AreBoots, CoursesAreFaithful, RunsAreFaithful, HaveOneNumberEach};
 ghost use Rattle.nand_model.specs.declared.geometry.Geometry.{Geometry};
 ghost use Rattle.nand_model.specs.declared.words.Command.{Command};
-ghost use Rattle.run_laws.specs.Turns.{AttachIsStep, TurnIsStep, BusyTurnsSuffice, AsksOnly, HaveChips, SomeTurnIsBusy};
+ghost use Rattle.run_laws.specs.Turns.{AttachIsStep, TurnIsStep, BusyTurnsSuffice, HaveChips, SomeTurnIsBusy};
 
 /// Whatever the turns, the cut, the flips and the failures of a boot, its notes are a history of one thread whose traces are
 /// what befell the chips, and each session's operations are those of its commands, in order and each once.
@@ -43,16 +43,6 @@ pub fn turns_are_steps<W>()
         TurnIsStep model boot sizes course session }
     ensures busy_turns { (model : FaultModel W) (boot : Boot) (starts : List (ChipState W)) (turns : List ℕ) (course : Course W) →
         BusyTurnsSuffice model boot starts turns course }
-{}
-
-/// Whatever the replies, a command asks for operations of the device that it names alone.
-pub fn commands_ask_one_device()
-    ensures { (g : Geometry) (command : Command) → AsksOnly (command_device command) (script_of g command) }
-{}
-
-/// At most one written page of each block of a nandwrite is answered program failed or bad block, for every list of replies.
-pub fn troubles_are_few()
-    ensures { (g : Geometry) → TroublesAreFew g }
 {}
 
 /// A boot goes on: while a course is not over and all its chips are attached, the turn of some session of the boot is not idle, where

@@ -4,6 +4,6 @@
 mod laws;
 
 pub use laws::{
-    attach_steps_are_events, chips_stand_alone, commands_ask_one_device, courses_go_on,
-    every_interleaving, every_run, troubles_are_few, turns_are_steps,
+    attach_steps_are_events, chips_stand_alone, courses_go_on, every_interleaving, every_run,
+    turns_are_steps,
 };

@@ -2,8 +2,9 @@
 use Rattle.std.specs.Prelude.{◌++◌, ◌≡◌, true, false, [], ◌∷◌, replicate, take, None, refl}
 use Rattle.nand_model.specs.Sizes.{small_chip, small_chip_without_tables}
 use Rattle.nand_model.specs.Chip.{SimFaults, Complete, PowerCut, ProgramEvent, EraseEvent, sim_faults, new_chip, after_trace, done_bits}
-use Rattle.run_model.specs.Command.{Do, Over, next_step}
-use Rattle.run_model.specs.Course.{Boot, Course, course_after, is_over}
+use Rattle.command_model.specs.Command.{Do, Over, next_step}
+use Rattle.command_model.specs.Boot.{Boot}
+use Rattle.run_model.specs.Course.{Course, course_after, is_over}
 use Rattle.nand_model.specs.declared.tear.Tear.TheVariants.{Seed, Spans}
 use Rattle.nand_model.specs.declared.words.WeakKind.TheVariants.{Program as WeakProgram}
 use Rattle.nand_model.specs.declared.words.Op.TheVariants.{IsBad, Erase, Mark, Write, Read}

@@ -9,7 +9,8 @@ use Rattle.code_model.specs.Bits.{bytes_of, xor_bytes, bits_of, bytes_of_bits}
 use Rattle.code_model.specs.Word.{number_from}
 use Rattle.nand_model.specs.declared.words.Which.TheVariants.{Mirror as Mirror'}
 use Rattle.nand_model.specs.Chip.{SimFaults, sim_faults, new_chip}
-use Rattle.run_model.specs.Course.{Boot, Course, course_after}
+use Rattle.command_model.specs.Boot.{Boot}
+use Rattle.run_model.specs.Course.{Course, course_after}
 use Rattle.nand_model.specs.declared.tear.Tear.TheVariants.{Nothing}
 use Rattle.nand_model.specs.declared.words.CutAt.{CutAt}
 use Rattle.nand_model.specs.declared.words.Op.TheVariants.{Mark}

@@ -1,36 +1,21 @@
 -- The course of a controller in a boot: first its chips are attached, one page event a step, and then each turn of a session does one step.
-use Rattle.std.specs.Prelude.{◌≡◌, ℕ, zero, suc, ◌+◌, Bool, true, false, not, ◌&&◌, ◌||◌, ◌==◌, if◌then◌else◌, List, [], ◌∷◌, ◌++◌, map, filter, find, fold, slice_get, slice_index_or, position, Option, Some, None, is_none, is_some}
+use Rattle.std.specs.Prelude.{ℕ, Bool, List, ◌==◌, if◌then◌else◌, Option, Some, None, find, false, position, is_none, [], ◌∷◌, ◌++◌, slice_get, not, ◌&&◌, ◌||◌, is_some, ◌+◌, true, filter, fold, map, zero, suc, ◌≡◌}
 use Rattle.std.specs.List.{list_all}
-use Rattle.nand_model.specs.Sizes.{raw_len, small_chip}
-use Rattle.nand_model.specs.Chip.{ChipState, FaultModel, PageEvent, done_bits}
-use Rattle.nand_model.specs.Operation.{Partitions, part_of, Known, Finished, device_of}
-use Rattle.nand_model.specs.ChipRun.{ChipRun, Pending, chip_at_start, next_chip_event, with_pending, finished_by, with_finished, attach_notes, with_flips, advanced, torn_at, notes_of_advance, notes_of_cut}
-use Rattle.run_model.specs.Command.{Next, Do, Over, next_step, command_device}
-use Rattle.nand_model.specs.declared.geometry.Geometry.{Geometry}
+use Rattle.chip_paths.specs.ChipRun.{ChipRun, Pending, with_pending, with_finished, finished_by, next_chip_event, attach_notes, with_flips, advanced, torn_at, notes_of_advance, notes_of_cut, chip_at_start}
+use Rattle.command_model.specs.Session.{SessionRun, replied, next_op, without_finished, is_finished}
+use Rattle.command_model.specs.Boot.{change_at, Boot, geometry_for}
+use Rattle.chip_paths.specs.Operation.{Finished, Known}
+use Rattle.nand_model.specs.Partitions.{Partitions, device_of, chip_of}
+use Rattle.nand_model.specs.Sizes.{raw_len}
+use Rattle.nand_model.specs.Chip.{FaultModel, PageEvent, done_bits, ChipState}
+use Rattle.nand_model.specs.declared.words.Note.{Note}
 use Rattle.nand_model.specs.declared.tear.Tear.{Tear}
-use Rattle.nand_model.specs.declared.words.Part.{Part}
-use Rattle.nand_model.specs.declared.words.Flip.{Flip}
 use Rattle.nand_model.specs.declared.words.CutAt.{CutAt}
 use Rattle.nand_model.specs.declared.words.Op.{Op}
-use Rattle.nand_model.specs.declared.words.Reply.{Reply}
-use Rattle.nand_model.specs.declared.words.Note.{Note}
 use Rattle.nand_model.specs.declared.words.Note.TheVariants.{Began, Answered}
+use Rattle.nand_model.specs.declared.geometry.Geometry.{Geometry}
 use Rattle.nand_model.specs.declared.words.Command.{Command}
-use Rattle.nand_model.specs.declared.words.Outcome.{Outcome}
-
--- a controller's part of a boot: its partitions, its sessions with their commands, its flips and its cut
-pub record Boot : Type 0 where
-  pub partitions : Partitions
-  pub sessions : List (ℕ × List Command)
-  pub flips : List Flip
-  pub cut : Option CutAt
-
--- a session: its commands that are not finished, the replies to the first of these, and the outcomes of those that are
-pub record SessionRun : Type 0 where
-  pub number : ℕ
-  pub commands : List Command
-  pub replies : List Reply
-  pub outcomes : List Outcome
+use Rattle.nand_model.specs.declared.words.Flip.{Flip}
 
 -- where a controller stands in a boot
 pub record Course (W : Type 0) : Type 0 where
@@ -40,67 +25,14 @@ pub record Course (W : Type 0) : Type 0 where
   pub dark : Bool
   pub notes : List Note
 
--- the list with the item at a place changed
-abbrev pub change_at : {A : Type 0} → List A → ℕ → (A → A) → List A
-change_at [] n f = []
-change_at (x ∷ xs) zero f = f x ∷ xs
-change_at (x ∷ xs) (suc n) f = x ∷ change_at xs n f
-
 -- the cut's tear, where the cut names this event
 abbrev pub tear_at : Option CutAt → ℕ → Option Tear
 tear_at None n = None
 tear_at (Some cut) n = if cut.event == n then Some cut.tear else None
 
--- the chip of a device
-abbrev pub chip_of_part : Option Part → Option ℕ
-chip_of_part None = None
-chip_of_part (Some part) = Some part.chip
-
-abbrev pub chip_of : Partitions → ℕ → Option ℕ
-chip_of partitions dev = chip_of_part (part_of partitions dev)
-
-abbrev pub geometry_of_chip : List Geometry → Option ℕ → Geometry
-geometry_of_chip geometries None = small_chip
-geometry_of_chip geometries (Some k) = slice_index_or geometries k small_chip
-
--- the geometry of the chip of a command's device (some geometry, where there is no such chip)
-abbrev pub geometry_for : Partitions → List Geometry → Command → Geometry
-geometry_for partitions geometries command = geometry_of_chip geometries (chip_of partitions (command_device command))
-
--- a session with its finished commands taken out
-abbrev pub without_finished : (Command → Geometry) → ℕ → List Command → List Reply → List Outcome → SessionRun
-without_finished sizes number [] replies outcomes = record { number = number; commands = []; replies = []; outcomes = outcomes }
-without_finished sizes number (command ∷ commands) replies outcomes =
-    go (next_step (sizes command) command replies) (without_finished sizes number commands [])
-  where
-    go : Next → (List Outcome → SessionRun) → SessionRun
-    go (Over outcome) rest = rest (outcomes ++ outcome ∷ [])
-    go (Do op) rest = record { number = number; commands = command ∷ commands; replies = replies; outcomes = outcomes }
-
-abbrev pub op_of_next : Next → Option Op
-op_of_next (Do op) = Some op
-op_of_next (Over outcome) = None
-
--- the next operation of these commands, after these replies to the first of them
-abbrev pub next_op_of : (Command → Geometry) → List Command → List Reply → Option Op
-next_op_of sizes [] replies = None
-next_op_of sizes (command ∷ commands) replies = op_of_next (next_step (sizes command) command replies)
-
--- a session with one more reply
-abbrev pub with_reply : (Command → Geometry) → Reply → SessionRun → SessionRun
-with_reply sizes reply s = without_finished sizes s.number s.commands (s.replies ++ reply ∷ []) s.outcomes
-
-abbrev pub replied : (Command → Geometry) → ℕ → Reply → List SessionRun → List SessionRun
-replied sizes session reply sessions =
-    map (λ (s : SessionRun). if s.number == session then with_reply sizes reply s else s) sessions
-
 -- a session with this number
 abbrev pub session_run : {W : Type 0} → Course W → ℕ → Option SessionRun
 session_run course session = find (λ (s : SessionRun). s.number == session) course.sessions
-
-abbrev pub next_op : (Command → Geometry) → Option SessionRun → Option Op
-next_op sizes None = None
-next_op sizes (Some s) = next_op_of sizes s.commands s.replies
 
 abbrev pub is_pending_of : ℕ → Option Pending → Bool
 is_pending_of session None = false
@@ -264,10 +196,6 @@ module _ {W : Type 0} (model : FaultModel W) (boot : Boot) (starts : List (ChipS
   -- so many attach steps, and then these turns
   abbrev pub course_after : ℕ → List ℕ → Course W
   course_after attaches turns = turns_taken turns (attach_steps attaches (start_of_boot boot starts))
-
-abbrev pub is_finished : List Command → Bool
-is_finished [] = true
-is_finished (command ∷ commands) = false
 
 -- all chips are attached and all commands finished, or the controller is dark
 abbrev pub is_over : {W : Type 0} → Course W → Bool

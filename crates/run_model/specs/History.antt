@@ -1,18 +1,17 @@
 -- When notes are those of one thread: on each chip one operation after another, and in each session one exchange after another.
-use Rattle.std.specs.Prelude.{◌≡◌, ◌<◌, ℕ, Bool, true, false, ◌&&◌, ◌==◌, if◌then◌else◌, List, [], ◌∷◌, ◌++◌, length, map, Option, Some, None, is_none, ⊤, slice_get, flat_map, All}
-use Rattle.nand_model.specs.Chip.{ChipState, FaultModel, ChipEvent, Complete, PowerCut, Flipped, happens, after_trace}
+use Rattle.std.specs.Prelude.{ℕ, List, Option, map, [], ◌∷◌, Some, None, Bool, true, false, ◌≡◌, ◌&&◌, ◌++◌, is_none, flat_map, ◌==◌, if◌then◌else◌, ⊤, ◌<◌, length, slice_get, All}
+use Rattle.nand_model.specs.Chip.{ChipEvent, ChipState, FaultModel, Complete, PowerCut, Flipped, happens, after_trace}
+use Rattle.chip_paths.specs.Operation.{Known, Finished, operation_path, Performs}
+use Rattle.chip_paths.specs.Attach.{Attaching, attach_path}
 use Rattle.nand_model.specs.Path.{GoesAlong, answers_of, answer_to, is_failure, is_uncut, after_answers, next_event, result_of}
-use Rattle.nand_model.specs.Attach.{Attaching, attach_path}
-use Rattle.nand_model.specs.Operation.{Partitions, Known, Finished, operation_path, device_of, Performs}
+use Rattle.nand_model.specs.Partitions.{Partitions, device_of, chip_of}
 use Rattle.nand_model.specs.Quiet.{is_quiet}
-use Rattle.nand_model.specs.ChipRun.{torn_notes, attach_note, known_at_first}
-use Rattle.run_model.specs.Course.{chip_of, SessionRun, with_reply, next_op_of}
-use Rattle.nand_model.specs.declared.geometry.Geometry.{Geometry}
+use Rattle.chip_paths.specs.ChipRun.{torn_notes, attach_note, known_at_first}
+use Rattle.command_model.specs.Session.{exchanges_of, Alternate}
 use Rattle.nand_model.specs.declared.words.Op.{Op}
 use Rattle.nand_model.specs.declared.words.Reply.{Reply}
-use Rattle.nand_model.specs.declared.words.Command.{Command}
 use Rattle.nand_model.specs.declared.words.Note.{Note}
-use Rattle.nand_model.specs.declared.words.Note.TheVariants.{Began, Answered, Attached, Torn}
+use Rattle.nand_model.specs.declared.words.Note.TheVariants.{Answered, Began, Attached, Torn}
 
 -- an operation as a chip saw it: its trace, each event with its number, and its reply, if it came
 pub record OperationTrace : Type 0 where
@@ -149,44 +148,6 @@ notes_of_chip_from partitions last k (note ∷ notes) =
 -- the notes of one chip
 abbrev pub notes_of_chip : Partitions → ℕ → List Note → List Note
 notes_of_chip partitions k notes = notes_of_chip_from partitions (λ s. None) k notes
-
--- what a session asked for and what it was answered, in the order of the notes
-pub data Exchange : Type 0 where
-  Asked : Op → Exchange
-  Replied : Reply → Exchange
-
-abbrev pub exchange_in : ℕ → Note → List Exchange
-exchange_in session (Began s op) = if s == session then Asked op ∷ [] else []
-exchange_in session (Answered s reply) = if s == session then Replied reply ∷ [] else []
-exchange_in session (Attached chip origin version copies quiet states) = []
-exchange_in session (Torn chip number event cut fairness) = []
-
-abbrev pub exchanges_of : ℕ → List Note → List Exchange
-exchanges_of session [] = []
-exchanges_of session (note ∷ notes) = exchange_in session note ++ exchanges_of session notes
-
--- the exchanges of a session are those of its commands, in order and each once: from each state of its commands, nothing, or the next operation, and after its reply so on
-abbrev pub FollowsCommands : (Command → Geometry) → SessionRun → List Exchange → Type 0
-FollowsCommands sizes s [] = ⊤
-FollowsCommands sizes s (Asked op ∷ []) = next_op_of sizes s.commands s.replies ≡ Some op
-FollowsCommands sizes s (Asked op ∷ Replied reply ∷ rest) =
-    (next_op_of sizes s.commands s.replies ≡ Some op) × FollowsCommands sizes (with_reply sizes reply s) rest
-FollowsCommands sizes s (Asked op ∷ Asked next ∷ rest) = ⊥
-FollowsCommands sizes s (Replied reply ∷ rest) = ⊥
-
--- where a session stands after its exchanges
-abbrev pub session_after : (Command → Geometry) → SessionRun → List Exchange → SessionRun
-session_after sizes s [] = s
-session_after sizes s (Asked op ∷ rest) = session_after sizes s rest
-session_after sizes s (Replied reply ∷ rest) = session_after sizes (with_reply sizes reply s) rest
-
--- an answer to each operation before the next
-abbrev pub Alternate : List Exchange → Type 0
-Alternate [] = ⊤
-Alternate (Asked op ∷ []) = ⊤
-Alternate (Asked op ∷ Replied reply ∷ rest) = Alternate rest
-Alternate (Asked op ∷ Asked next ∷ rest) = ⊥
-Alternate (Replied reply ∷ rest) = ⊥
 
 -- what a chip went through in one boot after the other, each from where the one before it left the chip
 abbrev pub IsChipLife : {W : Type 0} → FaultModel W → Partitions → ℕ → ChipState W → List ChipBoot → List (List Note) → Type 0

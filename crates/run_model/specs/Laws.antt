@@ -1,37 +1,25 @@
 -- Theorems about these definitions, each as a statement that a function's contract can carry. A statement counts as proved only where a contract cites it; those of this file wait for the stages that need them, but for `RepliesDependOnTheChip` and `TroublesAreFew`.
-use Rattle.std.specs.Prelude.{◌≡◌, ℕ, ◌+◌, ◌-◌, ◌*◌, ◌/◌, ◌<◌, ◌≤◌, Bool, ◌==◌, List, [], ◌∷◌, length, map, fold, slice_get, Option, Some, None, IsTrue, All, ⊤}
-use Rattle.nand_model.specs.Page.{page_image, IsWhole}
-use Rattle.nand_model.specs.Table.{copy_in, table_page, written_code, state_read}
+use Rattle.std.specs.Prelude.{ℕ, List, ◌≡◌, ◌+◌, ◌*◌, ◌<◌, length, Some, All, [], ◌∷◌, ⊤, None, ◌==◌, Option, IsTrue, slice_get}
+use Rattle.nand_model.specs.Page.{page_image, IsWhole, FillsPage}
+use Rattle.nand_model.specs.Table.{copy_in, table_page, read_again}
+use Rattle.nand_model.specs.Flips.{flips_between, with_bits_turned}
+use Rattle.run_model.specs.ReadBack.{HasFewFlips}
+use Rattle.command_model.specs.Boot.{Boot}
+use Rattle.nand_model.specs.Partitions.{Partitions, part_of}
 use Rattle.nand_model.specs.Chip.{ChipState, FaultModel}
-use Rattle.nand_model.specs.Flips.{flips_between, with_bit_turned}
-use Rattle.run_model.specs.ReadBack.{HasFewFlips, FillsPage}
-use Rattle.run_model.specs.Command.{Script, End, Ask, Next, Do, Over, script_of, after_replies, next_in, block_size, cost_of}
-use Rattle.run_model.specs.Course.{Boot, course_after}
+use Rattle.run_model.specs.Course.{course_after}
 use Rattle.run_model.specs.History.{notes_of_chip}
 use Rattle.nand_model.specs.declared.geometry.Geometry.{Geometry}
 use Rattle.nand_model.specs.declared.words.Which.{Which}
 use Rattle.nand_model.specs.declared.words.Op.{Op}
-use Rattle.nand_model.specs.declared.words.Op.TheVariants.{Write, RawWrite}
-use Rattle.nand_model.specs.declared.words.Reply.{Reply}
-use Rattle.nand_model.specs.declared.words.Reply.TheVariants.{ProgramFailed, BadBlock}
-use Rattle.nand_model.specs.declared.words.Command.{Command}
-use Rattle.nand_model.specs.declared.words.Command.TheVariants.{NandWrite}
 use Rattle.nand_model.specs.declared.words.Note.{Note}
 use Rattle.nand_model.specs.declared.words.Note.TheVariants.{Began, Answered}
+use Rattle.nand_model.specs.declared.words.Reply.{Reply}
 use Rattle.nand_model.specs.declared.words.Part.{Part}
-use Rattle.nand_model.specs.Operation.{Partitions, part_of}
 
 -- a page's image is whole
 abbrev pub ImagesAreWhole : Geometry → Type 0
 ImagesAreWhole g = (body free : List ℕ) → FillsPage g body free → IsWhole g (page_image g body free)
-
--- states as they are after they were written and read: reserved ones as good
-abbrev pub read_again : List ℕ → List ℕ
-read_again states = map (λ s. state_read (written_code s)) states
-
--- the page with these bits turned
-abbrev pub with_bits_turned : List ℕ → List ℕ → List ℕ
-with_bits_turned cells bits = fold with_bit_turned cells bits
 
 -- a copy is read back from its page, with few flips in each word and none in a header in the spare
 abbrev pub CopiesReadBack : Geometry → Type 0
@@ -39,38 +27,6 @@ CopiesReadBack g =
     (which : Which) (version : ℕ) (states bits : List ℕ) → length states ≡ g.blocks → version < 256 → All (λ s. s < 4) states →
     HasFewFlips g bits → (g.bbt ≡ 1 → flips_between bits (8 * (g.page + 8)) (8 * (g.page + 13)) ≡ 0) →
     copy_in g (with_bits_turned (table_page g which version states) bits) ≡ Some (record { which = which; version = version; states = read_again states })
-
--- the written pages among the answered operations that failed or were refused
-abbrev pub is_trouble : Reply → ℕ
-is_trouble ProgramFailed = 1
-is_trouble BadBlock = 1
-is_trouble _ = 0
-
-abbrev pub trouble_of : Op → Reply → ℕ
-trouble_of (Write dev page body free) reply = is_trouble reply
-trouble_of (RawWrite dev page image) reply = is_trouble reply
-trouble_of _ reply = 0
-
-abbrev pub troubles : List Reply → Script → ℕ
-troubles [] script = 0
-troubles (r ∷ replies) (End outcome) = 0
-troubles (r ∷ replies) (Ask op go_on) = trouble_of op r + troubles replies (go_on r)
-
--- Each block to which a nandwrite comes gives it at most one trouble, so that its cost with the number of its blocks is a bound for every list of replies
-abbrev pub TroublesAreFew : Geometry → Type 0
-TroublesAreFew g =
-    (dev blocks : ℕ) (mark raw oob pad : Bool) (off : ℕ) (bytes : List ℕ) (replies : List Reply) →
-    troubles replies (script_of g (NandWrite dev blocks mark raw oob pad off bytes)) ≤ blocks - off / block_size g
-
-abbrev pub IsOver : Next → Type 0
-IsOver (Over outcome) = ⊤
-IsOver (Do op) = ⊥
-
--- a command ends after at most its cost, for every list of replies with no more trouble than is allowed for
-abbrev pub CommandsEnd : Geometry → Command → Type 0
-CommandsEnd g command =
-    (weak : ℕ) (replies : List Reply) → troubles replies (script_of g command) ≤ weak → cost_of g command weak ≤ length replies →
-    IsOver (next_in (after_replies replies (script_of g command)))
 
 -- the operations begun in these notes, and the replies in them
 abbrev pub ops_in : List Note → List Op

@@ -1,4 +1,3 @@
-pub mod Command
 pub mod Course
 pub mod History
 pub mod Log

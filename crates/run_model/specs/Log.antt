@@ -4,7 +4,8 @@ use Rattle.nand_model.specs.declared.tear.Tear.{Tear}
 use Rattle.nand_model.specs.declared.words.Flip.{Flip}
 use Rattle.nand_model.specs.Sizes.{raw_len}
 use Rattle.nand_model.specs.Chip.{ChipState, FaultModel, ChipEvent, Complete, PowerCut, Flipped, PageEvent, done_bits, after_trace}
-use Rattle.run_model.specs.Course.{Boot, Course, end_states, tear_at}
+use Rattle.command_model.specs.Boot.{Boot}
+use Rattle.run_model.specs.Course.{Course, end_states, tear_at}
 use Rattle.run_model.specs.History.{ChipBoot, numbered_of, trace_of}
 
 -- a page event and the chip on which it was done. The n-th of a boot has number n

@@ -1,7 +1,7 @@
 -- Markings of blocks: begun and acknowledged, by the notes of all boots so far.
 use Rattle.std.specs.Prelude.{ℕ, ◌+◌, ◌<◌, ◌⊎◌, Bool, true, false, ◌&&◌, ◌||◌, ◌==◌, nat_lt, if◌then◌else◌, List, [], ◌∷◌, ◌++◌, Option, Some, None, Contains, slice_index, IsTrue}
 use Rattle.std.specs.List.{list_any}
-use Rattle.nand_model.specs.Operation.{Partitions, part_of}
+use Rattle.nand_model.specs.Partitions.{Partitions, part_of}
 use Rattle.nand_model.specs.declared.words.Part.{Part}
 use Rattle.nand_model.specs.declared.words.Op.{Op}
 use Rattle.nand_model.specs.declared.words.Op.TheVariants.{Mark}

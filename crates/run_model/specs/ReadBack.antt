@@ -1,18 +1,18 @@
 -- What is read back from a page that was programmed once.
-use Rattle.std.specs.Prelude.{◌≡◌, ℕ, ◌-◌, length, All, ◌/◌, ◌<◌, ◌≤◌, max, Bool, true, false, ◌==◌, if◌then◌else◌, List, [], ◌∷◌, ◌++◌, map, fold, sum, Option, Some, None, is_none, nat_le, ⊤}
-use Rattle.code_model.specs.Word.{distance}
-use Rattle.nand_model.specs.Sizes.{step_count, numbers_from, parity_start}
-use Rattle.nand_model.specs.Page.{decoded, step_body, step_word, page_image}
+use Rattle.std.specs.Prelude.{ℕ, List, Bool, true, false, ◌/◌, ◌==◌, if◌then◌else◌, [], ◌∷◌, is_none, ◌≡◌, ◌<◌, max, map, fold, sum, ◌≤◌, Option, Some, None, nat_le, ⊤, ◌++◌}
 use Rattle.nand_model.specs.Chip.{ChipState, FaultModel, ChipEvent, Complete, PowerCut, Flipped, ReadEvent, ProgramEvent, EraseEvent, ProgramCall, EraseCall, failure_of, happens, after_trace, new_chip, sim_faults}
+use Rattle.code_model.specs.Word.{distance}
+use Rattle.nand_model.specs.Page.{step_word, decoded, step_body, page_image, FillsPage}
+use Rattle.nand_model.specs.Sizes.{step_count, numbers_from}
 use Rattle.nand_model.specs.Quiet.{word_flips}
-use Rattle.run_model.specs.History.{OperationTrace, ChipBoot, events_in, trace_of}
+use Rattle.run_model.specs.History.{OperationTrace, events_in, ChipBoot, trace_of}
 use Rattle.nand_model.specs.declared.geometry.Geometry.{Geometry}
-use Rattle.nand_model.specs.declared.words.PageKind.TheVariants.{Bitflips, Clean}
 use Rattle.nand_model.specs.declared.words.Weak.{Weak}
-use Rattle.nand_model.specs.declared.words.Op.{Op}
-use Rattle.nand_model.specs.declared.words.Op.TheVariants.{Read}
+use Rattle.nand_model.specs.declared.words.PageKind.TheVariants.{Bitflips, Clean}
 use Rattle.nand_model.specs.declared.words.Reply.{Reply}
 use Rattle.nand_model.specs.declared.words.Reply.TheVariants.{Page}
+use Rattle.nand_model.specs.declared.words.Op.{Op}
+use Rattle.nand_model.specs.declared.words.Op.TheVariants.{Read}
 
 -- what a page has been through since it was made or last erased well: nothing, one good program, or anything else
 pub data Past : Type 0 where
@@ -59,13 +59,6 @@ pub record ReadsBack (g : Geometry) (image cells : List ℕ) : Type 0 where
 -- each step's word has had at most as many flips as the code corrects
 abbrev pub HasFewFlips : Geometry → List ℕ → Type 0
 HasFewFlips g flips = (s : ℕ) → s < step_count g → word_flips g flips s ≤ g.t
-
--- body and free bytes that fill their places in a page
-pub record FillsPage (g : Geometry) (body free : List ℕ) : Type 0 where
-  pub body_length : length body ≡ g.page
-  pub free_length : length free ≡ parity_start g - 2
-  pub body_bytes : All (λ byte. byte < 256) body
-  pub free_bytes : All (λ byte. byte < 256) free
 
 -- From a new chip, after any trace: a page that one program has filled, with few flips, is read back.
 abbrev pub ProgrammedPagesReadBack : Geometry → List ℕ → List Weak → Type 0

@@ -3,14 +3,16 @@ use Rattle.std.specs.Prelude.{◌≡◌, ◌≢◌, ◌==◌, ℕ, ◌+◌, ◌/
 use Rattle.std.specs.List.{list_all, list_any, AllZip}
 use Rattle.nand_model.specs.Sizes.{first_page}
 use Rattle.nand_model.specs.Chip.{ChipState, FaultModel, PageEvent, ReadEvent, ProgramEvent, EraseEvent}
-use Rattle.nand_model.specs.Table.{Copy, copy_in}
-use Rattle.nand_model.specs.Attach.{has_tables, Places, places_of, candidates, chosen, used_copy, found, table_blocks, place_of}
-use Rattle.nand_model.specs.Operation.{Partitions, Known}
+use Rattle.nand_model.specs.Table.{Copy, copy_in, has_tables, table_blocks, read_again}
+use Rattle.chip_paths.specs.Attach.{Places, places_of, candidates, chosen, used_copy, found, place_of}
+use Rattle.nand_model.specs.Partitions.{Partitions}
+use Rattle.chip_paths.specs.Operation.{Known}
 use Rattle.nand_model.specs.Quiet.{is_quiet}
-use Rattle.nand_model.specs.ChipRun.{ChipRun, next_chip_event}
-use Rattle.run_model.specs.Course.{Boot, Course, SessionRun, IsWholeCourse, course_after, end_states, sizes_of, without_finished, is_finished, is_over}
-use Rattle.run_model.specs.History.{ChipBoot, AreOneThread, FollowsCommands, exchanges_of, session_after}
-use Rattle.run_model.specs.Laws.{read_again}
+use Rattle.chip_paths.specs.ChipRun.{ChipRun, next_chip_event}
+use Rattle.command_model.specs.Boot.{Boot}
+use Rattle.run_model.specs.Course.{Course, IsWholeCourse, course_after, end_states, sizes_of, is_over}
+use Rattle.command_model.specs.Session.{SessionRun, without_finished, is_finished, FollowsCommands, exchanges_of, session_after}
+use Rattle.run_model.specs.History.{ChipBoot, AreOneThread}
 use Rattle.run_model.specs.Log.{Log, AreOfLog, AreOfLogs}
 use Rattle.run_model.specs.Marking.{ShowsMarks}
 use Rattle.nand_model.specs.declared.geometry.Geometry.{Geometry}

@@ -1,7 +1,7 @@
 // A controller's boot, replayed.
 ghost use Rattle.std.specs.Prelude.{◌≡◌, ◌<◌, ◌≤◌, ◌+◌, ◌*◌, [], None, false, All, length, IfOk, OnOk, OnErr};
 ghost use Rattle.run_model.specs.Course.{is_over, turns_taken, unattached};
-ghost use Rattle.cost_laws.specs.Cost.{boot_cost};
+ghost use Rattle.turn_laws.specs.Cost.{boot_cost};
 ghost use Rattle.ctl_core.specs.Past.{starts_of, course_of};
 ghost use Rattle.ctl_core.specs.Start.{CanStart, HasSession};
 ghost use Rattle.session_run.specs.Replay.{IsReplayed, IsOfTheSameStart, TakesTurn, session_numbers};

@@ -5,8 +5,8 @@ use Rattle.nand_model.specs.declared.words.Command.{Command}
 use Rattle.nand_model.specs.declared.words.Op.{Op}
 use Rattle.nand_model.specs.declared.words.Outcome.{Outcome}
 use Rattle.nand_model.specs.declared.words.Reply.{Reply}
-use Rattle.run_model.specs.Command.{Next, Do, Over, next_step}
-use Rattle.run_model.specs.Course.{SessionRun, without_finished}
+use Rattle.command_model.specs.Command.{Next, Do, Over, next_step}
+use Rattle.command_model.specs.Session.{SessionRun, without_finished}
 use Rattle.tool_steps.specs.Steps.{is_over}
 use Rattle.tool_steps.proofs.Scripts.{asks_first}
 use Rattle.session_steps.specs.Mirrors.{CanAllRun}

@@ -9,8 +9,8 @@ use Rattle.nand_model.specs.declared.words.Note.{Note}
 use Rattle.nand_model.specs.declared.words.Op.{Op}
 use Rattle.nand_model.specs.declared.words.Outcome.{Outcome}
 use Rattle.nand_model.specs.declared.words.Reply.{Reply}
-use Rattle.run_model.specs.Command.{Script, End, Ask}
-use Rattle.run_model.specs.Course.{SessionRun}
+use Rattle.command_model.specs.Command.{Script, End, Ask}
+use Rattle.command_model.specs.Session.{SessionRun}
 use Rattle.tool_steps.specs.Stage.{CanRun}
 use Rattle.session_steps.specs.declared.session.Session.{Session}
 use Rattle.session_steps.specs.Standing.{Standing}

@@ -6,8 +6,8 @@ use Rattle.nand_model.specs.declared.words.Command.{Command}
 use Rattle.nand_model.specs.declared.words.Op.{Op}
 use Rattle.nand_model.specs.declared.words.Outcome.{Outcome}
 use Rattle.nand_model.specs.declared.words.Reply.{Reply}
-use Rattle.run_model.specs.Command.{Script, End, Ask, Over, next_in, next_step, after_replies, script_of}
-use Rattle.run_model.specs.Course.{SessionRun, without_finished, with_reply, next_op_of, op_of_next}
+use Rattle.command_model.specs.Command.{Script, End, Ask, Over, next_in, next_step, after_replies, script_of}
+use Rattle.command_model.specs.Session.{SessionRun, without_finished, with_reply, next_op_of, op_of_next}
 use Rattle.tool_steps.specs.Stage.{CanRun}
 use Rattle.tool_steps.specs.Steps.{is_over}
 use Rattle.tool_steps.proofs.Scripts.{asks_first, after_replies-append}

@@ -4,8 +4,8 @@ use Rattle.nand_model.specs.declared.geometry.Geometry.{Geometry}
 use Rattle.nand_model.specs.declared.words.Command.{Command}
 use Rattle.nand_model.specs.declared.words.Note.{Note}
 use Rattle.nand_model.specs.declared.words.Reply.{Reply}
-use Rattle.run_model.specs.Command.{Script, End, Ask, after_replies, script_of}
-use Rattle.run_model.specs.Course.{SessionRun}
+use Rattle.command_model.specs.Command.{Script, End, Ask, after_replies, script_of}
+use Rattle.command_model.specs.Session.{SessionRun}
 use Rattle.tool_steps.specs.Stage.{CanRun}
 use Rattle.session_steps.specs.declared.session.Session.{Session}
 use Rattle.session_steps.specs.Standing.{Standing, standing, outcomes_by, commands_by}

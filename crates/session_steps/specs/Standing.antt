@@ -6,7 +6,7 @@ use Rattle.nand_model.specs.declared.words.Note.TheVariants.{Answered}
 use Rattle.nand_model.specs.declared.words.Op.{Op}
 use Rattle.nand_model.specs.declared.words.Outcome.{Outcome}
 use Rattle.nand_model.specs.declared.words.Reply.{Reply}
-use Rattle.run_model.specs.Command.{Script, End, Ask}
+use Rattle.command_model.specs.Command.{Script, End, Ask}
 use Rattle.tool_steps.specs.Steps.{after_last}
 use Rattle.tool_steps.specs.Work.{left_of}
 use Rattle.tool_steps.specs.declared.tool.Tool.{Tool}

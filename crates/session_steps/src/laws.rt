@@ -1,13 +1,13 @@
 // Laws of sessions.
 ghost use Rattle.std.specs.Prelude.{◌≡◌, ◌++◌, List, Some};
-ghost use Rattle.nand_model.specs.Operation.{device_of};
+ghost use Rattle.nand_model.specs.Partitions.{device_of};
 ghost use Rattle.nand_model.specs.declared.geometry.Geometry.{Geometry};
 ghost use Rattle.nand_model.specs.declared.words.Command.{Command};
 ghost use Rattle.nand_model.specs.declared.words.Note.{Note};
 ghost use Rattle.nand_model.specs.declared.words.Op.{Op};
-ghost use Rattle.run_model.specs.Command.{command_device};
-ghost use Rattle.run_model.specs.Course.{SessionRun, next_op_of};
-ghost use Rattle.chip_model.specs.Taken.{IsTaken};
+ghost use Rattle.command_model.specs.Command.{command_device};
+ghost use Rattle.command_model.specs.Session.{SessionRun, next_op_of};
+ghost use Rattle.command_model.specs.Taken.{IsTaken};
 ghost use Rattle.session_steps.specs.Mirrors.{CanAllRun, Mirrors};
 ghost use Rattle.session_steps.specs.Standing.{First};
 ghost use Rattle.session_steps.specs.declared.session.Session.{Session};

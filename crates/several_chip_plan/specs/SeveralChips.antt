@@ -21,7 +21,7 @@
 -- Each line ends with LF, words are separated by one space, and numbers are decimal without leading zeros. J is one of the devices, of which each chip has one.
 use Rattle.std.specs.Prelude.{◌≡◌, ℕ, ◌*◌, ◌%◌, ◌==◌, ◌<◌, ◌≤◌, ◌^◌, ◌⊎◌, Bool, true, false, List, [], ◌∷◌, ◌++◌, length, map, flat_map, slice_get, Option, Some, None, All, codes, decimal, refl}
 use Rattle.hex.specs.Hex.{IsBytes, encode_lower}
-use Rattle.report_model.specs.Plan.{PlanData, ChipPlan, BootPlan, SessionPlan}
+use Rattle.plan_model.specs.Plan.{PlanData, ChipPlan, BootPlan, SessionPlan}
 use Rattle.report_model.specs.Report.{line, device_name}
 use Rattle.nand_model.specs.declared.geometry.Geometry.{Geometry}
 use Rattle.nand_model.specs.declared.words.BadMode.TheVariants.{PadBad, DumpBad}

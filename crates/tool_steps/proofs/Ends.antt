@@ -10,8 +10,8 @@ use Rattle.nand_model.specs.declared.words.Command.{Command}
 use Rattle.nand_model.specs.declared.words.Command.TheVariants.{FlashErase, NandWrite, NandDump, NandTest, MarkBad, IsBad as AskBad, Stats as AskStats}
 use Rattle.nand_model.specs.declared.words.Reply.{Reply}
 use Rattle.nand_model.specs.declared.words.Reply.TheVariants.{BadBlock, MarkerByte, ProgramFailed}
-use Rattle.run_model.specs.Command.{Script, End, Ask, next_in, after_replies, cost_of, erase_blocks, write_unit, write_blocks, says_bad, is_dump_bad, stats_outcome}
-use Rattle.run_model.specs.Laws.{IsOver, trouble_of, is_trouble, troubles, CommandsEnd}
+use Rattle.command_model.specs.Command.{Script, End, Ask, next_in, after_replies, cost_of, erase_blocks, write_unit, write_blocks, says_bad, is_dump_bad, stats_outcome}
+use Rattle.command_model.specs.Laws.{IsOver, trouble_of, is_trouble, troubles, CommandsEnd}
 use Rattle.tool_steps.specs.declared.dumping.Dumping.{Dumping}
 use Rattle.tool_steps.specs.Work.{write_mode, unwritten, later_blocks, program_unit, page_dumped, page_passed, page_read, read_left, look_left}
 use Rattle.tool_steps.specs.Stage.{CanRun, device_size}

@@ -1,9 +1,9 @@
 -- A command is added to the last session of a boot.
 use Rattle.std.proofs.Common.{◌≡◌, ℕ, zero, suc, ◌-◌, ◌<◌, List, [], ◌∷◌, ◌++◌, length, map, set, get_or, refl, ap, ◌∙◌, arith}
-use Rattle.nand_model.specs.Operation.{Partitions}
+use Rattle.nand_model.specs.Partitions.{Partitions}
 use Rattle.nand_model.specs.declared.words.Command.{Command}
 use Rattle.nand_model.specs.declared.words.Flip.{Flip}
-use Rattle.run_model.specs.Course.{change_at}
+use Rattle.command_model.specs.Boot.{change_at}
 use Rattle.tool_steps.specs.Boot.{boot_with, with_command, with_one_more}
 use Rattle.tool_steps.specs.declared.boot.Session.{Session}
 

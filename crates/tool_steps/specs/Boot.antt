@@ -1,9 +1,9 @@
 -- A controller's part of a boot, as it is put together.
 use Rattle.std.specs.Prelude.{ℕ, ◌-◌, List, [], ◌∷◌, ◌++◌, length, slice_get, Option, option_map, option_and_then, None}
-use Rattle.nand_model.specs.Operation.{Partitions}
+use Rattle.nand_model.specs.Partitions.{Partitions}
 use Rattle.nand_model.specs.declared.words.Command.{Command}
 use Rattle.nand_model.specs.declared.words.Flip.{Flip}
-use Rattle.run_model.specs.Course.{Boot, change_at}
+use Rattle.command_model.specs.Boot.{Boot, change_at}
 
 -- a boot of these partitions, flips and sessions, without a cut
 abbrev pub boot_with : Partitions → List Flip → List (ℕ × List Command) → Boot

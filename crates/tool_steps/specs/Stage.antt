@@ -3,7 +3,7 @@ use Rattle.std.specs.Prelude.{◌≡◌, ℕ, ◌*◌, ◌%◌, ◌<◌, ◌≤�
 use Rattle.nand_model.specs.declared.geometry.Geometry.{Geometry}
 use Rattle.nand_model.specs.declared.words.Command.{Command}
 use Rattle.nand_model.specs.declared.words.Command.TheVariants.{FlashErase, NandWrite, NandDump, NandTest, MarkBad, IsBad, Stats}
-use Rattle.run_model.specs.Command.{block_size}
+use Rattle.command_model.specs.Command.{block_size}
 
 -- the blocks that a device may have
 abbrev pub IsDeviceSize : ℕ → Type 0

@@ -4,8 +4,8 @@ use Rattle.nand_model.specs.declared.geometry.Geometry.{Geometry}
 use Rattle.nand_model.specs.declared.words.Reply.{Reply}
 use Rattle.nand_model.specs.declared.words.Command.{Command}
 use Rattle.nand_model.specs.declared.words.Command.TheVariants.{NandWrite}
-use Rattle.run_model.specs.Command.{Script, Next, Do, Over, next_in, after_replies, script_of, cost_of}
-use Rattle.run_model.specs.Laws.{IsOver}
+use Rattle.command_model.specs.Command.{Script, Next, Do, Over, next_in, after_replies, script_of, cost_of}
+use Rattle.command_model.specs.Laws.{IsOver}
 use Rattle.tool_steps.specs.declared.step.Step.{Step}
 use Rattle.tool_steps.specs.declared.step.Step.TheVariants.{Do as Perform, Done as Finished}
 

@@ -9,7 +9,7 @@ use Rattle.nand_model.specs.declared.words.Command.{Command}
 use Rattle.nand_model.specs.declared.words.Command.TheVariants.{NandWrite}
 use Rattle.nand_model.specs.declared.words.Outcome.{Outcome}
 use Rattle.nand_model.specs.declared.words.Outcome.TheVariants.{NandDump as Dumped, IsBad as AskedBad}
-use Rattle.run_model.specs.Command.{Script, End, Ask, WriteMode, WriteCounts, DumpMode, DumpCounts, says_bad, erase_blocks, write_unit, write_blocks, erase_and_mark, after_write, written_end, is_dump_bad, with_page_read, with_pages_passed, stats_outcome}
+use Rattle.command_model.specs.Command.{Script, End, Ask, WriteMode, WriteCounts, DumpMode, DumpCounts, says_bad, erase_blocks, write_unit, write_blocks, erase_and_mark, after_write, written_end, is_dump_bad, with_page_read, with_pages_passed, stats_outcome}
 use Rattle.tool_steps.specs.declared.dumping.Dumping.{Dumping}
 use Rattle.tool_steps.specs.declared.tool.Tool.{Tool}
 use Rattle.tool_steps.specs.declared.work.Work.{Work}

@@ -32,7 +32,7 @@ pub struct ControllerBoot {
 
 impl Model for ControllerBoot {
     ghost use Rattle.std.specs.Prelude.{map};
-    ghost use Rattle.run_model.specs.Course.{Boot};
+    ghost use Rattle.command_model.specs.Boot.{Boot};
     ghost use Rattle.tool_steps.specs.declared.boot.Session.{Session};
     ghost use Rattle.tool_steps.specs.Boot.{boot_with};
 

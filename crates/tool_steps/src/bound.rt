@@ -1,8 +1,8 @@
 // How many operations a command takes at most.
 ghost use Rattle.std.specs.Prelude.{◌≡◌, [], ◌+◌, ◌*◌, ◌^◌, ◌<◌, ◌≤◌, not};
 ghost use Rattle.nand_model.specs.declared.geometry.Geometry.{Geometry as Sizes};
-ghost use Rattle.run_model.specs.Command.{cost_of, next_step};
-ghost use Rattle.run_model.specs.Laws.{CommandsEnd};
+ghost use Rattle.command_model.specs.Command.{cost_of, next_step};
+ghost use Rattle.command_model.specs.Laws.{CommandsEnd};
 ghost use Rattle.tool_steps.specs.Stage.{CanRun, device_size};
 ghost use Rattle.tool_steps.specs.Steps.{asks_something, is_over, EndsAtLast};
 

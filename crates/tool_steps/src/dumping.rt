@@ -19,7 +19,7 @@ pub struct Dumping {
 impl Dumping {
     ghost use Rattle.nand_model.specs.declared.geometry.Geometry.{Geometry as Sizes};
     ghost use Rattle.nand_model.specs.declared.words.Op.TheVariants.{IsBad};
-    ghost use Rattle.run_model.specs.Command.{after_replies};
+    ghost use Rattle.command_model.specs.Command.{after_replies};
     ghost use Rattle.tool_steps.specs.declared.work.Work.TheVariants.{Looking};
     ghost use Rattle.tool_steps.specs.Work.{work_left, script_left, dump_left, page_read, page_dumped, page_passed};
 

@@ -19,7 +19,7 @@ pub struct Erasing {
 }
 
 impl Erasing {
-    ghost use Rattle.run_model.specs.Command.{after_replies};
+    ghost use Rattle.command_model.specs.Command.{after_replies};
     ghost use Rattle.nand_model.specs.declared.geometry.Geometry.{Geometry};
     ghost use Rattle.tool_steps.specs.declared.work.Work.TheVariants.{Erasing as IsErasing};
     ghost use Rattle.tool_steps.specs.Work.{work_left, script_left};

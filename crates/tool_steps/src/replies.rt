@@ -1,6 +1,6 @@
 // What replies mean to a command.
 ghost use Rattle.std.specs.Prelude.{◌≡◌};
-ghost use Rattle.run_model.specs.Command.{is_done, says_bad, stats_outcome};
+ghost use Rattle.command_model.specs.Command.{is_done, says_bad, stats_outcome};
 
 use nand_model::{Outcome, Reply};
 

@@ -38,7 +38,7 @@ pub enum State {
 }
 
 impl Work {
-    ghost use Rattle.run_model.specs.Command.{Do, after_replies, next_in};
+    ghost use Rattle.command_model.specs.Command.{Do, after_replies, next_in};
     ghost use Rattle.nand_model.specs.declared.geometry.Geometry.{Geometry as Sizes};
     ghost use Rattle.tool_steps.specs.Steps.{is_over};
     ghost use Rattle.tool_steps.specs.Work.{work_left, script_left};
@@ -105,10 +105,7 @@ impl Work {
 }
 
 impl State {
-    ghost use Rattle.run_model.specs.Command.{next_in};
     ghost use Rattle.nand_model.specs.declared.geometry.Geometry.{Geometry as Sizes};
-    ghost use Rattle.tool_steps.specs.Steps.{is_over};
-    ghost use Rattle.tool_steps.specs.Work.{script_left};
 
     /// Whether the command is over.
     pub fn is_over(&self) -> bool

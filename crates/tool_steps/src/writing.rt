@@ -22,7 +22,7 @@ pub struct Writing {
 }
 
 impl Writing {
-    ghost use Rattle.run_model.specs.Command.{after_replies, write_unit};
+    ghost use Rattle.command_model.specs.Command.{after_replies, write_unit};
     ghost use Rattle.nand_model.specs.declared.geometry.Geometry.{Geometry as Sizes};
     ghost use Rattle.tool_steps.specs.declared.work.Work.TheVariants.{Scanning, Programming, Clearing};
     ghost use Rattle.tool_steps.specs.Work.{work_left, script_left, later_blocks, write_mode};

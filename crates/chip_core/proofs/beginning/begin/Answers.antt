@@ -1,6 +1,6 @@
 use Rattle.std.proofs.Common.{◌≡◌, None, ap, subst, sym, ◌∙◌}
 use Rattle.std.specs.Prelude.{IfOk}
-use Rattle.nand_model.specs.Operation.{device_of, part_of}
+use Rattle.nand_model.specs.Partitions.{device_of, part_of}
 use Rattle.std.proofs.lemmas.Result.{IfOk-weaker}
 use Rattle.nand_model.specs.declared.words.Op.{Op}
 use Rattle.nand_model.specs.declared.words.Op.TheVariants.{RawWrite, Write}

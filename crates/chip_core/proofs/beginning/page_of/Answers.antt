@@ -1,4 +1,4 @@
-use Rattle.nand_model.specs.Operation.{part_of}
+use Rattle.nand_model.specs.Partitions.{part_of}
 use Rattle.chip_core.proofs.Places.{pages-le}
 use Rattle.chip_core.proofs.Ranges.{page_place, page_there}
 use Rattle.chip_core.proofs.beginning.page_of.Goals as goal

@@ -1,8 +1,8 @@
 use Rattle.std.proofs.Common.{◌≡◌, ◌∙◌, ap, sym, true, false}
 use Rattle.std.specs.Prelude.{is_some, option_map}
-use Rattle.nand_model.specs.ChipRun.{name_of}
+use Rattle.chip_paths.specs.ChipRun.{name_of}
 use Rattle.nand_model.specs.Quiet.{is_quiet}
-use Rattle.chip_model.specs.Stage.{stage_event}
+use Rattle.chip_paths.specs.Stage.{stage_event}
 use Rattle.chip_core.specs.Chip.{chip_news, chip_stage, chip_state}
 use Rattle.chip_core.proofs.Performing.{Ends, ends_at_once, ends_after_one, is_finished, has_cause, has_performed, is_at_rest, news_kept}
 use Rattle.chip_core.proofs.whole.perform.Given.{Over}

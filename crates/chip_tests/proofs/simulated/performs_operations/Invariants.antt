@@ -1,5 +1,5 @@
 use Rattle.std.proofs.Common.{◌≡◌, true}
-use Rattle.chip_model.specs.Stage.{is_resting}
+use Rattle.chip_paths.specs.Stage.{is_resting}
 use Rattle.chip_core.specs.Chip.{chip_stage}
 use Rattle.chip_tests.proofs.simulated.performs_operations.Given as goal
 

@@ -1,7 +1,7 @@
 use Rattle.std.proofs.Common.{List, ap, sym, ◌∙◌, take}
 use Rattle.std.specs.Prelude.{map}
 use Rattle.nand_model.specs.declared.words.Command.{Command}
-use Rattle.run_model.specs.Course.{Boot}
+use Rattle.command_model.specs.Boot.{Boot}
 use Rattle.several_chip_plan.specs.SeveralChips.{command_of}
 use Rattle.tool_steps.specs.Boot.{with_command}
 use Rattle.chips_boot.specs.Sessions.{with_whole_session}

@@ -1,9 +1,9 @@
 use Rattle.std.proofs.Common.{◌≡◌, ℕ, ◌<◌, ◌≤◌, List, length, take, ap, sym, subst, ◌∙◌, arith}
 use Rattle.std.specs.Prelude.{All, map}
-use Rattle.nand_model.specs.Operation.{Partitions}
+use Rattle.nand_model.specs.Partitions.{Partitions}
 use Rattle.nand_model.specs.declared.words.Command.{Command}
 use Rattle.nand_model.specs.declared.words.Flip.{Flip}
-use Rattle.run_model.specs.Course.{Boot}
+use Rattle.command_model.specs.Boot.{Boot}
 use Rattle.report_model.proofs.Checked.{this_passes}
 use Rattle.std.proofs.Math.Seq.{take-length}
 use Rattle.several_chip_plan.specs.SeveralChips.{IsCommand, command_of}

@@ -1,7 +1,7 @@
 use Rattle.std.proofs.Common.{ℕ, ◌≤◌, List, length, take, ap, sym, subst, ◌∙◌, arith}
 use Rattle.std.specs.Prelude.{Any}
 use Rattle.std.proofs.lemmas.List.{length-take-le}
-use Rattle.nand_model.specs.Operation.{Partitions}
+use Rattle.nand_model.specs.Partitions.{Partitions}
 use Rattle.nand_model.specs.declared.words.Part.{Part}
 use Rattle.mtd_part.specs.Blocks.{SharesBlock, with_part}
 use Rattle.chips_boot.proofs.Devices.{apart, length-parts_by, parts_by-more}

@@ -1,7 +1,7 @@
 use Rattle.std.proofs.Common.{◌≡◌, ◌+◌, ◌∷◌, ◌++◌, [], ℕ, map, sym, ap, ◌∙◌}
 use Rattle.nand_model.specs.Sizes.{numbers_from}
 use Rattle.nand_model.specs.declared.words.Stats.{Stats}
-use Rattle.run_model.specs.Course.{chip_of}
+use Rattle.nand_model.specs.Partitions.{chip_of}
 use Rattle.ctl_core.specs.Bench.{kept_slot}
 use Rattle.ctl_core.specs.Ended.{kept_statistics_at}
 use Rattle.ctl_core.proofs.LastStates.{one_number_more, mapped_push}

@@ -1,5 +1,5 @@
 use Rattle.std.proofs.Common.{◌-◌}
-use Rattle.cost_laws.specs.Laws.{blocks_of}
+use Rattle.turn_laws.specs.Laws.{blocks_of}
 use Rattle.ctl_core.specs.Past.{starts_of}
 use Rattle.ctl_tests.proofs.driving.attach_all.Given as goal
 

@@ -1,5 +1,5 @@
 use Rattle.std.proofs.Common.{map, sym, subst}
-use Rattle.run_model.specs.Course.{Boot}
+use Rattle.command_model.specs.Boot.{Boot}
 use Rattle.chip_sim.specs.State.{sim_state}
 use Rattle.ctl_core.specs.Start.{CanStart}
 use Rattle.ctl_tests.proofs.Conditions.{small_starts}

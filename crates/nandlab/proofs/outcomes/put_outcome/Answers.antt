@@ -1,7 +1,7 @@
 use Rattle.std.proofs.Common.{◌≡◌, ◌++◌, ℕ, List, ap, subst, ◌∙◌}
 use Rattle.std.specs.Prelude.{OnOk, codes, decimal}
 use Rattle.report_model.specs.Report.{device_name}
-use Rattle.run_model.specs.Command.{command_device}
+use Rattle.command_model.specs.Command.{command_device}
 use Rattle.nandlab.proofs.Joined.{halves_joined}
 use Rattle.nandlab.proofs.outcomes.put_outcome.Goals as goal
 

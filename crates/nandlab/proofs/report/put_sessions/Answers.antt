@@ -2,7 +2,7 @@ use Rattle.std.proofs.Common.{◌++◌, ℕ, List, take, ap, sym, ◌∙◌, ari
 use Rattle.std.specs.Prelude.{map, option_map}
 use Rattle.std.proofs.lemmas.List.{length-map}
 use Rattle.std.proofs.lemmas.Option.{slice_get-map}
-use Rattle.report_model.specs.Plan.{SessionPlan}
+use Rattle.plan_model.specs.Plan.{SessionPlan}
 use Rattle.several_chip_plan.specs.SeveralChips.{boot_of, command_of, session_of}
 use Rattle.nandlab.specs.Ends.{ended_text, ended_texts}
 use Rattle.nandlab.proofs.BootText.{one_session_more}

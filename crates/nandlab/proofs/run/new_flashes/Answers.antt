@@ -1,7 +1,7 @@
 use Rattle.std.proofs.Common.{◌≡◌, ◌≤◌, [], length, map, ap, ◌∙◌, arith}
 use Rattle.std.proofs.lemmas.List.{take_all}
 use Rattle.nand_model.specs.Chip.{new_chip}
-use Rattle.report_model.specs.Plan.{new_chips}
+use Rattle.plan_model.specs.Plan.{new_chips}
 use Rattle.chip_sim.specs.State.{sim_state}
 use Rattle.several_chip_plan.specs.SeveralChips.{chip_of, geometry_of}
 use Rattle.nandlab.proofs.PlanRuns.{one_flash_more}

@@ -1,5 +1,5 @@
 use Rattle.std.proofs.Common.{◌≡◌, map, take}
-use Rattle.report_model.specs.Plan.{new_chips}
+use Rattle.plan_model.specs.Plan.{new_chips}
 use Rattle.chip_sim.specs.State.{sim_state}
 use Rattle.several_chip_plan.specs.SeveralChips.{chip_of}
 use Rattle.nandlab.proofs.run.new_flashes.Given as goal

@@ -1,6 +1,6 @@
 use Rattle.std.proofs.Common.{suc, ◌-◌, ◌/◌, ◌^◌, ◌<◌, [], ◌∷◌, sym, ap, ◌∙◌, arith}
 use Rattle.nand_model.specs.declared.words.Command.{Command}
-use Rattle.run_model.specs.Command.{write_blocks}
+use Rattle.command_model.specs.Command.{write_blocks}
 use Rattle.tool_steps.specs.Work.{write_mode, unwritten, unit_bytes}
 use Rattle.tool_steps.proofs.Scripts.{first_script, script_of-first, page_of_dump-lt}
 use Rattle.tool_steps.proofs.tool.first_state.Goals as goal

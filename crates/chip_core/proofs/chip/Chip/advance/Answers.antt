@@ -5,7 +5,7 @@ use Rattle.nand_model.specs.Path.{answer_to, is_failure}
 use Rattle.nand_model.specs.Quiet.{is_quiet}
 use Rattle.nand_model.specs.declared.words.Fairness.{Fairness}
 use Rattle.nand_model.specs.declared.words.Fairness.TheVariants.{Plain}
-use Rattle.chip_model.specs.Stage.{failure_told}
+use Rattle.chip_paths.specs.Stage.{failure_told}
 use Rattle.chip_core.specs.Phase.{PhaseFits, WorkFits, programs_left}
 use Rattle.chip_core.specs.Task.{task_event}
 use Rattle.chip_core.specs.declared.phase.Phase.{Phase}

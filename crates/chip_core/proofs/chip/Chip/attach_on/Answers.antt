@@ -1,7 +1,7 @@
 use Rattle.std.proofs.Common.{◌≤◌, ◌<◌, ◌+◌, ap, length, sym, ◌∙◌}
 use Rattle.std.specs.Prelude.{◌&&◌}
 use Rattle.chip_core.specs.Markers.{marker_page}
-use Rattle.chip_model.specs.Stage.{Rests}
+use Rattle.chip_paths.specs.Stage.{Rests}
 use Rattle.chip_core.proofs.Answering.{known_fresh}
 use Rattle.chip_core.proofs.Scanning.{goes_on, no_news, comes_to_rest, news}
 use Rattle.chip_core.proofs.chip.Chip.attach_on.Goals as goal

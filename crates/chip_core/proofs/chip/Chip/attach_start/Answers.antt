@@ -1,7 +1,7 @@
 use Rattle.std.proofs.Common.{ap, sym, true}
 use Rattle.nand_model.specs.Path.{Path}
-use Rattle.nand_model.specs.Attach.{Attaching}
-use Rattle.chip_model.specs.Stage.{Attaches}
+use Rattle.chip_paths.specs.Attach.{Attaching}
+use Rattle.chip_paths.specs.Stage.{Attaches}
 use Rattle.chip_core.proofs.Scanning.{attach_path-markers}
 use Rattle.chip_core.proofs.chip.Chip.attach_start.Goals as goal
 

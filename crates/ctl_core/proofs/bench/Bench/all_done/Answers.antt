@@ -3,7 +3,7 @@ use Rattle.std.specs.Prelude.{slice_get, option_map}
 use Rattle.std.proofs.lemmas.Bool.{cases_lt}
 use Rattle.std.proofs.lemmas.Option.{slice_get_within, get_or_from_slice_get}
 use Rattle.nand_model.specs.declared.words.Command.{Command}
-use Rattle.run_model.specs.Course.{is_finished}
+use Rattle.command_model.specs.Session.{is_finished}
 use Rattle.tool_steps.specs.Boot.{commands_at}
 use Rattle.session_steps.specs.Standing.{standing, commands_by}
 use Rattle.ctl_core.proofs.bench.Bench.all_done.Goals as goal

@@ -1,7 +1,7 @@
 use Rattle.std.proofs.Common.{◌≡◌, ◌<◌, ℕ, List, true, Some}
 use Rattle.std.specs.Prelude.{slice_get}
 use Rattle.nand_model.specs.declared.words.Command.{Command}
-use Rattle.run_model.specs.Course.{is_finished}
+use Rattle.command_model.specs.Session.{is_finished}
 use Rattle.session_steps.specs.declared.session.Session.{Session}
 use Rattle.session_steps.specs.Standing.{standing, commands_by}
 use Rattle.ctl_core.proofs.bench.Bench.all_done.Given as goal

@@ -1,9 +1,9 @@
 use Rattle.std.proofs.Common.{◌≡◌, ◌∷◌, ◌++◌, [], ap, ◌∙◌, subst, Some}
 use Rattle.std.specs.Prelude.{slice_get, option_and_then, IsSome}
-use Rattle.nand_model.specs.Operation.{Finished}
+use Rattle.chip_paths.specs.Operation.{Finished}
 use Rattle.nand_model.specs.declared.words.Note.TheVariants.{Answered}
 use Rattle.run_laws.proofs.Places.{position_is}
-use Rattle.chip_model.specs.Stage.{finished_in}
+use Rattle.chip_paths.specs.Stage.{finished_in}
 use Rattle.ctl_core.specs.Bench.{kept_slot, kept_chips}
 use Rattle.ctl_core.specs.KeptChip.{KeptChip, is_held_by, after_answer}
 use Rattle.ctl_core.proofs.Slots.{at_some, kept_at}

@@ -5,7 +5,7 @@ use Rattle.std.proofs.Math.ListN.{set}
 use Rattle.nand_model.specs.declared.geometry.Geometry.{Geometry}
 use Rattle.nand_model.specs.declared.words.Command.{Command}
 use Rattle.nand_model.specs.declared.words.Note.TheVariants.{Began}
-use Rattle.nand_model.specs.Operation.{Partitions}
+use Rattle.nand_model.specs.Partitions.{Partitions}
 use Rattle.tool_steps.specs.Stage.{CanRun}
 use Rattle.session_steps.specs.Standing.{First, commands_by, standing}
 use Rattle.chip_core.specs.Begin.{CanBegin}

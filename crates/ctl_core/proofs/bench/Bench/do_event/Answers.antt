@@ -1,7 +1,7 @@
 use Rattle.std.proofs.Common.{◌≡◌, ◌+◌, ◌++◌, arith, refl, ap, sym, ◌∙◌, subst}
 use Rattle.std.specs.Prelude.{slice_get, IsSome}
-use Rattle.run_model.specs.Course.{change_at}
-use Rattle.chip_model.specs.Stage.{stage_event, failure_told}
+use Rattle.command_model.specs.Boot.{change_at}
+use Rattle.chip_paths.specs.Stage.{stage_event, failure_told}
 use Rattle.ctl_core.specs.Bench.{kept_slot}
 use Rattle.ctl_core.specs.KeptChip.{KeptChip, after_event, with_news_told, failure_notes, news_notes}
 use Rattle.ctl_core.proofs.FlipSteps.{event_there}

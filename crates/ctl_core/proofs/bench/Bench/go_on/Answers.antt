@@ -2,10 +2,10 @@ use Rattle.std.proofs.Common.{◌≡◌, true, false, Option, Some, None, refl, 
 use Rattle.std.specs.Prelude.{option_and_then, option_map, is_some, slice_get, All, IsSome}
 use Rattle.std.proofs.lemmas.Option.{slice_get_within}
 use Rattle.nand_model.specs.Chip.{PageEvent}
-use Rattle.nand_model.specs.ChipRun.{name_of}
+use Rattle.chip_paths.specs.ChipRun.{name_of}
 use Rattle.nand_model.specs.declared.words.Event.{Event}
 use Rattle.chip_core.specs.Chip.{chip_stage}
-use Rattle.chip_model.specs.Stage.{stage_event, finished_in}
+use Rattle.chip_paths.specs.Stage.{stage_event, finished_in}
 use Rattle.session_steps.specs.Standing.{number_of}
 use Rattle.ctl_core.specs.Bench.{kept_chips, past_of}
 use Rattle.ctl_core.specs.Flips.{CanFlip}

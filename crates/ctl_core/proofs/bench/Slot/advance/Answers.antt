@@ -1,4 +1,4 @@
-use Rattle.chip_model.specs.Stage.{failure_told, stage_event, news_after}
+use Rattle.chip_paths.specs.Stage.{failure_told, stage_event, news_after}
 use Rattle.nand_model.specs.Path.{answer_to}
 use Rattle.nand_model.specs.Quiet.{is_quiet}
 use Rattle.chip_core.specs.Chip.{chip_state, chip_stage, chip_news}

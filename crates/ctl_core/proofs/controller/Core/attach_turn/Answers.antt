@@ -2,7 +2,7 @@ use Rattle.std.proofs.Common.{◌≡◌, arith, refl, ap, sym, ◌∙◌, subst}
 use Rattle.std.specs.Prelude.{IsSome, option_and_then, All}
 use Rattle.run_model.specs.Course.{attach_step, unattached}
 use Rattle.run_laws.proofs.AttachTurns.{attach_is_step}
-use Rattle.chip_model.specs.Stage.{stage_event}
+use Rattle.chip_paths.specs.Stage.{stage_event}
 use Rattle.ctl_core.specs.Answer.{attach_answer}
 use Rattle.ctl_core.specs.KeptChip.{KeptChip}
 use Rattle.ctl_core.specs.Past.{Past, starts_of, sizes_in, course_of, with_attach}

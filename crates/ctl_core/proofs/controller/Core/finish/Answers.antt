@@ -1,6 +1,6 @@
 use Rattle.std.proofs.Common.{◌≡◌, ◌<◌, ◌≤◌, true, length, map, List, sym, ap, ◌∙◌, subst}
 use Rattle.std.specs.Prelude.{All, sum_by}
-use Rattle.nand_model.specs.Operation.{Partitions}
+use Rattle.nand_model.specs.Partitions.{Partitions}
 use Rattle.nand_model.specs.declared.words.Part.{Part}
 use Rattle.run_model.specs.Course.{end_states, is_over}
 use Rattle.ctl_core.specs.declared.bench.Slot.{Slot}

@@ -1,5 +1,5 @@
 use Rattle.std.proofs.Common.{◌≡◌, ◌+◌, ◌-◌, ◌^◌, ◌<◌, length, false, true, refl, sym, subst}
-use Rattle.nand_model.specs.Operation.{Partitions}
+use Rattle.nand_model.specs.Partitions.{Partitions}
 use Rattle.mtd_part.proofs.Apart.{ArePartitions-append}
 use Rattle.mtd_part.proofs.parts.Parts.add.Goals as goal
 

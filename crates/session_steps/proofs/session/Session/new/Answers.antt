@@ -1,6 +1,6 @@
 use Rattle.std.proofs.Common.{List, [], None, sym, subst}
 use Rattle.nand_model.specs.declared.words.Outcome.{Outcome}
-use Rattle.run_model.specs.Course.{without_finished}
+use Rattle.command_model.specs.Session.{without_finished}
 use Rattle.session_steps.specs.Mirrors.{Shows}
 use Rattle.session_steps.proofs.Steps.{shows_new}
 use Rattle.session_steps.proofs.session.Session.new.Goals as goal

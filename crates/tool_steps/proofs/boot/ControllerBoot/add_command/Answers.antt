@@ -1,6 +1,6 @@
 use Rattle.std.proofs.Common.{◌<◌, length, sym, subst, ◌∙◌}
 use Rattle.std.proofs.lemmas.Result.{on_ok_weaker}
-use Rattle.run_model.specs.Course.{Boot}
+use Rattle.command_model.specs.Boot.{Boot}
 use Rattle.tool_steps.proofs.Sessions.{last_changed}
 use Rattle.tool_steps.proofs.boot.ControllerBoot.add_command.Goals as goal
 

@@ -1,5 +1,5 @@
 use Rattle.std.proofs.Common.{[], ◌∷◌, ap, sym, ◌∙◌}
-use Rattle.run_model.specs.Command.{Script, next_in, after_replies}
+use Rattle.command_model.specs.Command.{Script, next_in, after_replies}
 use Rattle.tool_steps.specs.declared.work.Work.{Work as Standing}
 use Rattle.tool_steps.specs.Steps.{is_over}
 use Rattle.tool_steps.specs.Work.{work_left}

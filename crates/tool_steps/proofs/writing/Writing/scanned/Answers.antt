@@ -1,5 +1,5 @@
 use Rattle.std.proofs.Common.{◌≡◌, false, sym, ◌∙◌}
-use Rattle.run_model.specs.Command.{says_bad}
+use Rattle.command_model.specs.Command.{says_bad}
 use Rattle.tool_steps.specs.Work.{write_mode}
 use Rattle.tool_steps.proofs.Scripts.{write_pages-one}
 use Rattle.tool_steps.proofs.writing.Writing.scanned.Goals as goal

@@ -1,0 +1,4 @@
+pub mod Attach
+pub mod Operation
+pub mod ChipRun
+pub mod Stage

@@ -1,0 +1,6 @@
+pub mod Taken
+pub mod Command
+pub mod Boot
+pub mod Session
+pub mod Laws
+pub mod Reads

@@ -1,5 +1,0 @@
-use Rattle.count_laws.proofs.Follows.{statistics_follow}
-use Rattle.count_laws.proofs.laws.statistics_follow_reads.Goals as goal
-
-pub returns : goal.returns
-returns g c model boot starts attaches turns numbers dev once = statistics_follow model boot starts attaches turns numbers once dev

@@ -1,0 +1,32 @@
+-- The partitions of a controller, each of which is a device, and the devices that operations name.
+use Rattle.std.specs.Prelude.{ℕ, List, ◌-◌, nat_lt, if◌then◌else◌, slice_get, Option, None, Some}
+use Rattle.nand_model.specs.declared.words.Part.{Part}
+use Rattle.nand_model.specs.declared.words.Op.{Op}
+use Rattle.nand_model.specs.declared.words.Op.TheVariants.{Read, Write, RawRead, RawWrite, Erase, IsBad, Mark, Stats}
+
+-- the partitions of one controller by device number, from a first number on
+pub record Partitions : Type 0 where
+  pub first : ℕ
+  pub parts : List Part
+
+abbrev pub part_of : Partitions → ℕ → Option Part
+part_of partitions dev = if nat_lt dev partitions.first then None else slice_get partitions.parts (dev - partitions.first)
+
+-- the device that an operation names
+abbrev pub device_of : Op → ℕ
+device_of (Read dev page) = dev
+device_of (Write dev page body free) = dev
+device_of (RawRead dev page) = dev
+device_of (RawWrite dev page image) = dev
+device_of (Erase dev block) = dev
+device_of (IsBad dev block) = dev
+device_of (Mark dev block) = dev
+device_of (Stats dev) = dev
+
+-- the chip of a device
+abbrev pub chip_of_part : Option Part → Option ℕ
+chip_of_part None = None
+chip_of_part (Some part) = Some part.chip
+
+abbrev pub chip_of : Partitions → ℕ → Option ℕ
+chip_of partitions dev = chip_of_part (part_of partitions dev)

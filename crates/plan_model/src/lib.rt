@@ -1,0 +1,2 @@
+//! Definitions of plans as data: chips, partitions, boots and sessions.
+#![tactic(auto)]

@@ -1,0 +1,64 @@
+-- How large the ECC statistics of a boot become.
+use Rattle.std.specs.Prelude.{◌≡◌, ℕ, ◌*◌, ◌≤◌, ◌==◌, if◌then◌else◌, List, [], ◌∷◌, length, slice_get, count_by, sum_by, Contains, Option, Some, None}
+use Rattle.nand_model.specs.Chip.{ChipState, FaultModel}
+use Rattle.chip_paths.specs.ChipRun.{ChipRun}
+use Rattle.chip_paths.specs.Operation.{Known}
+use Rattle.nand_model.specs.declared.words.Command.{Command}
+use Rattle.nand_model.specs.declared.words.Op.{Op}
+use Rattle.nand_model.specs.declared.words.Op.TheVariants.{Read}
+use Rattle.nand_model.specs.declared.words.PageRead.{PageRead}
+use Rattle.nand_model.specs.declared.words.Reply.{Reply}
+use Rattle.nand_model.specs.declared.words.Reply.TheVariants.{Page}
+use Rattle.nand_model.specs.declared.words.Stats.{Stats}
+use Rattle.command_model.specs.Reads.{corrected_of, failed_of, reads_of}
+use Rattle.command_model.specs.Boot.{Boot}
+use Rattle.run_model.specs.Course.{Course, course_after}
+use Rattle.nand_model.specs.Partitions.{chip_of}
+
+-- the counts of a page that was read, in a reply
+abbrev pub page_read : Reply → List PageRead
+page_read (Page kind read image) = read ∷ []
+page_read _ = []
+
+-- the counts that a reply to an operation adds to those of a device: only reads that decode count
+abbrev pub reads_in : ℕ → Op → Reply → List PageRead
+reads_in dev (Read d page) reply = if d == dev then page_read reply else []
+reads_in dev _ reply = []
+
+-- each device of a chip of which this is known has counted at most so many corrected bits, and at most so many failed steps
+abbrev pub HasCounted : ℕ → Known → Type 0
+HasCounted most known = (dev : ℕ) → ((known.statistics dev).corrected ≤ most) × ((known.statistics dev).failed ≤ most)
+
+-- after these turns, each device has counted at most 128 for each of them
+abbrev pub CountsAreSmall : {W : Type 0} → FaultModel W → Boot → List (ChipState W) → ℕ → List ℕ → Type 0
+CountsAreSmall {W} model boot starts attaches turns =
+    (k : ℕ) (c : ChipRun W) (known : Known) → slice_get (course_after model boot starts attaches turns).chips k ≡ Some c → c.known ≡ Some known
+    → HasCounted (128 * length turns) known
+
+-- no bit corrected, no step failed
+abbrev pub no_statistics : Stats
+no_statistics = record { corrected = 0; failed = 0 }
+
+-- the statistics of a device, by what is known of its chip
+abbrev pub statistics_known : Option Known → ℕ → Stats
+statistics_known None dev = no_statistics
+statistics_known (Some known) dev = known.statistics dev
+
+abbrev pub statistics_on : {W : Type 0} → Option (ChipRun W) → ℕ → Stats
+statistics_on None dev = no_statistics
+statistics_on (Some c) dev = statistics_known c.known dev
+
+abbrev pub statistics_at : {W : Type 0} → Course W → Option ℕ → ℕ → Stats
+statistics_at course None dev = no_statistics
+statistics_at course (Some k) dev = statistics_on (slice_get course.chips k) dev
+
+-- each session of a boot stands once among these numbers
+abbrev pub StandOnce : Boot → List ℕ → Type 0
+StandOnce boot numbers = (session : ℕ) (commands : List Command) → Contains boot.sessions (session, commands) → count_by (λ n. n == session) numbers ≡ 1
+
+-- the statistics of a device are the sums of what its answered reads counted, over these sessions
+pub record StatisticsFollow {W : Type 0} (model : FaultModel W) (boot : Boot) (starts : List (ChipState W)) (attaches : ℕ) (turns numbers : List ℕ) (dev : ℕ) : Type 0 where
+  pub corrected : (statistics_at (course_after model boot starts attaches turns) (chip_of boot.partitions dev) dev).corrected
+      ≡ sum_by corrected_of (reads_of dev numbers (course_after model boot starts attaches turns).notes)
+  pub failed : (statistics_at (course_after model boot starts attaches turns) (chip_of boot.partitions dev) dev).failed
+      ≡ sum_by failed_of (reads_of dev numbers (course_after model boot starts attaches turns).notes)

@@ -1,0 +1,184 @@
+-- How many events a path has at most.
+use Rattle.std.proofs.Common.{◌≡◌, ℕ, zero, suc, ◌+◌, ◌≤◌, ◌<◌, Bool, true, false, not, ◌||◌, ◌==◌, List, [], ◌∷◌, ◌++◌, length, Option, Some, None, refl, ap, sym, ◌∙◌, subst, arith, length-append, ◌⊎◌, inl, inr}
+use Rattle.std.proofs.lemmas.Bool.{cases_lt}
+use Rattle.std.proofs.lemmas.Option.{none-some}
+use Rattle.std.specs.Prelude.{⊤, nat_le, slice_index, ◌/◌}
+use Rattle.nand_model.specs.declared.geometry.Geometry.{Geometry}
+use Rattle.nand_model.specs.declared.words.Part.{Part}
+use Rattle.nand_model.specs.declared.words.Op.{Op}
+use Rattle.nand_model.specs.declared.words.Op.TheVariants.{Read, Write, RawRead, RawWrite, Erase, IsBad, Mark, Stats}
+use Rattle.nand_model.specs.declared.words.Reply.TheVariants.{Done, OutOfRange, BadBlock, MarkerByte, ProgramFailed, EraseFailed, MarkerFailed, TableFailed, Reserved, Copies, State}
+use Rattle.nand_model.specs.declared.words.Which.TheVariants.{Primary, Mirror}
+use Rattle.nand_model.specs.Chip.{ChipState, FaultModel, ChipEvent, Complete, PowerCut, Flipped, PageEvent, ReadEvent, ProgramEvent, EraseEvent, happens}
+use Rattle.nand_model.specs.Path.{Answer, Path, Over, Then, either, is_good, is_failure, cells_of, next_event, answer_to, GoesAlong, answers_of}
+use Rattle.nand_model.specs.Table.{has_tables, table_page}
+use Rattle.chip_paths.specs.Attach.{write_copy, read_first_pages, attach_path, attach_by}
+use Rattle.nand_model.specs.Sizes.{numbers_from, first_page}
+use Rattle.nand_model.specs.Page.{decoded, page_image}
+use Rattle.nand_model.specs.Partitions.{Partitions, part_of, device_of}
+use Rattle.chip_paths.specs.Operation.{Known, Finished, answer, only_if, done_or, has_page, has_block, chip_page, chip_block, entry_of, is_good_block, raw_reply, after_read, mark_reply, write_tables, with_mark, mark_path, mark_block, operation_in, operation_by, operation_path}
+
+-- whatever the answers, a path has no more events than this
+abbrev pub Within : {A : Type 0} → ℕ → Path A → Type 0
+Within n (Over result) = ⊤
+Within zero (Then event rest) = ⊥
+Within (suc n) (Then event rest) = (answer : Answer) → Within n (rest answer)
+
+more_within : {A : Type 0} (n : ℕ) (path : Path A) → Within n path → Within (suc n) path
+more_within n (Over result) h = tt
+more_within zero (Then event rest) h = absurd h
+more_within (suc n) (Then event rest) h = λ answer. more_within n (rest answer) (h answer)
+
+-- a copy is written with two events
+copy_within : {A : Type 0} (g : Geometry) (n block : ℕ) (image : Unit {0} → List ℕ) (go_on : Bool → Path A) → ((good : Bool) → Within n (go_on good))
+    → Within (suc (suc n)) (write_copy g block image go_on)
+copy_within g n block image go_on h = λ erased. by_erase (is_good erased)
+  where
+    by_erase : (good : Bool) → Within (suc n) (either good (λ u. Then (ProgramEvent (first_page g block) (image tt))
+        (λ programmed. go_on (is_good programmed))) (λ u. go_on false))
+    by_erase true = λ programmed. h (is_good programmed)
+    by_erase false = more_within n (go_on false) (h false)
+
+-- both copies are written with four
+tables_within : (g : Geometry) (k : Known) (marker : Answer) → Within 4 (write_tables g k marker)
+tables_within g k marker = copy_within g 2 k.places.primary (λ u. table_page g Primary k.version k.table) after_primary primary_within
+  where
+    after_mirror : Bool → Path Finished
+    after_mirror mirror = either mirror (λ u. answer k (mark_reply marker Done)) (λ u. answer (record k { copies = 1 })
+        (mark_reply marker (TableFailed Mirror)))
+
+    after_primary : Bool → Path Finished
+    after_primary primary = either primary (λ u. write_copy g k.places.mirror (λ u. table_page g Mirror k.version k.table) after_mirror)
+        (λ u. answer (record k { copies = 1 }) (mark_reply marker (TableFailed Primary)))
+
+    mirror_within : (mirror : Bool) → Within 0 (after_mirror mirror)
+    mirror_within true = tt
+    mirror_within false = tt
+
+    primary_within : (primary : Bool) → Within 2 (after_primary primary)
+    primary_within true = copy_within g 0 k.places.mirror (λ u. table_page g Mirror k.version k.table) after_mirror mirror_within
+    primary_within false = tt
+
+-- what follows the marker of a mark
+marked_within : (g : Geometry) (k : Known) (block : ℕ) (marker : Answer) (tables failed : Bool)
+    → Within 4 (either tables (λ u. write_tables g (with_mark g k block) marker) (λ u. either failed (λ v. answer k MarkerFailed)
+    (λ v. answer (with_mark g k block) Done)))
+marked_within g k block marker true failed = tables_within g (with_mark g k block) marker
+marked_within g k block marker false true = tt
+marked_within g k block marker false false = tt
+
+mark_within : (g : Geometry) (k : Known) (block : ℕ) → Within 6 (mark_path g k block)
+mark_within g k block = λ erased marker. marked_within g k block marker (has_tables g) (is_failure marker)
+
+block_within : (g : Geometry) (k : Known) (block : ℕ) (reserved copied bad : Bool)
+    → Within 6 (only_if reserved k Reserved (λ u. only_if copied k (Copies k.copies) (λ v. only_if bad k Done (λ w. mark_path g k block))))
+block_within g k block false copied bad = tt
+block_within g k block true false bad = tt
+block_within g k block true true false = tt
+block_within g k block true true true = mark_within g k block
+
+write_within : (page : ℕ) (image : List ℕ) (k : Known) (there good : Bool)
+    → Within 6 (only_if there k OutOfRange (λ u. only_if good k BadBlock (λ v. Then (ProgramEvent page image)
+    (λ outcome. answer k (done_or ProgramFailed outcome)))))
+write_within page image k false good = tt
+write_within page image k true false = tt
+write_within page image k true true = λ outcome. tt
+
+raw_write_within : (page : ℕ) (image : List ℕ) (k : Known) (there good marker : Bool)
+    → Within 6 (only_if there k OutOfRange (λ u. only_if good k BadBlock (λ v. only_if marker k MarkerByte
+    (λ w. Then (ProgramEvent page image) (λ outcome. answer k (done_or ProgramFailed outcome))))))
+raw_write_within page image k false good marker = tt
+raw_write_within page image k true false marker = tt
+raw_write_within page image k true true false = tt
+raw_write_within page image k true true true = λ outcome. tt
+
+erase_within : (block : ℕ) (k : Known) (there good : Bool)
+    → Within 6 (only_if there k OutOfRange (λ u. only_if good k BadBlock (λ v. Then (EraseEvent block) (λ outcome. answer k (done_or EraseFailed outcome)))))
+erase_within block k false good = tt
+erase_within block k true false = tt
+erase_within block k true true = λ outcome. tt
+
+read_within : (page : ℕ) (k : Known) (after : Answer → Finished) (there : Bool) → Within 6
+    (only_if there k OutOfRange (λ u. Then (ReadEvent page) (λ seen. Over (after seen))))
+read_within page k after false = tt
+read_within page k after true = λ seen. tt
+
+ask_within : (k : Known) (state : Unit {0} → Path Finished) → Within 6 (state tt) → (there : Bool) → Within 6 (only_if there k OutOfRange state)
+ask_within k state h false = tt
+ask_within k state h true = h
+
+in_within : (g : Geometry) (k : Known) (part : Part) (op : Op) → Within 6 (operation_in g k part op)
+in_within g k part (Read dev page) = read_within (chip_page g part page) k (λ seen. after_read g k dev (decoded g (cells_of seen))) (has_page g part page)
+in_within g k part (RawRead dev page) = read_within (chip_page g part page) k (λ seen. record { reply = raw_reply (cells_of seen); known = k })
+    (has_page g part page)
+in_within g k part (Write dev page body free) =
+    write_within (chip_page g part page) (page_image g body free) k (has_page g part page) (is_good_block k (chip_block part (page / g.pages_per_block)))
+in_within g k part (RawWrite dev page image) =
+    raw_write_within (chip_page g part page) image k (has_page g part page) (is_good_block k (chip_block part (page / g.pages_per_block)))
+    (slice_index image g.page == 0xff)
+in_within g k part (Erase dev block) = erase_within (chip_block part block) k (has_block part block) (is_good_block k (chip_block part block))
+in_within g k part (IsBad dev block) = ask_within k (λ u. answer k (State (entry_of k (chip_block part block)))) tt (has_block part block)
+in_within g k part (Mark dev block) =
+    ask_within k (λ u. mark_block g k (chip_block part block))
+    (block_within g k (chip_block part block) (not (entry_of k (chip_block part block) == 2)) (not (has_tables g) || nat_le 2 k.copies)
+    (is_good_block k (chip_block part block)))
+    (has_block part block)
+in_within g k part (Stats dev) = tt
+
+by_within : (g : Geometry) (k : Known) (part : Option Part) (op : Op) → Within 6 (operation_by g k part op)
+by_within g k None op = tt
+by_within g k (Some part) op = in_within g k part op
+
+-- an operation has at most six events: those of a mark with its two tables
+pub operation_within : (g : Geometry) (partitions : Partitions) (k : Known) (op : Op) → Within 6 (operation_path g partitions k op)
+operation_within g partitions k op = by_within g k (part_of partitions (device_of op)) op
+
+-- after so many answers there is no event left
+pub none_left : {A : Type 0} (n : ℕ) (path : Path A) → Within n path → (answers : List Answer) → n ≤ length answers → next_event path answers ≡ None
+none_left n (Over result) w [] h = refl
+none_left n (Over result) w (a ∷ answers) h = refl
+none_left zero (Then event rest) w answers h = absurd w
+none_left (suc n) (Then event rest) w [] h = absurd (omega arith)
+none_left (suc n) (Then event rest) w (a ∷ answers) h = none_left n (rest a) (w a) answers (omega arith)
+
+-- where a next event is left, there were fewer answers
+pub some_left : {A : Type 0} (n : ℕ) (path : Path A) → Within n path → (answers : List Answer) (e : PageEvent) → next_event path answers ≡ Some e
+    → length answers < n
+some_left n path w answers e h = by_order (cases_lt (length answers) n)
+  where
+    by_order : (length answers < n) ⊎ (n ≤ length answers) → length answers < n
+    by_order (inl less) = less
+    by_order (inr enough) = absurd (none-some e (sym (none_left n path w answers enough) ∙ h))
+
+module _ {W : Type 0} (model : FaultModel W) {A : Type 0} (n : ℕ) (path : Path A) (w : Within n path) where
+  -- so a trace along the path has no more answers
+  pub along_within : (s : ChipState W) (answers : List Answer) (trace : List ChipEvent) → GoesAlong model (next_event path) s answers trace → length answers ≤ n
+      → length answers + length (answers_of model s trace) ≤ n
+  along_within s answers [] g h = omega arith
+  along_within s answers (Flipped page bit ∷ trace) g h = along_within (happens model s (Flipped page bit)) answers trace g h
+  along_within s answers (Complete e ∷ trace) g h =
+      let one_more : length (answers ++ answer_to model s e ∷ []) ≡ length answers + 1 = length-append answers (answer_to model s e ∷ []) in
+      let fewer : length answers < n = some_left n path w answers e g.0 in
+      let later = along_within (happens model s (Complete e)) (answers ++ answer_to model s e ∷ []) trace g.1 (omega arith) in
+      omega (arith, later)
+  along_within s answers (PowerCut e done ∷ trace) g h = omega arith
+
+  -- a whole trace from the start of the path
+  pub answers_within : (s : ChipState W) (trace : List ChipEvent) (answers : List Answer) → GoesAlong model (next_event path) s [] trace
+      → answers ≡ answers_of model s trace → length answers ≤ n
+  answers_within s trace answers g e =
+      let few : 0 + length (answers_of model s trace) ≤ n = along_within s [] trace g (omega arith) in
+      let same : length answers ≡ length (answers_of model s trace) = ap length e in
+      omega (arith, few, same)
+
+-- the first pages of so many blocks are read with so many events
+reads_within : {A : Type 0} (g : Geometry) (n first : ℕ) (pages : List (List ℕ)) (result : List (List ℕ) → A)
+    → Within n (read_first_pages g (numbers_from first n) pages (λ seen. Over (result seen)))
+reads_within g zero first pages result = tt
+reads_within g (suc n) first pages result = λ answer. reads_within g n (first + 1) (pages ++ cells_of answer ∷ []) result
+
+-- without tables an attach reads a page of each block
+pub attach_within : (g : Geometry) → g.bbt ≡ 0 → Within g.blocks (attach_path g)
+attach_within g none =
+    let untabled : has_tables g ≡ false = ap (λ (n : ℕ). not (n == 0)) none in
+    subst (λ (b : Bool). Within g.blocks (attach_by b g)) (sym untabled) (reads_within g g.blocks 0 [] _)

@@ -1,0 +1,31 @@
+-- How long a boot is.
+use Rattle.std.specs.Prelude.{◌≡◌, ℕ, ◌+◌, ◌*◌, ◌≤◌, List, [], length, sum_by, All}
+use Rattle.nand_model.specs.Chip.{ChipState, FaultModel}
+use Rattle.command_model.specs.Boot.{Boot}
+use Rattle.run_model.specs.Course.{course_after}
+use Rattle.run_laws.specs.Turns.{busy_turns}
+use Rattle.turn_laws.specs.Cost.{boot_cost}
+
+module _ {W : Type 0} (model : FaultModel W) (boot : Boot) (starts : List (ChipState W)) (attaches : ℕ) (turns : List ℕ) where
+  -- the turns that do anything: an operation has at most eight, its begin, six events and its answer, and seven more are those of an operation on each chip
+  abbrev pub BusyTurnsAreFew : Type 0
+  BusyTurnsAreFew =
+      length (busy_turns model boot starts turns (course_after model boot starts attaches [])) ≤ 8 * boot_cost boot starts + 7 * length starts
+
+  -- each busy turn does at most one event
+  abbrev pub EventsAreTurns : Type 0
+  EventsAreTurns =
+      (course_after model boot starts attaches turns).events
+      ≤ (course_after model boot starts attaches []).events + length (busy_turns model boot starts turns (course_after model boot starts attaches []))
+
+-- the blocks of these chips
+abbrev pub blocks_of : {W : Type 0} → List (ChipState W) → ℕ
+blocks_of {W} starts = sum_by (λ (s : ChipState W). s.geometry.blocks) starts
+
+-- the chips have no tables on flash
+abbrev pub HaveNoTables : {W : Type 0} → List (ChipState W) → Type 0
+HaveNoTables {W} starts = All (λ (s : ChipState W). s.geometry.bbt ≡ 0) starts
+
+-- without tables an attach reads a page of each block
+abbrev pub AttachesReadBlocks : {W : Type 0} → FaultModel W → Boot → List (ChipState W) → ℕ → Type 0
+AttachesReadBlocks model boot starts attaches = (course_after model boot starts attaches []).events ≤ blocks_of starts
