@@ -1,6 +1,6 @@
 // What is known of a chip.
 ghost use Rattle.std.specs.Prelude.{◌≡◌, ◌+◌, ◌<◌, ◌≤◌, ◌==◌, [], not, length, count_by, slice_index, slice_range, slice_set, ℕ, IsSome, IfOk, OnOk, Some, replicate};
-ghost use Rattle.chip_paths.specs.ChipRun.{is_bad_state};
+ghost use Rattle.nand_model.specs.Table.{is_bad_state};
 ghost use Rattle.chip_paths.specs.Operation.{bad_count};
 ghost use Rattle.chip_core.specs.Begin.{read_device};
 ghost use Rattle.chip_core.specs.Sums.{place_of, stats_in};

@@ -1,18 +1,17 @@
 -- A chip in a boot: its attach, what is known of it then, and its pending operation.
-use Rattle.std.specs.Prelude.{ℕ, List, Bool, Option, true, [], None, false, ◌∷◌, Some, ◌++◌, ◌&&◌, ◌||◌, ◌==◌, count_by}
+use Rattle.std.specs.Prelude.{ℕ, List, Bool, Option, true, [], None, false, ◌∷◌, Some, ◌++◌, ◌&&◌, count_by}
 use Rattle.nand_model.specs.Path.{Answer, next_event, Path, Over, Then, after_answers, result_of, Good, answer_to, is_failure}
 use Rattle.nand_model.specs.Chip.{ChipState, PageEvent, ReadEvent, ProgramEvent, EraseEvent, FaultModel, DoneBits, Complete, PowerCut, happens, after_trace, flip_events}
-use Rattle.chip_paths.specs.Operation.{Known, operation_path, Finished, chip_block, marked}
+use Rattle.chip_paths.specs.Operation.{Known, operation_path, Finished}
 use Rattle.nand_model.specs.Quiet.{fairness_of, is_quiet}
 use Rattle.chip_paths.specs.Attach.{Attaching, attach_path}
-use Rattle.nand_model.specs.Partitions.{Partitions, part_of}
-use Rattle.nand_model.specs.Table.{has_tables}
+use Rattle.nand_model.specs.Partitions.{Partitions}
+use Rattle.nand_model.specs.Table.{is_bad_state}
 use Rattle.nand_model.specs.declared.words.Op.{Op}
 use Rattle.nand_model.specs.declared.words.Event.{Event}
 use Rattle.nand_model.specs.declared.words.Event.TheVariants.{Read as ReadOf, Program as ProgramOf, Erase as EraseOf}
 use Rattle.nand_model.specs.declared.words.Note.{Note}
 use Rattle.nand_model.specs.declared.words.Note.TheVariants.{Torn, Attached}
-use Rattle.nand_model.specs.declared.words.Part.{Part}
 use Rattle.nand_model.specs.declared.geometry.Geometry.{Geometry}
 use Rattle.nand_model.specs.declared.words.Op.TheVariants.{Mark}
 
@@ -115,14 +114,18 @@ attach_notes_by k now (Some known) = []
 abbrev pub attach_notes : {W : Type 0} → ℕ → ChipRun W → ChipRun W → List Note
 attach_notes k before now = attach_notes_by k now before.known
 
--- the entry of a mark changes once its marker is programmed: with tables always, while they are still to be written, and without them where that was good
-abbrev pub table_in_mark : Bool → Option Part → ℕ → List Answer → List ℕ → List ℕ
-table_in_mark true (Some part) block (erased ∷ marker ∷ answers) table = marked table (chip_block part block)
-table_in_mark false (Some part) block (erased ∷ Good ∷ answers) table = marked table (chip_block part block)
-table_in_mark tables part block answers table = table
+-- how a path ends where all its further events are good
+abbrev pub ends_well : {A : Type 0} → Path A → A
+ends_well (Over result) = result
+ends_well (Then event rest) = ends_well (rest Good)
+
+-- the table in memory changes within a mark once its marker is programmed: from then on it is the one that the mark ends with where no further event fails
+abbrev pub table_in_mark : List Answer → Path Finished → List ℕ → List ℕ
+table_in_mark (erased ∷ marker ∷ answers) path table = (ends_well (after_answers (erased ∷ marker ∷ answers) path)).known.table
+table_in_mark answers path table = table
 
 abbrev pub table_during : Geometry → Partitions → Known → Op → List Answer → List ℕ
-table_during g partitions k (Mark dev block) answers = table_in_mark (has_tables g) (part_of partitions dev) block answers k.table
+table_during g partitions k (Mark dev block) answers = table_in_mark answers (operation_path g partitions k (Mark dev block)) k.table
 table_during g partitions k op answers = k.table
 
 -- the table in memory, also while an operation is pending: a mark that has had no event yet leaves it as it is
@@ -135,9 +138,6 @@ table_now partitions c = go c.known c.pending
     go (Some k) (Some pending) = Some (table_during c.chip.geometry partitions k pending.op pending.answers)
 
 -- the number of entries 1 or 3 of a table, or 0 while the attach is not over
-abbrev pub is_bad_state : ℕ → Bool
-is_bad_state state = state == 1 || state == 3
-
 abbrev pub bad_blocks_in : Option (List ℕ) → ℕ
 bad_blocks_in None = 0
 bad_blocks_in (Some table) = count_by is_bad_state table

@@ -1,3 +1,5 @@
+pub mod Writing
+pub mod Copies
 pub mod Attach
 pub mod Operation
 pub mod ChipRun

@@ -1,10 +1,10 @@
 -- Operations on a chip: which are refused, which events the others have, what they answer, and what is known of the chip then. A bad block is one whose table entry is not 0.
-use Rattle.std.specs.Prelude.{ℕ, List, Bool, if◌then◌else◌, ◌*◌, nat_lt, ◌+◌, slice_index, ◌==◌, not, count_by, slice_range, slice_set, bit_or, ◌%◌, ◌||◌, nat_le, ◌/◌, Option, Some, None, ◌≡◌, true, []}
-use Rattle.chip_paths.specs.Attach.{Places, write_copy}
+use Rattle.std.specs.Prelude.{ℕ, List, Bool, if◌then◌else◌, ◌*◌, nat_lt, ◌+◌, slice_index, ◌==◌, not, count_by, slice_range, Option, Some, None, true, [], ◌∷◌, ◌||◌, nat_le, ◌/◌, ◌≡◌}
+use Rattle.chip_paths.specs.Writing.{Places, marked, next_version, Writing, whole_count, writing_of, writing_path}
 use Rattle.nand_model.specs.Path.{Path, Over, either, Answer, is_failure, Then, cells_of, after_answers, next_event, result_of, GoesAlong, answers_of, is_uncut}
 use Rattle.nand_model.specs.Sizes.{first_page}
 use Rattle.nand_model.specs.Page.{Decoding, kind_of, marker_image, decoded, page_image}
-use Rattle.nand_model.specs.Table.{has_tables, table_page}
+use Rattle.nand_model.specs.Table.{has_tables}
 use Rattle.nand_model.specs.Chip.{ProgramEvent, EraseEvent, ReadEvent, ChipState, FaultModel, ChipEvent}
 use Rattle.nand_model.specs.Partitions.{Partitions, part_of, device_of}
 use Rattle.nand_model.specs.declared.words.Stats.{Stats as Statistics}
@@ -13,6 +13,7 @@ use Rattle.nand_model.specs.declared.words.Reply.TheVariants.{Done, Page, Marker
 use Rattle.nand_model.specs.declared.geometry.Geometry.{Geometry}
 use Rattle.nand_model.specs.declared.words.Part.{Part}
 use Rattle.nand_model.specs.declared.words.PageKind.TheVariants.{Raw}
+use Rattle.nand_model.specs.declared.words.Which.{Which}
 use Rattle.nand_model.specs.declared.words.Which.TheVariants.{Primary, Mirror}
 use Rattle.nand_model.specs.declared.words.Op.{Op}
 use Rattle.nand_model.specs.declared.words.Op.TheVariants.{Read, Write, RawRead, RawWrite, Erase, IsBad, Mark, Stats}
@@ -81,14 +82,6 @@ after_read g k dev d = record { reply = read_reply g d; known = record k { stati
 abbrev pub bad_count : List ℕ → Part → ℕ
 bad_count table part = count_by (λ state. not (state == 0)) (slice_range table part.start (part.start + part.count))
 
--- the table with 1 ORed into an entry
-abbrev pub marked : List ℕ → ℕ → List ℕ
-marked table block = slice_set table block (bit_or (slice_index table block) 1)
-
--- the next version: 255 becomes 0
-abbrev pub next_version : ℕ → ℕ
-next_version v = (v + 1) % 256
-
 -- what is known once the block stands marked in the table, with tables on flash under the next version
 abbrev pub with_mark : Geometry → Known → ℕ → Known
 with_mark g k block =
@@ -103,14 +96,22 @@ after_marker_alone g k block marker =
 abbrev pub mark_reply : Answer → Reply → Reply
 mark_reply marker table = if is_failure marker then MarkerFailed else table
 
--- a mark with tables: the primary and then the mirror are written, and the first failure ends it and leaves one whole copy
+-- what is known once a writing is over
+abbrev pub after_writing : Known → Writing → Known
+after_writing k w = record k { table = w.table; version = w.version; places = w.places; copies = whole_count w.whole }
+
+abbrev pub writing_reply : Option Which → Reply
+writing_reply None = Done
+writing_reply (Some which) = TableFailed which
+
+-- the writing of a mark: the primary and then the mirror, both of which are whole at its start
+abbrev pub mark_writing : Known → Writing
+mark_writing k = writing_of k.table k.version k.places (record { primary = true; mirror = true }) (Primary ∷ Mirror ∷ [])
+
+-- a mark with tables: the copies are written; table, version, places and whole copies are then those of the writing
 abbrev pub write_tables : Geometry → Known → Answer → Path Finished
 write_tables g k marker =
-    write_copy g k.places.primary (λ u. table_page g Primary k.version k.table) (λ primary.
-    either primary
-    (λ u. write_copy g k.places.mirror (λ u. table_page g Mirror k.version k.table) (λ mirror.
-    either mirror (λ u. answer k (mark_reply marker Done)) (λ u. answer (record k { copies = 1 }) (mark_reply marker (TableFailed Mirror)))))
-    (λ u. answer (record k { copies = 1 }) (mark_reply marker (TableFailed Primary))))
+    writing_path g (mark_writing k) (λ w. answer (after_writing k w) (mark_reply marker (writing_reply w.failed)))
 
 -- a mark: the erase of the block, whose failure is ignored, the program of its marker, and then the table
 abbrev pub mark_path : Geometry → Known → ℕ → Path Finished

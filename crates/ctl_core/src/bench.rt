@@ -24,7 +24,7 @@ pub struct Slot<F: Flash, C: PageCode> {
 }
 
 impl<F: Flash, C: PageCode> Slot<F, C> {
-    ghost use Rattle.ctl_core.specs.Bench.{kept_slot, DidEvent, StandsAlike, event_at, kept_chips};
+    ghost use Rattle.ctl_core.specs.Bench.{kept_slot};
 
     // Does the chip's next event, as event `number` of the controller, and puts down what there is to note of it.
     pub fn advance(&mut self, chip: u32, number: u32, notes: &mut History)
@@ -114,6 +114,7 @@ pub struct Bench<F: Flash, C: PageCode> {
 
 impl<F: Flash, C: PageCode> Bench<F, C> {
     ghost use Rattle.session_steps.specs.Standing.{number_of};
+    ghost use Rattle.ctl_core.specs.Bench.{DidEvent, StandsAlike, event_at, kept_chips};
     ghost use Rattle.ctl_core.specs.Flips.{CanFlip, kept_flips_before};
 
     // The first chip that is not attached.

@@ -39,7 +39,7 @@ impl<T: Drop> From<AllocFailed<T>> for PartError {
 }
 
 impl Model for Parts {
-    ghost use Rattle.nand_model.specs.Partitions.{Partitions, part_of};
+    ghost use Rattle.nand_model.specs.Partitions.{Partitions};
     ghost use Rattle.mtd_part.specs.Blocks.{ArePartitions};
 
     ghost Value = { Partitions };
@@ -50,6 +50,7 @@ impl Model for Parts {
 }
 
 impl Parts {
+    ghost use Rattle.nand_model.specs.Partitions.{part_of};
 
     /// No partition yet; the first one added gets the device number `first`. It takes no memory.
     pub fn new(alloc: Global, first: u32) -> Parts

@@ -6,7 +6,7 @@
 --   table, blocks / 4    body from 0             body from 5
 --
 -- The entry of block b stands in table byte b / 4 at bits 2 (b mod 4) and the next higher one; all other bytes are 0xFF.
-use Rattle.std.specs.Prelude.{◌≡◌, ℕ, ◌+◌, ◌-◌, ◌*◌, ◌/◌, ◌%◌, Bool, true, false, ◌&&◌, ◌==◌, if◌then◌else◌, List, [], ◌∷◌, ◌++◌, length, map, flat_map, slice_range, slice_index, replicate, Option, Some, None, is_none, is_some, bytes_eq, refl, not}
+use Rattle.std.specs.Prelude.{◌≡◌, ℕ, ◌+◌, ◌-◌, ◌*◌, ◌/◌, ◌%◌, Bool, true, false, ◌&&◌, ◌==◌, if◌then◌else◌, List, [], ◌∷◌, ◌++◌, length, map, flat_map, slice_range, slice_index, replicate, Option, Some, None, is_none, is_some, bytes_eq, refl, not, ◌||◌}
 use Rattle.nand_model.specs.Page.{Decoding, encoded, decoded, step_read}
 use Rattle.nand_model.specs.declared.geometry.Geometry.{Geometry}
 use Rattle.nand_model.specs.declared.words.Which.{Which}
@@ -114,16 +114,6 @@ same_which Mirror Primary = false
 abbrev pub same_copy : Copy → Copy → Bool
 same_copy a b = same_which a.which b.which && a.version == b.version && bytes_eq a.states b.states
 
--- sixteen blocks: 5 worn, 7 factory bad, the last four reserved
-pub packed_row : packed_bytes (0 ∷ 0 ∷ 0 ∷ 0 ∷ 0 ∷ 1 ∷ 0 ∷ 3 ∷ 0 ∷ 0 ∷ 0 ∷ 0 ∷ 2 ∷ 2 ∷ 2 ∷ 2 ∷ []) ≡ 0 ∷ 0xc4 ∷ 0 ∷ 0xaa ∷ []
-packed_row = refl
-
-pub table_row : table_bytes (0 ∷ 0 ∷ 0 ∷ 0 ∷ 0 ∷ 1 ∷ 0 ∷ 3 ∷ 0 ∷ 0 ∷ 0 ∷ 0 ∷ 2 ∷ 2 ∷ 2 ∷ 2 ∷ []) ≡ 0xff ∷ 0x3b ∷ 0xff ∷ 0xff ∷ []
-table_row = refl
-
-pub states_row : states_in (0xff ∷ 0x3b ∷ 0xff ∷ 0xff ∷ []) ≡ 0 ∷ 0 ∷ 0 ∷ 0 ∷ 0 ∷ 1 ∷ 0 ∷ 3 ∷ 0 ∷ 0 ∷ 0 ∷ 0 ∷ 0 ∷ 0 ∷ 0 ∷ 0 ∷ []
-states_row = refl
-
 -- whether a chip has tables on flash
 abbrev pub has_tables : Geometry → Bool
 has_tables g = not (g.bbt == 0)
@@ -135,3 +125,21 @@ table_blocks g = (g.blocks - 1) ∷ (g.blocks - 2) ∷ (g.blocks - 3) ∷ (g.blo
 -- states as they are after they were written and read: reserved ones as good
 abbrev pub read_again : List ℕ → List ℕ
 read_again states = map (λ s. state_read (written_code s)) states
+
+-- a state that calls its block bad
+abbrev pub is_bad_state : ℕ → Bool
+is_bad_state state = state == 1 || state == 3
+
+-- a table calls a block bad where its state is 1 or 3
+abbrev pub calls_bad : List ℕ → ℕ → Bool
+calls_bad states block = is_bad_state (slice_index states block)
+
+-- sixteen blocks: 5 worn, 7 factory bad, the last four reserved
+pub packed_row : packed_bytes (0 ∷ 0 ∷ 0 ∷ 0 ∷ 0 ∷ 1 ∷ 0 ∷ 3 ∷ 0 ∷ 0 ∷ 0 ∷ 0 ∷ 2 ∷ 2 ∷ 2 ∷ 2 ∷ []) ≡ 0 ∷ 0xc4 ∷ 0 ∷ 0xaa ∷ []
+packed_row = refl
+
+pub table_row : table_bytes (0 ∷ 0 ∷ 0 ∷ 0 ∷ 0 ∷ 1 ∷ 0 ∷ 3 ∷ 0 ∷ 0 ∷ 0 ∷ 0 ∷ 2 ∷ 2 ∷ 2 ∷ 2 ∷ []) ≡ 0xff ∷ 0x3b ∷ 0xff ∷ 0xff ∷ []
+table_row = refl
+
+pub states_row : states_in (0xff ∷ 0x3b ∷ 0xff ∷ 0xff ∷ []) ≡ 0 ∷ 0 ∷ 0 ∷ 0 ∷ 0 ∷ 1 ∷ 0 ∷ 3 ∷ 0 ∷ 0 ∷ 0 ∷ 0 ∷ 0 ∷ 0 ∷ 0 ∷ 0 ∷ []
+states_row = refl

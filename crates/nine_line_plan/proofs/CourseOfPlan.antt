@@ -1,6 +1,6 @@
 -- The course of the nine-line plan: its eight turns, its notes and its end.
 use Rattle.std.proofs.Common.{◌≡◌, ℕ, zero, suc, ◌+◌, ◌-◌, ◌≤◌, true, false, List, [], ◌∷◌, ◌++◌, length, refl, ap, sym, ◌∙◌, arith}
-use Rattle.std.specs.Prelude.{None, map, replicate, fold}
+use Rattle.std.specs.Prelude.{None, map, replicate, fold, slice_index_or}
 use Rattle.std.proofs.Math.ListN.{replicate-append-replicate}
 use Rattle.hex.specs.Hex.{IsBytes}
 use Rattle.nand_model.specs.Chip.{SimFaults, sim_faults}
@@ -11,7 +11,7 @@ use Rattle.run_model.specs.Course.{Course, attach_steps, course_after, is_over, 
 use Rattle.command_model.specs.Session.{SessionRun, op_of_next, without_finished}
 use Rattle.run_model.specs.Run.{AreBoots}
 use Rattle.plan_model.specs.Plan.{boot_part}
-use Rattle.headline_model.specs.Headline.{all_replay_turns, for_controller, replay_turns}
+use Rattle.headline_model.specs.Headline.{all_replay_turns, replay_turns}
 use Rattle.nand_model.specs.declared.geometry.Geometry.{Geometry}
 use Rattle.nand_model.specs.declared.words.Command.{Command}
 use Rattle.nand_model.specs.declared.words.Ending.TheVariants.{Whole}
@@ -191,7 +191,7 @@ module _ (bytes payload : List ℕ) (h : IsNineLinePlan bytes payload) where
   -- the plan's one boot is a whole boot of its controller, with the turns of a replay of eight rounds or more
   pub are_boots : (rounds : ℕ) → 8 ≤ rounds
       → AreBoots sim_faults starts (map (boot_part (plan_of payload) 0 (chip ∷ [])) (plan_of payload).boots)
-      (for_controller [] 0 (all_replay_turns (plan_of payload) rounds)) (course_of_rounds rounds payload ∷ [])
+      (slice_index_or (all_replay_turns (plan_of payload) rounds) 0 []) (course_of_rounds rounds payload ∷ [])
   unfolding course_of_rounds
   are_boots rounds enough = (record { attaches = 8; steps = refl; over = ap (λ c. is_over c) (course_of_rounds-end rounds enough) }, tt)
 

@@ -39,6 +39,16 @@ module _ {W : Type 0} (model : FaultModel W) (partitions : Partitions) where
       ∙ sym (quiet-append model s (events_in trace) (Complete e ∷ []))
       ∙ sym (ap (was_quiet model s) (events-append trace ((n, Complete e) ∷ [])))
 
+  quiet_cut : (next : List Answer → Option PageEvent) (s : ChipState W) (trace : List (ℕ × ChipEvent)) (now : ChipState W) (answers : List Answer) (n : ℕ) (e : PageEvent) (done : DoneBits) (q : Bool)
+      → Goes model next s trace now answers → q ≡ was_quiet model s (events_in trace)
+      → (q && is_quiet now.geometry now.pages) ≡ was_quiet model s (events_in (trace ++ (n, PowerCut e done) ∷ []))
+  quiet_cut next s trace now answers n e done q g h =
+      ap (λ b. b && is_quiet now.geometry now.pages) h
+      ∙ ap (λ (t : ChipState W). was_quiet model s (events_in trace) && is_quiet t.geometry t.pages) g.now_is
+      ∙ ap (λ b. was_quiet model s (events_in trace) && b) (sym (and-true (is_quiet (after_trace model s (events_in trace)).geometry (after_trace model s (events_in trace)).pages)))
+      ∙ sym (quiet-append model s (events_in trace) (PowerCut e done ∷ []))
+      ∙ sym (ap (was_quiet model s) (events-append trace ((n, PowerCut e done) ∷ [])))
+
   same_geometry : (next : List Answer → Option PageEvent) (s : ChipState W) (trace : List (ℕ × ChipEvent)) (now : ChipState W) (answers : List Answer) → Goes model next s trace now answers → now.geometry ≡ s.geometry
   same_geometry next s trace now answers g = ap (λ (t : ChipState W). t.geometry) g.now_is ∙ geometry_after model s (events_in trace)
 
@@ -59,14 +69,14 @@ module _ {W : Type 0} (model : FaultModel W) (partitions : Partitions) where
   after_one s now after whole n e g h = h ∙ after_both s now (happens model now e) whole ((n, e) ∷ []) g refl
 
   -- the end of a chip whose last operation has no answer
-  open_end : (k : ℕ) (s now : ChipState W) (known : Known) (rested : ChipState W) (before notes : List Note) (answered whole : List (ℕ × ChipEvent)) (session : ℕ) (op : Op) (trace : List (ℕ × ChipEvent))
-      → IsAttached model partitions k s known rested before answered
+  open_end : (k : ℕ) (s now : ChipState W) (quiet : Bool) (known : Known) (rested : ChipState W) (before notes : List Note) (answered whole : List (ℕ × ChipEvent)) (session : ℕ) (op : Op) (trace : List (ℕ × ChipEvent))
+      → IsAttached model partitions k s quiet known rested before answered
       → GoesAlong model (next_event (operation_path rested.geometry partitions known op)) rested [] (events_in trace)
       → notes ≡ before ++ Began session op ∷ notes_of_trace model k rested trace
       → now ≡ after_trace model rested (events_in trace)
       → whole ≡ answered ++ trace
-      → ChipEnd model partitions k s now notes whole
-  open_end k s now known rested before notes answered whole session op trace p along e n w = record {
+      → ChipEnd model partitions k s now quiet notes whole
+  open_end k s now quiet known rested before notes answered whole session op trace p along e n w = record {
     life = record { attach = p.attach; operations = p.operations ++ one ∷ []; flips_after = [] };
     history = record {
       along = p.along;
@@ -77,6 +87,7 @@ module _ {W : Type 0} (model : FaultModel W) (partitions : Partitions) where
           (sym p.outcome) (p.later ++ notes_of_operation model k rested one, refl, p.goes_on (one ∷ []) (notes_of_operation model k rested one) (along, (λ x. refl), ([], sym (append-nil _), refl)));
     };
     whole_is = w ∙ ap (λ zs. zs ++ trace) p.whole_is ∙ append_assoc p.attach _ _ ∙ ap (λ zs. p.attach ++ zs) (sym (all-more p.operations one)) ∙ sym (append-nil _);
+    quiet_is = p.quiet_is;
     now_is = after_both s rested now answered trace p.rested_is n ∙ sym (ap (λ zs. after_trace model s (events_in zs)) w);
   }
     where
@@ -142,7 +153,7 @@ module _ {W : Type 0} (model : FaultModel W) (partitions : Partitions) where
   pub attach_ends : (k : ℕ) (s : ChipState W) (c : ChipRun W) (notes : List Note) (whole : List (ℕ × ChipEvent)) (n : ℕ) (e : PageEvent) (attaching : Attaching)
       → IsAttaching model partitions k s c notes whole → next_event (attach_path s.geometry) c.attach_answers ≡ Some e
       → result_of (after_answers (c.attach_answers ++ answer_to model c.chip e ∷ []) (attach_path s.geometry)) ≡ Some attaching
-      → IsAttached model partitions k s (known_at_first attaching) (happens model c.chip (Complete e))
+      → IsAttached model partitions k s (c.quiet && is_quiet c.chip.geometry c.chip.pages) (known_at_first attaching) (happens model c.chip (Complete e))
       (notes ++ notes_of_event model k n c.chip (Complete e) ++ attach_note k (c.quiet && is_quiet c.chip.geometry c.chip.pages) attaching ∷ [])
       (whole ++ (n, Complete e) ∷ [])
   attach_ends k s c notes whole n e attaching a h g = record {
@@ -150,6 +161,7 @@ module _ {W : Type 0} (model : FaultModel W) (partitions : Partitions) where
     attaching = attaching;
     along = goes.along;
     outcome = outcome_is s attach (happens model c.chip (Complete e)) answers (Some attaching) goes g;
+    quiet_is = quiet_event (next_event (attach_path s.geometry)) s whole c.chip c.attach_answers n e c.quiet a.goes a.quiet;
     operations = [];
     later = [];
     notes_are = ap (λ zs. zs ++ notes_of_event model k n c.chip (Complete e) ++ attach_note k (c.quiet && is_quiet c.chip.geometry c.chip.pages) attaching ∷ []) a.notes_are
@@ -172,7 +184,7 @@ module _ {W : Type 0} (model : FaultModel W) (partitions : Partitions) where
   -- a cut event of an attach
   pub attach_cut : (k : ℕ) (s : ChipState W) (c : ChipRun W) (notes : List Note) (whole : List (ℕ × ChipEvent)) (n : ℕ) (e : PageEvent) (done : DoneBits)
       → IsAttaching model partitions k s c notes whole → next_event (attach_path s.geometry) c.attach_answers ≡ Some e
-      → ChipEnd model partitions k s (happens model c.chip (PowerCut e done)) (notes ++ notes_of_event model k n c.chip (PowerCut e done)) (whole ++ (n, PowerCut e done) ∷ [])
+      → ChipEnd model partitions k s (happens model c.chip (PowerCut e done)) (c.quiet && is_quiet c.chip.geometry c.chip.pages) (notes ++ notes_of_event model k n c.chip (PowerCut e done)) (whole ++ (n, PowerCut e done) ∷ [])
   attach_cut k s c notes whole n e done a h = record {
     life = record { attach = attach; operations = []; flips_after = [] };
     history = record {
@@ -182,6 +194,7 @@ module _ {W : Type 0} (model : FaultModel W) (partitions : Partitions) where
       goes_on = subst (λ o. GoesOn model o partitions k s (events_in attach) [] []) (sym (ap (λ b. outcome_if b (result_of (after_answers (answers_of model s (events_in attach)) (attach_path s.geometry)))) (ap is_uncut (events-append whole ((n, PowerCut e done) ∷ [])) ∙ uncut-append (events_in whole) (PowerCut e done ∷ []) a.goes.uncut))) (refl, refl);
     };
     whole_is = sym (append-nil _ ∙ append-nil attach);
+    quiet_is = quiet_cut (next_event (attach_path s.geometry)) s whole c.chip c.attach_answers n e done c.quiet a.goes a.quiet;
     now_is = after_one s c.chip (happens model c.chip (PowerCut e done)) whole n (PowerCut e done) a.goes.now_is refl;
   }
     where
@@ -231,9 +244,9 @@ module _ {W : Type 0} (model : FaultModel W) (partitions : Partitions) where
   -- a cut event of an operation
   pub operation_cut : (k : ℕ) (s : ChipState W) (c : ChipRun W) (known : Known) (pending : Pending) (notes : List Note) (whole : List (ℕ × ChipEvent)) (n : ℕ) (e : PageEvent) (done : DoneBits)
       → IsPerforming model partitions k s c known pending notes whole → next_event (operation_path c.chip.geometry partitions known pending.op) pending.answers ≡ Some e
-      → ChipEnd model partitions k s (happens model c.chip (PowerCut e done)) (notes ++ notes_of_event model k n c.chip (PowerCut e done)) (whole ++ (n, PowerCut e done) ∷ [])
+      → ChipEnd model partitions k s (happens model c.chip (PowerCut e done)) c.quiet (notes ++ notes_of_event model k n c.chip (PowerCut e done)) (whole ++ (n, PowerCut e done) ∷ [])
   operation_cut k s c known pending notes whole n e done a h =
-      open_end k s (happens model c.chip (PowerCut e done)) known a.rested a.before (notes ++ notes_of_event model k n c.chip (PowerCut e done)) a.answered (whole ++ (n, PowerCut e done) ∷ []) pending.session pending.op (a.trace ++ (n, PowerCut e done) ∷ []) a.past
+      open_end k s (happens model c.chip (PowerCut e done)) c.quiet known a.rested a.before (notes ++ notes_of_event model k n c.chip (PowerCut e done)) a.answered (whole ++ (n, PowerCut e done) ∷ []) pending.session pending.op (a.trace ++ (n, PowerCut e done) ∷ []) a.past
       (along_more model next a.rested a.trace c.chip pending.answers n (PowerCut e done) a.goes (next_here k s c known pending notes whole (Some e) a h, refl))
       (ap (λ zs. zs ++ notes_of_event model k n c.chip (PowerCut e done)) a.notes_are ∙ append_assoc a.before _ _
       ∙ ap (λ zs. a.before ++ Began pending.session pending.op ∷ zs) (sym (notes_more model k next a.rested a.trace c.chip pending.answers n (PowerCut e done) a.goes)))
@@ -257,6 +270,7 @@ module _ {W : Type 0} (model : FaultModel W) (partitions : Partitions) where
       attaching = a.past.attaching;
       along = a.past.along;
       outcome = a.past.outcome;
+      quiet_is = a.past.quiet_is;
       operations = a.past.operations ++ one ∷ [];
       later = a.past.later ++ notes_of_operation model k a.rested one;
       notes_are = ap (λ zs. zs ++ Answered pending.session finished.reply ∷ []) a.notes_are ∙ append_assoc a.before _ _ ∙ ap (λ zs. zs ++ notes_of_operation model k a.rested one) a.past.notes_are
@@ -287,7 +301,7 @@ module _ {W : Type 0} (model : FaultModel W) (partitions : Partitions) where
 
   -- a chip's end, wherever it stands
   pub chip_end_at : (k : ℕ) (s : ChipState W) (c : ChipRun W) (notes : List Note) (whole : List (ℕ × ChipEvent)) (known : Option Known) (pending : Option Pending)
-      → ChipLawAt model partitions k s c notes whole known pending → ChipEnd model partitions k s c.chip notes whole
+      → ChipLawAt model partitions k s c notes whole known pending → ChipEnd model partitions k s c.chip c.quiet notes whole
   chip_end_at k s c notes whole None pending a = record {
     life = record { attach = whole; operations = []; flips_after = [] };
     history = record {
@@ -297,6 +311,7 @@ module _ {W : Type 0} (model : FaultModel W) (partitions : Partitions) where
       goes_on = subst (λ o. GoesOn model o partitions k s (events_in whole) [] []) (sym (outcome_is s whole c.chip c.attach_answers None a.goes a.more)) (refl, refl);
     };
     whole_is = sym (append-nil (whole ++ []) ∙ append-nil whole);
+    quiet_is = a.quiet;
     now_is = a.goes.now_is;
   }
   chip_end_at k s c notes whole (Some known) None a = record {
@@ -309,7 +324,8 @@ module _ {W : Type 0} (model : FaultModel W) (partitions : Partitions) where
           (sym a.past.outcome) (a.past.later ++ [], refl, a.past.goes_on [] [] refl);
     };
     whole_is = a.whole_is ∙ ap (λ zs. zs ++ turned_events a.flips) a.past.whole_is ∙ ap (λ ops. a.past.attach ++ traces_of ops ++ turned_events a.flips) (sym (append-nil a.past.operations));
+    quiet_is = a.past.quiet_is;
     now_is = after_both s a.rested c.chip a.answered (turned_events a.flips) a.past.rested_is a.now_is ∙ sym (ap (λ zs. after_trace model s (events_in zs)) a.whole_is);
   }
   chip_end_at k s c notes whole (Some known) (Some pending) a =
-      open_end k s c.chip known a.rested a.before notes a.answered whole pending.session pending.op a.trace a.past a.goes.along a.notes_are a.goes.now_is a.whole_is
+      open_end k s c.chip c.quiet known a.rested a.before notes a.answered whole pending.session pending.op a.trace a.past a.goes.along a.notes_are a.goes.now_is a.whole_is

@@ -126,7 +126,7 @@ module _ {W : Type 0} (model : FaultModel W) (boot : Boot) (starts : List (ChipS
   LawOf w k s c notes = ChipLaw model boot.partitions k s c notes (w k s)
 
   abbrev pub EndOf : Befallen → ℕ → ChipState W → ChipRun W → List Note → Type 0
-  EndOf w k s c notes = ChipEnd model boot.partitions k s c.chip notes (w k s)
+  EndOf w k s c notes = ChipEnd model boot.partitions k s c.chip c.quiet notes (w k s)
 
   -- what befell each chip by a log
   abbrev pub by_log : Log → Befallen

@@ -114,7 +114,7 @@ module _ {W : Type 0} (model : FaultModel W) (partitions : Partitions) where
   -- a cut event of a chip in good order
   cut_law : (k n : ℕ) (s : ChipState W) (c : ChipRun W) (e : PageEvent) (done : DoneBits) (notes : List Note) (whole : List (ℕ × ChipEvent)) (known : Option Known) (pending : Option Pending)
       → ChipLawAt model partitions k s c notes whole known pending → next_event_by partitions c.chip c.attach_answers known pending ≡ Some e
-      → ChipEnd model partitions k s (torn_by c (happens model c.chip (PowerCut e done)) known).chip (notes ++ notes_of_event model k n c.chip (PowerCut e done)) (whole ++ (n, PowerCut e done) ∷ [])
+      → ChipEnd model partitions k s (torn_by c (happens model c.chip (PowerCut e done)) known).chip (torn_by c (happens model c.chip (PowerCut e done)) known).quiet (notes ++ notes_of_event model k n c.chip (PowerCut e done)) (whole ++ (n, PowerCut e done) ∷ [])
   cut_law k n s c e done notes whole None pending a h =
       attach_cut model partitions k s c notes whole n e done a (subst (λ z. next_event (attach_path z) c.attach_answers ≡ Some e) (ap (λ (t : ChipState W). t.geometry) a.goes.now_is ∙ geometry_after model s (events_in whole)) h)
   cut_law k n s c e done notes whole (Some known) None a h = absurd (none-some e h)
@@ -243,7 +243,7 @@ module _ {W : Type 0} (model : FaultModel W) (boot : Boot) (starts : List (ChipS
     is_log = let m = more_log course log k e is_log within in record { counted = m.0; on_chips = m.1 };
     chips = place_update model boot starts (EndOf model boot starts (with_due model boot starts n (by_log model boot starts log))) (EndOf model boot starts (by_log model boot starts (log ++ (k, e) ∷ []))) k chips course.notes new change
         (live_ends model boot starts (with_due model boot starts n (by_log model boot starts log)) chips course.notes hold) of_chip
-        law (λ j d s x a. subst (λ zs. ChipEnd model boot.partitions j s x.chip (notes_of_chip boot.partitions j course.notes) zs) (sym (other_whole course log k j e is_log d s)) a);
+        law (λ j d s x a. subst (λ zs. ChipEnd model boot.partitions j s x.chip x.quiet (notes_of_chip boot.partitions j course.notes) zs) (sym (other_whole course log k j e is_log d s)) a);
     sessions = stay chips (change_at chips k change) course.sessions course.notes new sess
         (same_asked model boot starts chips k change (λ d x. ap asked_by (torn_pending model boot.partitions c (happens model c.chip (PowerCut e done)) c.known) ∙ ap (λ (z : ChipRun W). asked_by z.pending) (same_Some c d (sym at ∙ x))))
         (λ m. refl) (λ last. refl);
@@ -271,15 +271,15 @@ module _ {W : Type 0} (model : FaultModel W) (boot : Boot) (starts : List (ChipS
       of_chip : AreOf boot.partitions (lasts boot.partitions nowhere course.notes) k new
       of_chip = one_is_of boot.partitions (lasts boot.partitions nowhere course.notes) k (Torn k n (name_of e) true (fairness_of c.chip.geometry c.chip.pages e (happens model c.chip (PowerCut e done)).pages)) refl
 
-      law : (s : ChipState W) (d : ChipRun W) → slice_get starts k ≡ Some s → slice_get chips k ≡ Some d → ChipEnd model boot.partitions k s d.chip before (with_due model boot starts n (by_log model boot starts log) k s)
-          → ChipEnd model boot.partitions k s (torn_at model c e done).chip (before ++ new) (by_log model boot starts (log ++ (k, e) ∷ []) k s)
+      law : (s : ChipState W) (d : ChipRun W) → slice_get starts k ≡ Some s → slice_get chips k ≡ Some d → ChipEnd model boot.partitions k s d.chip d.quiet before (with_due model boot starts n (by_log model boot starts log) k s)
+          → ChipEnd model boot.partitions k s (torn_at model c e done).chip (torn_at model c e done).quiet (before ++ new) (by_log model boot starts (log ++ (k, e) ∷ []) k s)
       law s d w x l =
           let p = place_start (LawOf model boot starts (with_due model boot starts n (by_log model boot starts log)) k) before (slice_get starts k) (slice_get chips k) c at (hold k) in
           let a : ChipLaw model boot.partitions k s c before (with_due model boot starts n (by_log model boot starts log) k s) =
           subst (λ z. ChipLaw model boot.partitions k z c before (with_due model boot starts n (by_log model boot starts log) k z)) (same_Some p.0 s (sym p.1 ∙ w)) p.2 in
           let q : c.chip.geometry ≡ s.geometry =
           ap (λ (z : ChipState W). z.geometry) (ap (λ (z : ChipRun W). z.chip) (same_Some c d (sym at ∙ x)) ∙ l.now_is) ∙ geometry_after model s (events_in (with_due model boot starts n (by_log model boot starts log) k s)) in
-          subst (λ zs. ChipEnd model boot.partitions k s (torn_at model c e done).chip (before ++ new) zs)
+          subst (λ zs. ChipEnd model boot.partitions k s (torn_at model c e done).chip (torn_at model c e done).quiet (before ++ new) zs)
           (sym (own_whole course log k e is_log s (Some tear) t ∙ ap (λ (g : Geometry). with_due model boot starts n (by_log model boot starts log) k s ++ (n, PowerCut e (done_bits (raw_len g) tear)) ∷ []) (sym q)))
           (cut_law model boot.partitions k n s c e done before (with_due model boot starts n (by_log model boot starts log) k s) c.known c.pending a next)
 

@@ -14,8 +14,8 @@ use Rattle.run_model.specs.Log.{Log, befalls}
 use Rattle.run_model.specs.Course.{sizes_of, Course, start_of_boot, attach_step, turn_step, attach_steps, course_after, end_states, is_over}
 use Rattle.command_model.specs.Boot.{Boot}
 use Rattle.command_model.specs.Session.{SessionRun, next_op_of, is_finished, exchanges_of, Alternate, session_after, FollowsCommands}
-use Rattle.run_model.specs.History.{events_in, numbered_of, notes_of_chip, ChipBoot, trace_of, IsChipHistory, IsChipLife, AreOfChips}
-use Rattle.run_model.specs.Run.{CoursesAreFaithful, AreInOrder, AreComplete, session_at_start, HaveOneNumberEach}
+use Rattle.run_model.specs.History.{events_in, was_quiet, numbered_of, notes_of_chip, ChipBoot, trace_of, IsChipHistory, IsChipLife, AreOfChips}
+use Rattle.run_model.specs.Run.{quiet_of, quiet_at, CoursesAreFaithful, AreInOrder, AreComplete, session_at_start, HaveOneNumberEach}
 use Rattle.run_laws.proofs.Life.{ChipEnd}
 use Rattle.run_laws.proofs.Sessions.{asked, nowhere}
 use Rattle.run_laws.proofs.Courses.{AtPlace, ChipsHold, SessionsHold, IsLog, EndOf, by_log, Holds, live_ends}
@@ -117,22 +117,24 @@ module _ {W : Type 0} (model : FaultModel W) (boot : Boot) (starts : List (ChipS
   LifeLaw course log k s b = IsChipHistory model boot.partitions k s b.attach b.operations (notes_of_chip boot.partitions k course.notes)
       × (numbered_of b ≡ befalls boot k (raw_len s.geometry) 1 log)
       × (slice_get (end_states course) k ≡ Some (after_trace model s (trace_of b)))
+      × (quiet_at k course ≡ was_quiet model s (events_in b.attach))
 
   -- a chip's life in the boot, from the law at its place
   end_at : (log : Log) (k : ℕ) (notes : List Note) (os : Option (ChipState W)) (oc : Option (ChipRun W)) (s : ChipState W) → AtPlace (EndOf model boot starts (by_log model boot starts log) k) notes os oc → os ≡ Some s
       → (b : ChipBoot) × IsChipHistory model boot.partitions k s b.attach b.operations notes × (numbered_of b ≡ befalls boot k (raw_len s.geometry) 1 log) × (option_map (λ (c : ChipRun W). c.chip) oc ≡ Some (after_trace model s (trace_of b)))
+      × (quiet_of oc ≡ was_quiet model s (events_in b.attach))
   end_at log k notes None None s a e = absurd (none-some s e)
   end_at log k notes None (Some c) s a e = absurd a
   end_at log k notes (Some t) None s a e = absurd a
   end_at log k notes (Some t) (Some c) s a e =
-      let b : ChipEnd model boot.partitions k s c.chip notes (by_log model boot starts log k s) = subst (λ z. ChipEnd model boot.partitions k z c.chip notes (by_log model boot starts log k z)) (same_Some t s e) a in
-      (b.life, b.history, sym b.whole_is, ap (λ z. Some z) (b.now_is ∙ ap (λ zs. after_trace model s (events_in zs)) b.whole_is))
+      let b : ChipEnd model boot.partitions k s c.chip c.quiet notes (by_log model boot starts log k s) = subst (λ z. ChipEnd model boot.partitions k z c.chip c.quiet notes (by_log model boot starts log k z)) (same_Some t s e) a in
+      (b.life, b.history, sym b.whole_is, ap (λ z. Some z) (b.now_is ∙ ap (λ zs. after_trace model s (events_in zs)) b.whole_is), b.quiet_is)
 
   pub life_at : (course : Course W) (h : Holds model boot starts course) (k : ℕ) (s : ChipState W) → slice_get starts k ≡ Some s → (b : ChipBoot) × LifeLaw course (log_of course h).0 k s b
   life_at course h k s e =
       let r = log_of course h in
       let b = end_at r.0 k (notes_of_chip boot.partitions k course.notes) (slice_get starts k) (slice_get course.chips k) s (r.2 k) e in
-      (b.0, (b.1, b.2, slice_get-map (λ (c : ChipRun W). c.chip) course.chips k ∙ b.3))
+      (b.0, (b.1, b.2, slice_get-map (λ (c : ChipRun W). c.chip) course.chips k ∙ b.3, b.4))
 
   pub faithful : (attaches : ℕ) (turns : List ℕ) → CoursesAreFaithful model boot starts attaches turns
   faithful attaches turns = go (collect starts (LifeLaw course (log_of course h).0) (life_at course h))
@@ -160,6 +162,7 @@ module _ {W : Type 0} (model : FaultModel W) (boot : Boot) (starts : List (ChipS
           traces = λ k s b e f. (r.2 k s b e f).1;
           ends_are = λ k s b e f. (r.2 k s b e f).2;
         };
+        quiet = λ k s b e f. (r.2 k s b e f).3;
         one_thread = record {
           many = length-map r.0 (λ (b : ChipBoot). b ∷ []) ∙ r.1;
           chips = λ k s life e f. one_boot k s (slice_get r.0 k) life (sym (slice_get-map (λ (b : ChipBoot). b ∷ []) r.0 k) ∙ f) (λ b g. r.2 k s b e g);

@@ -1,5 +1,5 @@
 -- What a chip has gone through so far in a boot, beside its state in the course.
-use Rattle.std.proofs.Common.{◌≡◌, ℕ, true, List, [], ◌∷◌, ◌++◌, Option, Some, None, refl, ap, sym, ◌∙◌, subst, append-nil}
+use Rattle.std.proofs.Common.{◌≡◌, ℕ, Bool, true, List, [], ◌∷◌, ◌++◌, Option, Some, None, refl, ap, sym, ◌∙◌, subst, append-nil}
 use Rattle.std.specs.Prelude.{flat_map}
 use Rattle.nand_model.specs.declared.words.Note.{Note}
 use Rattle.nand_model.specs.declared.words.Note.TheVariants.{Began}
@@ -84,11 +84,12 @@ module _ {W : Type 0} (model : FaultModel W) (partitions : Partitions) where
     pub notes_are : notes ≡ notes_of_trace model k s whole
 
   -- an attached chip after its last answered operation: how it stood then, what was known, its notes until then, and what had befallen it
-  pub record IsAttached (k : ℕ) (s : ChipState W) (known : Known) (rested : ChipState W) (notes : List Note) (whole : List (ℕ × ChipEvent)) : Type 0 where
+  pub record IsAttached (k : ℕ) (s : ChipState W) (quiet : Bool) (known : Known) (rested : ChipState W) (notes : List Note) (whole : List (ℕ × ChipEvent)) : Type 0 where
     pub attach : List (ℕ × ChipEvent)
     pub attaching : Attaching
     pub along : GoesAlong model (next_event (attach_path s.geometry)) s [] (events_in attach)
     pub outcome : attach_outcome model s (events_in attach) ≡ Some attaching
+    pub quiet_is : quiet ≡ was_quiet model s (events_in attach)
     pub operations : List OperationTrace
     pub later : List Note
     pub notes_are : notes ≡ notes_of_trace model k s attach ++ attach_note k (was_quiet model s (events_in attach)) attaching ∷ later
@@ -102,7 +103,7 @@ module _ {W : Type 0} (model : FaultModel W) (partitions : Partitions) where
     pub rested : ChipState W
     pub flips : List Turned
     pub answered : List (ℕ × ChipEvent)
-    pub past : IsAttached k s known rested notes answered
+    pub past : IsAttached k s c.quiet known rested notes answered
     pub now_is : c.chip ≡ after_trace model rested (events_in (turned_events flips))
     pub whole_is : whole ≡ answered ++ turned_events flips
 
@@ -112,7 +113,7 @@ module _ {W : Type 0} (model : FaultModel W) (partitions : Partitions) where
     pub before : List Note
     pub trace : List (ℕ × ChipEvent)
     pub answered : List (ℕ × ChipEvent)
-    pub past : IsAttached k s known rested before answered
+    pub past : IsAttached k s c.quiet known rested before answered
     pub goes : Goes model (next_event (operation_path rested.geometry partitions known pending.op)) rested trace c.chip pending.answers
     pub notes_are : notes ≡ before ++ Began pending.session pending.op ∷ notes_of_trace model k rested trace
     pub whole_is : whole ≡ answered ++ trace
@@ -126,9 +127,10 @@ module _ {W : Type 0} (model : FaultModel W) (partitions : Partitions) where
   abbrev pub ChipLaw : ℕ → ChipState W → ChipRun W → List Note → List (ℕ × ChipEvent) → Type 0
   ChipLaw k s c notes whole = ChipLawAt k s c notes whole c.known c.pending
 
-  -- what the theorem says of a chip, with the state in which it is left and all that befell it
-  pub record ChipEnd (k : ℕ) (s now : ChipState W) (notes : List Note) (whole : List (ℕ × ChipEvent)) : Type 0 where
+  -- what the theorem says of a chip, with the state in which it is left, whether its attach found it quiet, and all that befell it
+  pub record ChipEnd (k : ℕ) (s now : ChipState W) (quiet : Bool) (notes : List Note) (whole : List (ℕ × ChipEvent)) : Type 0 where
     pub life : ChipBoot
     pub history : IsChipHistory model partitions k s life.attach life.operations notes
     pub whole_is : whole ≡ numbered_of life
+    pub quiet_is : quiet ≡ was_quiet model s (events_in life.attach)
     pub now_is : now ≡ after_trace model s (events_in whole)

@@ -15,7 +15,7 @@ use Rattle.run_model.specs.Course.{Course, IsWholeCourse, end_states}
 use Rattle.command_model.specs.Session.{without_finished, is_finished, exchanges_of, Alternate, session_after, FollowsCommands}
 use Rattle.run_model.specs.History.{notes_of_chip, ChipBoot, trace_of, events_in, AreOfChips, IsChipHistory, IsChipLife}
 use Rattle.run_model.specs.Log.{Log, AreOfLog, AreOfLogs, first_boots, later_boots}
-use Rattle.run_model.specs.Run.{AreBoots, AreInOrder, HaveOneNumberEach, RunsAreFaithful}
+use Rattle.run_model.specs.Run.{AreAllQuietAsTraced, AreQuietAsTraced, AreBoots, AreInOrder, HaveOneNumberEach, RunsAreFaithful}
 use Rattle.run_laws.proofs.Traces.{geometry_after}
 use Rattle.run_laws.proofs.Courses.{AtPlace, EndOf, by_log, Holds}
 use Rattle.run_laws.proofs.Faithful.{collect, course_holds, log_of, paired, in_order, complete, of_chips, LifeLaw, life_at}
@@ -106,6 +106,7 @@ module _ {W : Type 0} (model : FaultModel W) where
     many : length lives ≡ length starts
     counted : map (λ (c : Course W). c.events) courses ≡ map (λ (log : Log). length log) logs
     of_logs : AreOfLogs model starts boots courses lives logs
+    quiet : AreAllQuietAsTraced model starts lives courses
     are_lives : (k : ℕ) (s : ChipState W) (life : List ChipBoot) → slice_get starts k ≡ Some s → slice_get lives k ≡ Some life
         → (partitions : Partitions) → HavePartitions partitions boots → IsChipLife model partitions k s life (notes_of courses)
 
@@ -116,6 +117,7 @@ module _ {W : Type 0} (model : FaultModel W) where
     many = length-map starts (λ (s : ChipState W). []);
     counted = refl;
     of_logs = tt;
+    quiet = tt;
     are_lives = λ k s life e f partitions d. subst (λ z. IsChipLife model partitions k s z [])
         (same_Some [] life (sym (slice_get-map (λ (s : ChipState W). []) starts k ∙ ap (option_map (λ (s : ChipState W). [])) e) ∙ f)) tt;
   }
@@ -143,6 +145,10 @@ module _ {W : Type 0} (model : FaultModel W) where
             ends_are = λ k s b e f. (first.2 k s b e f).2;
           }),
           subst (λ lives. AreOfLogs model (end_states course) boots courses lives later.logs) (sym (later-joined first.0 later.lives as_many)) later.of_logs,
+        );
+        quiet = (
+          subst (λ bs. AreQuietAsTraced model starts bs course) (sym (first-joined first.0 later.lives)) (λ k s b e f. (first.2 k s b e f).3),
+          subst (λ lives. AreAllQuietAsTraced model (end_states course) lives courses) (sym (later-joined first.0 later.lives as_many)) later.quiet,
         );
         are_lives = λ k s life e f partitions d.
             let at = joined_at first.0 later.lives as_many k life f in
@@ -218,6 +224,7 @@ module _ {W : Type 0} (model : FaultModel W) where
         logs = r.logs;
         counted = r.counted;
         of_logs = r.of_logs;
+        quiet = r.quiet;
         one_thread = record {
           many = r.many;
           chips = λ k s life e f. r.are_lives k s life e f partitions has;

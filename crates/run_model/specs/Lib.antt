@@ -5,3 +5,4 @@ pub mod Marking
 pub mod ReadBack
 pub mod Run
 pub mod Laws
+pub mod Survival

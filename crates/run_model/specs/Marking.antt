@@ -1,14 +1,20 @@
 -- Markings of blocks: begun and acknowledged, by the notes of all boots so far.
-use Rattle.std.specs.Prelude.{ℕ, ◌+◌, ◌<◌, ◌⊎◌, Bool, true, false, ◌&&◌, ◌||◌, ◌==◌, nat_lt, if◌then◌else◌, List, [], ◌∷◌, ◌++◌, Option, Some, None, Contains, slice_index, IsTrue}
+use Rattle.std.specs.Prelude.{ℕ, ◌+◌, Bool, false, ◌&&◌, ◌==◌, nat_lt, Option, Some, None, if◌then◌else◌, List, [], ◌∷◌, ◌++◌, true, ◌||◌, ◌<◌, ◌⊎◌, Contains, IsTrue}
 use Rattle.std.specs.List.{list_any}
 use Rattle.nand_model.specs.Partitions.{Partitions, part_of}
+use Rattle.nand_model.specs.Sizes.{first_page}
+use Rattle.nand_model.specs.Quiet.{is_table_block}
+use Rattle.nand_model.specs.Table.{calls_bad}
 use Rattle.nand_model.specs.declared.words.Part.{Part}
 use Rattle.nand_model.specs.declared.words.Op.{Op}
 use Rattle.nand_model.specs.declared.words.Op.TheVariants.{Mark}
 use Rattle.nand_model.specs.declared.words.Reply.{Reply}
-use Rattle.nand_model.specs.declared.words.Reply.TheVariants.{Done, OutOfRange, Reserved, Copies}
 use Rattle.nand_model.specs.declared.words.Note.{Note}
-use Rattle.nand_model.specs.declared.words.Note.TheVariants.{Began, Answered}
+use Rattle.nand_model.specs.declared.words.Note.TheVariants.{Answered, Began, Torn}
+use Rattle.nand_model.specs.declared.words.Reply.TheVariants.{OutOfRange, Reserved, Copies, Done}
+use Rattle.nand_model.specs.declared.geometry.Geometry.{Geometry}
+use Rattle.nand_model.specs.declared.words.Event.{Event}
+use Rattle.nand_model.specs.declared.words.Event.TheVariants.{Read as ReadOf, Program as ProgramOf, Erase as EraseOf}
 
 abbrev pub is_block_of : Option Part → ℕ → ℕ → ℕ → Bool
 is_block_of None block k b = false
@@ -40,23 +46,33 @@ begins (Some Reserved) = false
 begins (Some (Copies n)) = false
 begins (Some _) = true
 
+-- an erase of the block, or a program of its first page, failed: of one of the last four blocks that is in a writing of tables, since nothing else erases or programs these
+abbrev pub is_failure_at : Geometry → ℕ → Event → Bool
+is_failure_at g b (ReadOf page) = false
+is_failure_at g b (ProgramOf page) = page == first_page g b
+is_failure_at g b (EraseOf block) = block == b
+
+abbrev pub is_failure_note : Geometry → ℕ → ℕ → Note → Bool
+is_failure_note g k b (Torn chip number event false fairness) = chip == k && is_failure_at g b event
+is_failure_note g k b _ = false
+
+-- the block is one of the last four of a chip with tables, and failed in a writing of these notes
+abbrev pub failed_in_writing : Geometry → ℕ → ℕ → List Note → Bool
+failed_in_writing g k b notes = is_table_block g b && list_any (is_failure_note g k b) notes
+
 abbrev pub is_acknowledgement : Option Reply → Bool
 is_acknowledgement (Some Done) = true
 is_acknowledgement _ = false
 
--- the marking of block b of chip k has begun, and was acknowledged, in the notes of one boot
-abbrev pub marking_began : Partitions → ℕ → ℕ → List Note → Bool
-marking_began partitions k b notes = list_any begins (marks_in partitions k b notes)
+-- the marking of block b of chip k has begun, and was acknowledged, in the notes of one boot. A block of the last four that failed in a writing counts as begun
+abbrev pub marking_began : Geometry → Partitions → ℕ → ℕ → List Note → Bool
+marking_began g partitions k b notes = list_any begins (marks_in partitions k b notes) || failed_in_writing g k b notes
 
 abbrev pub marking_acknowledged : Partitions → ℕ → ℕ → List Note → Bool
 marking_acknowledged partitions k b notes = list_any is_acknowledgement (marks_in partitions k b notes)
 
--- a table shows a block as bad: its entry is 1 or 3
-abbrev pub shows_bad : List ℕ → ℕ → Bool
-shows_bad states b = slice_index states b == 1 || slice_index states b == 3
-
--- a table shows bad each factory-bad block and each whose marking was acknowledged in these boots, and none beyond these and those whose marking has begun
-pub record ShowsMarks (partitions : Partitions) (k blocks : ℕ) (factory_bad : List ℕ) (boots : List (List Note)) (states : List ℕ) : Type 0 where
-  pub factory : (b : ℕ) → b < blocks → Contains factory_bad b → IsTrue (shows_bad states b)
-  pub acknowledged : (b : ℕ) → b < blocks → IsTrue (list_any (marking_acknowledged partitions k b) boots) → IsTrue (shows_bad states b)
-  pub no_other : (b : ℕ) → b < blocks → IsTrue (shows_bad states b) → Contains factory_bad b ⊎ IsTrue (list_any (marking_began partitions k b) boots)
+-- an attach's table shows bad each factory-bad block and each whose marking was acknowledged in the boots before, and none beyond these and those whose marking has begun, in these boots or in the notes of this boot before the attach's own
+pub record ShowsMarks (g : Geometry) (partitions : Partitions) (k : ℕ) (factory_bad : List ℕ) (boots : List (List Note)) (before : List Note) (states : List ℕ) : Type 0 where
+  pub factory : (b : ℕ) → b < g.blocks → Contains factory_bad b → IsTrue (calls_bad states b)
+  pub acknowledged : (b : ℕ) → b < g.blocks → IsTrue (list_any (marking_acknowledged partitions k b) boots) → IsTrue (calls_bad states b)
+  pub no_other : (b : ℕ) → b < g.blocks → IsTrue (calls_bad states b) → Contains factory_bad b ⊎ IsTrue (list_any (marking_began g partitions k b) (boots ++ before ∷ []))

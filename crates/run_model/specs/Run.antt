@@ -1,10 +1,10 @@
 -- Runs of several boots of one controller: each boot starts from the states that the one before it left.
-use Rattle.std.specs.Prelude.{◌≡◌, ◌≢◌, ◌==◌, ℕ, ◌+◌, ◌/◌, Bool, true, IsTrue, false, not, count_by, ◌≤◌, ◌&&◌, if◌then◌else◌, List, [], ◌∷◌, ◌++◌, length, map, take, slice_get, Option, Some, None, IsSome, ⊤, Contains}
+use Rattle.std.specs.Prelude.{◌≡◌, ◌≢◌, ◌⊎◌, ◌==◌, ℕ, ◌+◌, ◌/◌, ◌%◌, Bool, true, IsTrue, false, not, count_by, ◌≤◌, ◌<◌, ◌&&◌, if◌then◌else◌, List, [], ◌∷◌, ◌++◌, length, map, take, slice_get, Option, Some, None, IsSome, ⊤, Contains}
 use Rattle.std.specs.List.{list_all, list_any, AllZip}
 use Rattle.nand_model.specs.Sizes.{first_page}
 use Rattle.nand_model.specs.Chip.{ChipState, FaultModel, PageEvent, ReadEvent, ProgramEvent, EraseEvent}
-use Rattle.nand_model.specs.Table.{Copy, copy_in, has_tables, table_blocks, read_again}
-use Rattle.chip_paths.specs.Attach.{Places, places_of, candidates, chosen, used_copy, found, place_of}
+use Rattle.nand_model.specs.Table.{Copy, copy_in, calls_bad, has_tables, table_blocks, read_again}
+use Rattle.chip_paths.specs.Copies.{candidates, chosen, used_copy, found, copies_held, is_disowned}
 use Rattle.nand_model.specs.Partitions.{Partitions}
 use Rattle.chip_paths.specs.Operation.{Known}
 use Rattle.nand_model.specs.Quiet.{is_quiet}
@@ -12,11 +12,10 @@ use Rattle.chip_paths.specs.ChipRun.{ChipRun, next_chip_event}
 use Rattle.command_model.specs.Boot.{Boot}
 use Rattle.run_model.specs.Course.{Course, IsWholeCourse, course_after, end_states, sizes_of, is_over}
 use Rattle.command_model.specs.Session.{SessionRun, without_finished, is_finished, FollowsCommands, exchanges_of, session_after}
-use Rattle.run_model.specs.History.{ChipBoot, AreOneThread}
-use Rattle.run_model.specs.Log.{Log, AreOfLog, AreOfLogs}
-use Rattle.run_model.specs.Marking.{ShowsMarks}
+use Rattle.run_model.specs.History.{events_in, was_quiet, ChipBoot, AreOneThread}
+use Rattle.run_model.specs.Log.{Log, AreOfLog, AreOfLogs, first_boots, later_boots}
+use Rattle.run_model.specs.Marking.{ShowsMarks, marking_acknowledged}
 use Rattle.nand_model.specs.declared.geometry.Geometry.{Geometry}
-use Rattle.nand_model.specs.declared.words.Which.{Which}
 use Rattle.nand_model.specs.declared.words.Which.TheVariants.{Primary, Mirror}
 use Rattle.nand_model.specs.declared.words.Command.{Command}
 use Rattle.nand_model.specs.declared.words.Origin.{Origin}
@@ -39,13 +38,27 @@ is_fair_note k _ = true
 abbrev pub is_fair : ℕ → List Note → Bool
 is_fair k notes = list_all (is_fair_note k) notes
 
+-- the attach of this chip was quiet so far (a chip that is not there: as well)
+abbrev pub quiet_of : {W : Type 0} → Option (ChipRun W) → Bool
+quiet_of None = true
+quiet_of (Some c) = c.quiet
+
 -- each attach of chip k so far was quiet, one that a cut ended too
 abbrev pub quiet_at : {W : Type 0} → ℕ → Course W → Bool
-quiet_at {W} k course = go (slice_get course.chips k)
-  where
-    go : Option (ChipRun W) → Bool
-    go None = true
-    go (Some c) = c.quiet
+quiet_at k course = quiet_of (slice_get course.chips k)
+
+-- in a course, the attach of each chip was quiet just where the trace of what befell the chip says so
+abbrev pub AreQuietAsTraced : {W : Type 0} → FaultModel W → List (ChipState W) → List ChipBoot → Course W → Type 0
+AreQuietAsTraced {W} model starts lives course =
+    (k : ℕ) (s : ChipState W) (b : ChipBoot) → slice_get starts k ≡ Some s → slice_get lives k ≡ Some b →
+    quiet_at k course ≡ was_quiet model s (events_in b.attach)
+
+-- and so in each course of a run, the boots of which began in these states and in those that the courses left
+abbrev pub AreAllQuietAsTraced : {W : Type 0} → FaultModel W → List (ChipState W) → List (List ChipBoot) → List (Course W) → Type 0
+AreAllQuietAsTraced model starts lives [] = ⊤
+AreAllQuietAsTraced model starts lives (course ∷ courses) =
+    AreQuietAsTraced model starts (first_boots lives) course
+    × AreAllQuietAsTraced model (end_states course) (later_boots lives) courses
 
 -- a session of a boot at its start
 abbrev pub session_at_start : {W : Type 0} → Boot → List (ChipState W) → ℕ → List Command → SessionRun
@@ -73,6 +86,7 @@ pub record CoursesAreFaithful {W : Type 0} (model : FaultModel W) (boot : Boot) 
   pub log : Log
   pub counted : (course_after model boot starts attaches turns).events ≡ length log
   pub of_log : AreOfLog model boot starts lives (end_states (course_after model boot starts attaches turns)) log
+  pub quiet : AreQuietAsTraced model starts lives (course_after model boot starts attaches turns)
   pub one_thread : AreOneThread model boot.partitions starts (map (λ (b : ChipBoot). b ∷ []) lives) ((course_after model boot starts attaches turns).notes ∷ [])
   pub in_order : HaveOneNumberEach boot.sessions → AreInOrder boot starts (course_after model boot starts attaches turns).notes
   pub complete : HaveOneNumberEach boot.sessions → is_over (course_after model boot starts attaches turns) ≡ true
@@ -84,6 +98,7 @@ pub record RunsAreFaithful {W : Type 0} (model : FaultModel W) (partitions : Par
   pub logs : List Log
   pub counted : map (λ (c : Course W). c.events) courses ≡ map (λ (log : Log). length log) logs
   pub of_logs : AreOfLogs model starts boots courses lives logs
+  pub quiet : AreAllQuietAsTraced model starts lives courses
   pub one_thread : AreOneThread model partitions starts lives (map (λ (c : Course W). c.notes) courses)
   pub in_order : AllZip (λ boot notes. HaveOneNumberEach boot.sessions → AreInOrder boot starts notes) boots (map (λ (c : Course W). c.notes) courses)
   pub complete : AllZip (λ boot (course : Course W). HaveOneNumberEach boot.sessions → course.dark ≡ false → AreComplete boot starts course.notes) boots courses
@@ -105,7 +120,7 @@ MarksSurvive {W} partitions k g factory_bad courses =
     (n : ℕ) (course : Course W) (before after : List Note) (origin : Origin) (version copies : ℕ) (states : List ℕ) →
     slice_get courses n ≡ Some course → course.notes ≡ before ++ Attached k origin version copies true states ∷ after →
     IsFairAndQuiet k (take n courses) → IsTrue (is_fair k before) →
-    ShowsMarks partitions k g.blocks factory_bad (map (λ (c : Course W). c.notes) (take n courses)) states
+    ShowsMarks g partitions k factory_bad (map (λ (c : Course W). c.notes) (take n courses)) before states
 
 -- the first pages of the last four blocks whose marker is good, as they stand now
 abbrev pub candidates_now : {W : Type 0} → ChipState W → List (ℕ × List ℕ)
@@ -117,20 +132,42 @@ copy_in_use s =
     let cs : List (ℕ × List ℕ) = candidates_now s in
     used_copy (chosen s.geometry cs) (found s.geometry Primary cs) (found s.geometry Mirror cs)
 
--- the page of a place holds a copy with this version and these states
-abbrev pub HoldsLike : {W : Type 0} → ChipState W → ℕ → Copy → Type 0
-HoldsLike s block copy =
-    (seen : Copy) × (copy_in s.geometry (s.pages (first_page s.geometry block)).cells ≡ Some seen)
-    × (seen.version ≡ copy.version) × (seen.states ≡ copy.states)
+-- a copy that an attach would find, if it began now
+abbrev pub IsFoundNow : {W : Type 0} → ChipState W → ℕ → Copy → Type 0
+IsFoundNow s block copy = found s.geometry copy.which (candidates_now s) ≡ Some (block, copy)
 
--- one of the two places, other than the block that is being changed, holds what an attach would use
-pub record KeepsACopy {W : Type 0} (s : ChipState W) (places : Places) (changing : Option ℕ) : Type 0 where
-  pub which : Which
-  pub other : changing ≢ Some (place_of places which)
+-- a copy calls bad each block whose marking was acknowledged in these notes
+abbrev pub HasAcknowledged : Geometry → Partitions → ℕ → List (List Note) → Copy → Type 0
+HasAcknowledged g partitions k boots copy =
+    (b : ℕ) → b < g.blocks → IsTrue (list_any (marking_acknowledged partitions k b) boots) → IsTrue (calls_bad copy.states b)
+
+-- a block of the last four, other than the one that is being changed, holds a copy that an attach would find, and the newest copy that it would find has every mark that was acknowledged in these notes
+pub record KeepsACopy {W : Type 0} (partitions : Partitions) (k : ℕ) (s : ChipState W) (boots : List (List Note)) (changing : Option ℕ) : Type 0 where
   pub block : ℕ
   pub copy : Copy
-  pub used : copy_in_use s ≡ Some (block, copy)
-  pub holds : HoldsLike s (place_of places which) copy
+  pub other : changing ≢ Some block
+  pub is_found : IsFoundNow s block copy
+  pub newest : ℕ × Copy
+  pub used : copy_in_use s ≡ Some newest
+  pub marks : HasAcknowledged s.geometry partitions k boots newest.1
+
+-- the later of two found copies: its version is at most three steps ahead, and where they are equal, so are the tables
+pub record IsLater (earlier later : Copy) : Type 0 where
+  pub steps : ℕ
+  pub few : steps ≤ 3
+  pub version : later.version ≡ (earlier.version + steps) % 256
+  pub same : steps ≡ 0 → earlier.states ≡ later.states
+  pub covers : (b : ℕ) → calls_bad earlier.states b ≡ true → calls_bad later.states b ≡ true
+
+-- what the last four blocks hold, at each moment: the parts of the invariant that relocation names
+pub record CopiesAgree {W : Type 0} (s : ChipState W) : Type 0 where
+  pub two : (p m : ℕ) (primary mirror : Copy) → found s.geometry Primary (candidates_now s) ≡ Some (p, primary) → found s.geometry Mirror (candidates_now s) ≡ Some (m, mirror)
+      → IsLater primary mirror ⊎ IsLater mirror primary
+  pub covers : (n b : ℕ) (newest copy : Copy) → copy_in_use s ≡ Some (n, newest) → Contains (copies_held s.geometry (candidates_now s)) (b, copy)
+      → (c : ℕ) → calls_bad copy.states c ≡ true → calls_bad newest.states c ≡ true
+  pub disowned : (n b : ℕ) (newest copy : Copy) → copy_in_use s ≡ Some (n, newest) → Contains (copies_held s.geometry (candidates_now s)) (b, copy)
+      → is_disowned (copies_held s.geometry (candidates_now s)) b ≡ true → calls_bad newest.states b ≡ true
+  pub own : (n : ℕ) (newest : Copy) → copy_in_use s ≡ Some (n, newest) → calls_bad newest.states n ≡ false
 
 -- both places hold the table in memory, with reserved entries as good, under the version in memory
 pub record HoldsTheTable {W : Type 0} (s : ChipState W) (known : Known) : Type 0 where
@@ -138,14 +175,6 @@ pub record HoldsTheTable {W : Type 0} (s : ChipState W) (known : Known) : Type 0
       ≡ Some (record { which = Primary; version = known.version; states = read_again known.table })
   pub mirror : copy_in s.geometry (s.pages (first_page s.geometry known.places.mirror)).cells
       ≡ Some (record { which = Mirror; version = known.version; states = read_again known.table })
-
--- the places of a chip's two copies: until it is attached, those that an attach would find now
-abbrev pub places_now : {W : Type 0} → ChipRun W → Places
-places_now {W} c = go c.known
-  where
-    go : Option Known → Places
-    go None = places_of c.chip.geometry (candidates_now c.chip)
-    go (Some known) = known.places
 
 -- the block that an event changes
 abbrev pub block_changed : Geometry → Option PageEvent → Option ℕ
@@ -164,14 +193,16 @@ pub record IsFairAndQuietNow {W : Type 0} (k : ℕ) (past : List (Course W)) (co
   pub so_far : IsFairAndQuiet k (past ++ course ∷ [])
   pub now : IsTrue (is_quiet c.chip.geometry c.chip.pages)
 
--- (Not proved yet.) In a boot that comes after these courses of a run of new chips: once an attach would use a copy of a chip with tables, one of its two places that is not being changed holds what an attach would use, at each later moment. The first moment of a boot is the last one of the boot before it.
+-- (Not proved yet.) In a boot that comes after these courses of a run of new chips: once an attach would use a copy of a chip with tables, at each later moment the copies agree, a block of its last four that is not being changed holds a copy that an attach would find, and the newest copy that it would find has every acknowledged mark. The first moment of a boot is the last one of the boot before it.
 abbrev pub OneCopyStays : {W : Type 0} → FaultModel W → ℕ → Geometry → List ℕ → List (Course W) → Boot → List (ChipState W) → Type 0
 OneCopyStays {W} model k g factory_bad past boot starts =
     has_tables g ≡ true → HasTableBlocks g factory_bad →
     (attaches more : ℕ) (turns later : List ℕ) (before now : ChipRun W) →
     IsFairAndQuietNow k past (course_after model boot starts attaches turns) before → IsSome (copy_in_use before.chip) →
     IsFairAndQuietNow k past (course_after model boot starts (attaches + more) (turns ++ later)) now →
-    KeepsACopy now.chip (places_now now) (block_in_change boot.partitions (course_after model boot starts (attaches + more) (turns ++ later)) now)
+    CopiesAgree now.chip × KeepsACopy boot.partitions k now.chip
+    (map (λ (c : Course W). c.notes) past ++ (course_after model boot starts (attaches + more) (turns ++ later)).notes ∷ [])
+    (block_in_change boot.partitions (course_after model boot starts (attaches + more) (turns ++ later)) now)
 
 -- (Not proved yet.) In such a boot: while a chip with tables is attached, nothing is pending on it and its whole copies are two, both places hold the table in memory.
 abbrev pub WholeCopiesHoldTheTable : {W : Type 0} → FaultModel W → ℕ → Geometry → List ℕ → List (Course W) → Boot → List (ChipState W) → Type 0

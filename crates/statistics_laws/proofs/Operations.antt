@@ -1,5 +1,5 @@
 -- How an operation ends, as far as ECC statistics go.
-use Rattle.std.proofs.Common.{◌≡◌, ◌⊎◌, inl, inr, ℕ, ◌+◌, ◌≤◌, Bool, true, false, not, ◌||◌, ◌==◌, List, [], ◌∷◌, Option, Some, None, refl, ap, sym, arith, subst}
+use Rattle.std.proofs.Common.{◌≡◌, ◌⊎◌, inl, inr, ℕ, zero, suc, ◌+◌, ◌≤◌, Bool, true, false, not, ◌||◌, ◌==◌, List, [], ◌∷◌, Option, Some, None, refl, ap, sym, arith, subst}
 use Rattle.std.specs.Prelude.{nat_le, slice_index, ◌/◌, if◌then◌else◌}
 use Rattle.std.proofs.lemmas.Option.{none-some, same_Some}
 use Rattle.nand_model.specs.declared.geometry.Geometry.{Geometry}
@@ -10,15 +10,15 @@ use Rattle.nand_model.specs.declared.words.Op.{Op}
 use Rattle.nand_model.specs.declared.words.Op.TheVariants.{Read, Write, RawRead, RawWrite, Erase, IsBad, Mark, Stats}
 use Rattle.nand_model.specs.declared.words.Reply.{Reply}
 use Rattle.nand_model.specs.declared.words.Reply.TheVariants.{Done, OutOfRange, BadBlock, MarkerByte, ProgramFailed, EraseFailed, MarkerFailed, TableFailed, Reserved, Copies, State}
-use Rattle.nand_model.specs.declared.words.Which.TheVariants.{Primary, Mirror}
+use Rattle.nand_model.specs.declared.words.Which.{Which}
 use Rattle.nand_model.specs.Chip.{ReadEvent, ProgramEvent, EraseEvent}
 use Rattle.nand_model.specs.Path.{Answer, Path, Over, Then, after_answers, cells_of, either, is_failure, is_good, result_of}
-use Rattle.nand_model.specs.Table.{has_tables, table_page}
-use Rattle.chip_paths.specs.Attach.{write_copy}
+use Rattle.nand_model.specs.Table.{has_tables}
+use Rattle.chip_paths.specs.Writing.{Writing, written_on, writing_step, writing_within, most_events}
 use Rattle.nand_model.specs.Sizes.{first_page}
 use Rattle.nand_model.specs.Page.{Decoding, decoded, page_image}
 use Rattle.nand_model.specs.declared.words.Stats.{Stats as Statistics}
-use Rattle.chip_paths.specs.Operation.{Finished, Known, after_read, answer, chip_block, chip_page, done_or, entry_of, has_block, has_page, is_good_block, mark_block, mark_path, mark_reply, only_if, operation_by, operation_in, operation_path, raw_reply, with_mark, write_tables}
+use Rattle.chip_paths.specs.Operation.{Finished, Known, after_writing, mark_writing, writing_reply, after_read, answer, chip_block, chip_page, done_or, entry_of, has_block, has_page, is_good_block, mark_block, mark_path, mark_reply, only_if, operation_by, operation_in, operation_path, raw_reply, with_mark, write_tables}
 use Rattle.nand_model.specs.Partitions.{Partitions, device_of, part_of}
 use Rattle.statistics_laws.specs.Counts.{reads_in}
 use Rattle.statistics_laws.proofs.Decoding.{corrected_small, failed_small}
@@ -56,29 +56,22 @@ module _ (g : Geometry) (k : Known) where
         → EndsIn P (only_if b k refusal go_on)
     if_ends b refusal go_on h i = either_ends b go_on (λ u. answer k refusal) i h
 
-    -- a copy's writing, where both ways of going on end so
-    copy_ends : (block : ℕ) (image : Unit {0} → List ℕ) (go_on : Bool → Path Finished) → ((good : Bool) → EndsIn P (go_on good))
-        → EndsIn P (write_copy g block image go_on)
-    copy_ends block image go_on h = λ erased. either_ends (is_good erased) (λ u. Then (ProgramEvent (first_page g block) (image tt))
-        (λ programmed. go_on (is_good programmed))) (λ u. go_on false) (λ programmed. h (is_good programmed)) (h false)
+    -- a writing, where each way of going on ends so
+    writing_ends : (n : ℕ) (w : Writing) (go_on : Writing → Path Finished) → ((v : Writing) → EndsIn P (go_on v)) → EndsIn P (writing_within n g w go_on)
+    writing_ends zero w go_on h = h w
+    writing_ends (suc n) w go_on h = on (λ v. writing_ends n v go_on h) w.left
+      where
+        on : ((v : Writing) → EndsIn P (writing_within n g v go_on)) → (l : List Which)
+            → EndsIn P (writing_step g w l (λ u. go_on w) (λ answer. writing_within n g (written_on g w answer) go_on))
+        on later [] = h w
+        on later (which ∷ more) = λ answer. later (written_on g w answer)
 
     -- the writing of both tables
-    tables_end : (m : Known) (marker : Answer) → ((copies : ℕ) (reply : Reply) → P (record { reply = reply; known = record m { copies = copies } }))
+    tables_end : (m : Known) (marker : Answer) → ((known : Known) (reply : Reply) → known.statistics ≡ m.statistics → P (record { reply = reply; known = known }))
         → EndsIn P (write_tables g m marker)
     tables_end m marker h =
-        copy_ends m.places.primary (λ u. table_page g Primary m.version m.table)
-        (λ primary. either primary (λ u. write_copy g m.places.mirror (λ u. table_page g Mirror m.version m.table) after_mirror)
-        (λ u. answer (record m { copies = 1 }) (mark_reply marker (TableFailed Primary))))
-        (λ primary. either_ends primary (λ u. write_copy g m.places.mirror (λ u. table_page g Mirror m.version m.table) after_mirror)
-        (λ u. answer (record m { copies = 1 }) (mark_reply marker (TableFailed Primary)))
-        (copy_ends m.places.mirror (λ u. table_page g Mirror m.version m.table) after_mirror
-        (λ mirror. either_ends mirror (λ u. answer m (mark_reply marker Done)) (λ u. answer (record m { copies = 1 })
-        (mark_reply marker (TableFailed Mirror))) (h m.copies (mark_reply marker Done)) (h 1 (mark_reply marker (TableFailed Mirror)))))
-        (h 1 (mark_reply marker (TableFailed Primary))))
-      where
-        after_mirror : Bool → Path Finished
-        after_mirror mirror = either mirror (λ u. answer m (mark_reply marker Done)) (λ u. answer (record m { copies = 1 })
-            (mark_reply marker (TableFailed Mirror)))
+        writing_ends (most_events (mark_writing m)) (mark_writing m) (λ w. answer (after_writing m w) (mark_reply marker (writing_reply w.failed)))
+        (λ w. h (after_writing m w) (mark_reply marker (writing_reply w.failed)) refl)
 
     mark_ends : (block : ℕ) → ((known : Known) (reply : Reply) → known.statistics ≡ k.statistics → P (record { reply = reply; known = known }))
         → EndsIn P (mark_block g k block)
@@ -90,7 +83,7 @@ module _ (g : Geometry) (k : Known) where
         (if_ends (is_good_block k block) Done (λ u. mark_path g k block) (h k Done refl)
         (λ erased marker. either_ends (has_tables g) (λ u. write_tables g (with_mark g k block) marker)
         (λ u. either (is_failure marker) (λ u. answer k MarkerFailed) (λ u. answer (with_mark g k block) Done))
-        (tables_end (with_mark g k block) marker (λ copies reply. h (record (with_mark g k block) { copies = copies }) reply refl))
+        (tables_end (with_mark g k block) marker h)
         (either_ends (is_failure marker) (λ u. answer k MarkerFailed) (λ u. answer (with_mark g k block) Done) (h k MarkerFailed refl)
         (h (with_mark g k block) Done refl)))))
 

@@ -105,7 +105,10 @@ impl Work {
 }
 
 impl State {
+    ghost use Rattle.command_model.specs.Command.{next_in};
     ghost use Rattle.nand_model.specs.declared.geometry.Geometry.{Geometry as Sizes};
+    ghost use Rattle.tool_steps.specs.Steps.{is_over};
+    ghost use Rattle.tool_steps.specs.Work.{script_left};
 
     /// Whether the command is over.
     pub fn is_over(&self) -> bool

@@ -8,15 +8,17 @@ use Rattle.nand_model.specs.declared.words.Part.{Part}
 use Rattle.nand_model.specs.declared.words.Op.{Op}
 use Rattle.nand_model.specs.declared.words.Op.TheVariants.{Read, Write, RawRead, RawWrite, Erase, IsBad, Mark, Stats}
 use Rattle.nand_model.specs.declared.words.Reply.TheVariants.{Done, OutOfRange, BadBlock, MarkerByte, ProgramFailed, EraseFailed, MarkerFailed, TableFailed, Reserved, Copies, State}
-use Rattle.nand_model.specs.declared.words.Which.TheVariants.{Primary, Mirror}
+use Rattle.nand_model.specs.declared.words.Which.{Which}
 use Rattle.nand_model.specs.Chip.{ChipState, FaultModel, ChipEvent, Complete, PowerCut, Flipped, PageEvent, ReadEvent, ProgramEvent, EraseEvent, happens}
 use Rattle.nand_model.specs.Path.{Answer, Path, Over, Then, either, is_good, is_failure, cells_of, next_event, answer_to, GoesAlong, answers_of}
-use Rattle.nand_model.specs.Table.{has_tables, table_page}
-use Rattle.chip_paths.specs.Attach.{write_copy, read_first_pages, attach_path, attach_by}
+use Rattle.turn_laws.specs.Laws.{events_of_operation}
+use Rattle.chip_paths.specs.Writing.{Writing, written_on, writing_step, writing_within}
+use Rattle.nand_model.specs.Table.{has_tables}
+use Rattle.chip_paths.specs.Attach.{read_first_pages, attach_path, attach_by}
 use Rattle.nand_model.specs.Sizes.{numbers_from, first_page}
 use Rattle.nand_model.specs.Page.{decoded, page_image}
 use Rattle.nand_model.specs.Partitions.{Partitions, part_of, device_of}
-use Rattle.chip_paths.specs.Operation.{Known, Finished, answer, only_if, done_or, has_page, has_block, chip_page, chip_block, entry_of, is_good_block, raw_reply, after_read, mark_reply, write_tables, with_mark, mark_path, mark_block, operation_in, operation_by, operation_path}
+use Rattle.chip_paths.specs.Operation.{Known, Finished, answer, only_if, done_or, has_page, has_block, chip_page, chip_block, entry_of, is_good_block, raw_reply, after_read, mark_reply, writing_reply, mark_writing, after_writing, write_tables, with_mark, mark_path, mark_block, operation_in, operation_by, operation_path}
 
 -- whatever the answers, a path has no more events than this
 abbrev pub Within : {A : Type 0} → ℕ → Path A → Type 0
@@ -29,63 +31,51 @@ more_within n (Over result) h = tt
 more_within zero (Then event rest) h = absurd h
 more_within (suc n) (Then event rest) h = λ answer. more_within n (rest answer) (h answer)
 
--- a copy is written with two events
-copy_within : {A : Type 0} (g : Geometry) (n block : ℕ) (image : Unit {0} → List ℕ) (go_on : Bool → Path A) → ((good : Bool) → Within n (go_on good))
-    → Within (suc (suc n)) (write_copy g block image go_on)
-copy_within g n block image go_on h = λ erased. by_erase (is_good erased)
+within_more : {A : Type 0} (n : ℕ) (path : Path A) → Within 0 path → Within n path
+within_more n (Over result) h = tt
+within_more n (Then event rest) h = absurd h
+
+-- a writing has no more events than this
+writing_fits : {A : Type 0} (g : Geometry) (n : ℕ) (w : Writing) (go_on : Writing → Path A) → ((v : Writing) → Within 0 (go_on v)) → Within n (writing_within n g w go_on)
+writing_fits g zero w go_on h = h w
+writing_fits g (suc n) w go_on h = on (λ v. writing_fits g n v go_on h) w.left
   where
-    by_erase : (good : Bool) → Within (suc n) (either good (λ u. Then (ProgramEvent (first_page g block) (image tt))
-        (λ programmed. go_on (is_good programmed))) (λ u. go_on false))
-    by_erase true = λ programmed. h (is_good programmed)
-    by_erase false = more_within n (go_on false) (h false)
+    on : ((v : Writing) → Within n (writing_within n g v go_on)) → (l : List Which)
+        → Within (suc n) (writing_step g w l (λ u. go_on w) (λ answer. writing_within n g (written_on g w answer) go_on))
+    on later [] = within_more (suc n) (go_on w) (h w)
+    on later (which ∷ more) = λ answer. later (written_on g w answer)
 
--- both copies are written with four
-tables_within : (g : Geometry) (k : Known) (marker : Answer) → Within 4 (write_tables g k marker)
-tables_within g k marker = copy_within g 2 k.places.primary (λ u. table_page g Primary k.version k.table) after_primary primary_within
-  where
-    after_mirror : Bool → Path Finished
-    after_mirror mirror = either mirror (λ u. answer k (mark_reply marker Done)) (λ u. answer (record k { copies = 1 })
-        (mark_reply marker (TableFailed Mirror)))
-
-    after_primary : Bool → Path Finished
-    after_primary primary = either primary (λ u. write_copy g k.places.mirror (λ u. table_page g Mirror k.version k.table) after_mirror)
-        (λ u. answer (record k { copies = 1 }) (mark_reply marker (TableFailed Primary)))
-
-    mirror_within : (mirror : Bool) → Within 0 (after_mirror mirror)
-    mirror_within true = tt
-    mirror_within false = tt
-
-    primary_within : (primary : Bool) → Within 2 (after_primary primary)
-    primary_within true = copy_within g 0 k.places.mirror (λ u. table_page g Mirror k.version k.table) after_mirror mirror_within
-    primary_within false = tt
+-- both copies are written with four events, and with four more after each of two changes of place
+tables_within : (g : Geometry) (k : Known) (marker : Answer) → Within 12 (write_tables g k marker)
+tables_within g k marker = writing_fits g 12 (mark_writing k) (λ w. answer (after_writing k w) (mark_reply marker (writing_reply w.failed))) (λ w. tt)
 
 -- what follows the marker of a mark
 marked_within : (g : Geometry) (k : Known) (block : ℕ) (marker : Answer) (tables failed : Bool)
-    → Within 4 (either tables (λ u. write_tables g (with_mark g k block) marker) (λ u. either failed (λ v. answer k MarkerFailed)
+    → Within 12 (either tables (λ u. write_tables g (with_mark g k block) marker) (λ u. either failed (λ v. answer k MarkerFailed)
     (λ v. answer (with_mark g k block) Done)))
 marked_within g k block marker true failed = tables_within g (with_mark g k block) marker
 marked_within g k block marker false true = tt
 marked_within g k block marker false false = tt
 
-mark_within : (g : Geometry) (k : Known) (block : ℕ) → Within 6 (mark_path g k block)
+mark_within : (g : Geometry) (k : Known) (block : ℕ) → Within events_of_operation (mark_path g k block)
 mark_within g k block = λ erased marker. marked_within g k block marker (has_tables g) (is_failure marker)
 
 block_within : (g : Geometry) (k : Known) (block : ℕ) (reserved copied bad : Bool)
-    → Within 6 (only_if reserved k Reserved (λ u. only_if copied k (Copies k.copies) (λ v. only_if bad k Done (λ w. mark_path g k block))))
+    → Within events_of_operation (only_if reserved k Reserved (λ u. only_if copied k (Copies k.copies) (λ v. only_if bad k Done (λ w. mark_path g k block))))
 block_within g k block false copied bad = tt
 block_within g k block true false bad = tt
 block_within g k block true true false = tt
 block_within g k block true true true = mark_within g k block
 
 write_within : (page : ℕ) (image : List ℕ) (k : Known) (there good : Bool)
-    → Within 6 (only_if there k OutOfRange (λ u. only_if good k BadBlock (λ v. Then (ProgramEvent page image)
+    → Within events_of_operation (only_if there k OutOfRange (λ u. only_if good k BadBlock (λ v. Then (ProgramEvent page image)
     (λ outcome. answer k (done_or ProgramFailed outcome)))))
 write_within page image k false good = tt
 write_within page image k true false = tt
 write_within page image k true true = λ outcome. tt
 
 raw_write_within : (page : ℕ) (image : List ℕ) (k : Known) (there good marker : Bool)
-    → Within 6 (only_if there k OutOfRange (λ u. only_if good k BadBlock (λ v. only_if marker k MarkerByte
+    → Within events_of_operation (only_if there k OutOfRange (λ u. only_if good k BadBlock (λ v. only_if marker k MarkerByte
     (λ w. Then (ProgramEvent page image) (λ outcome. answer k (done_or ProgramFailed outcome))))))
 raw_write_within page image k false good marker = tt
 raw_write_within page image k true false marker = tt
@@ -93,21 +83,21 @@ raw_write_within page image k true true false = tt
 raw_write_within page image k true true true = λ outcome. tt
 
 erase_within : (block : ℕ) (k : Known) (there good : Bool)
-    → Within 6 (only_if there k OutOfRange (λ u. only_if good k BadBlock (λ v. Then (EraseEvent block) (λ outcome. answer k (done_or EraseFailed outcome)))))
+    → Within events_of_operation (only_if there k OutOfRange (λ u. only_if good k BadBlock (λ v. Then (EraseEvent block) (λ outcome. answer k (done_or EraseFailed outcome)))))
 erase_within block k false good = tt
 erase_within block k true false = tt
 erase_within block k true true = λ outcome. tt
 
-read_within : (page : ℕ) (k : Known) (after : Answer → Finished) (there : Bool) → Within 6
+read_within : (page : ℕ) (k : Known) (after : Answer → Finished) (there : Bool) → Within events_of_operation
     (only_if there k OutOfRange (λ u. Then (ReadEvent page) (λ seen. Over (after seen))))
 read_within page k after false = tt
 read_within page k after true = λ seen. tt
 
-ask_within : (k : Known) (state : Unit {0} → Path Finished) → Within 6 (state tt) → (there : Bool) → Within 6 (only_if there k OutOfRange state)
+ask_within : (k : Known) (state : Unit {0} → Path Finished) → Within events_of_operation (state tt) → (there : Bool) → Within events_of_operation (only_if there k OutOfRange state)
 ask_within k state h false = tt
 ask_within k state h true = h
 
-in_within : (g : Geometry) (k : Known) (part : Part) (op : Op) → Within 6 (operation_in g k part op)
+in_within : (g : Geometry) (k : Known) (part : Part) (op : Op) → Within events_of_operation (operation_in g k part op)
 in_within g k part (Read dev page) = read_within (chip_page g part page) k (λ seen. after_read g k dev (decoded g (cells_of seen))) (has_page g part page)
 in_within g k part (RawRead dev page) = read_within (chip_page g part page) k (λ seen. record { reply = raw_reply (cells_of seen); known = k })
     (has_page g part page)
@@ -125,12 +115,12 @@ in_within g k part (Mark dev block) =
     (has_block part block)
 in_within g k part (Stats dev) = tt
 
-by_within : (g : Geometry) (k : Known) (part : Option Part) (op : Op) → Within 6 (operation_by g k part op)
+by_within : (g : Geometry) (k : Known) (part : Option Part) (op : Op) → Within events_of_operation (operation_by g k part op)
 by_within g k None op = tt
 by_within g k (Some part) op = in_within g k part op
 
--- an operation has at most six events: those of a mark with its two tables
-pub operation_within : (g : Geometry) (partitions : Partitions) (k : Known) (op : Op) → Within 6 (operation_path g partitions k op)
+-- an operation has at most as many events as a mark with its two tables
+pub operation_within : (g : Geometry) (partitions : Partitions) (k : Known) (op : Op) → Within events_of_operation (operation_path g partitions k op)
 operation_within g partitions k op = by_within g k (part_of partitions (device_of op)) op
 
 -- after so many answers there is no event left

@@ -1,5 +1,5 @@
 -- Each turn that is not idle uses up something of what the commands of a boot cost.
-use Rattle.std.proofs.Common.{◌≡◌, ◌⊎◌, inl, inr, ℕ, zero, suc, ◌+◌, ◌*◌, ◌≤◌, ◌<◌, Bool, true, false, not, ◌&&◌, ◌||◌, List, [], ◌∷◌, ◌++◌, length, Option, Some, None, refl, ap, sym, ◌∙◌, subst, arith, length-append}
+use Rattle.std.proofs.Common.{◌-◌, ◌≡◌, ◌⊎◌, inl, inr, ℕ, zero, suc, ◌+◌, ◌*◌, ◌≤◌, ◌<◌, Bool, true, false, not, ◌&&◌, ◌||◌, List, [], ◌∷◌, ◌++◌, length, Option, Some, None, refl, ap, sym, ◌∙◌, subst, arith, length-append}
 use Rattle.std.specs.Prelude.{slice_get, sum_by, fold, filter, find, is_none, is_some, ◌==◌, if◌then◌else◌}
 use Rattle.std.proofs.lemmas.Bool.{cases_lt, false≢true, or_parts}
 use Rattle.std.proofs.lemmas.Option.{none-some, same_Some, slice_get_within}
@@ -9,6 +9,7 @@ use Rattle.nand_model.specs.declared.words.Op.{Op}
 use Rattle.nand_model.specs.declared.words.Note.{Note}
 use Rattle.nand_model.specs.Chip.{ChipState, FaultModel, ChipEvent, PageEvent, Complete, happens}
 use Rattle.nand_model.specs.Path.{answer_to}
+use Rattle.turn_laws.specs.Laws.{events_of_operation, steps_of_operation}
 use Rattle.chip_paths.specs.Operation.{Known, Finished, operation_path}
 use Rattle.nand_model.specs.Partitions.{device_of, chip_of}
 use Rattle.chip_paths.specs.ChipRun.{ChipRun, Pending, next_event_by, next_chip_event, with_pending, with_finished, with_flips, answered_by, pending_after, advanced}
@@ -61,18 +62,18 @@ module _ {W : Type 0} (model : FaultModel W) (boot : Boot) (starts : List (ChipS
   -- an operation in flight has had at most six events
   used_at : (k : ℕ) (s : ChipState W) (c : ChipRun W) (notes : List Note) (whole : List (ℕ × ChipEvent)) (known : Option Known) (pending : Option Pending)
       → c.pending ≡ pending
-      → ChipLawAt model boot.partitions k s c notes whole known pending → used_by pending ≤ 7
-  used_at k s c notes whole None pending e law = subst (λ (p : Option Pending). used_by p ≤ 7) (sym law.idle ∙ e) (omega arith)
+      → ChipLawAt model boot.partitions k s c notes whole known pending → used_by pending ≤ steps_of_operation - 1
+  used_at k s c notes whole None pending e law = subst (λ (p : Option Pending). used_by p ≤ steps_of_operation - 1) (sym law.idle ∙ e) (omega arith)
   used_at k s c notes whole (Some known) None e law = omega arith
   used_at k s c notes whole (Some known) (Some pending) e law =
-      let few : length pending.answers ≤ 6 =
-      answers_within model 6 (operation_path law.rested.geometry boot.partitions known pending.op)
+      let few : length pending.answers ≤ events_of_operation =
+      answers_within model events_of_operation (operation_path law.rested.geometry boot.partitions known pending.op)
       (operation_within law.rested.geometry boot.partitions known pending.op)
       law.rested (events_in law.trace) pending.answers law.goes.along law.goes.answers_are in
       omega (arith, few)
 
   module _ (course : Course W) (live : IsLive model boot starts course) where
-    pub use_bound : (k : ℕ) (c : ChipRun W) → slice_get course.chips k ≡ Some c → used_by c.pending ≤ 7
+    pub use_bound : (k : ℕ) (c : ChipRun W) → slice_get course.chips k ≡ Some c → used_by c.pending ≤ steps_of_operation - 1
     use_bound k c at =
         let p = place_start (LawOf model boot starts (by_log model boot starts live.log) k) (notes_of_chip boot.partitions k course.notes)
         (slice_get starts k) (slice_get course.chips k) c at (live.chips k) in
@@ -96,26 +97,26 @@ module _ {W : Type 0} (model : FaultModel W) (boot : Boot) (starts : List (ChipS
         by_order (inl less) = by_chip (slice_get starts (length starts)) refl (slice_get course.chips (length starts)) refl less
         by_order (inr enough) = enough
 
-    pub all_use : all_used course.chips ≤ 7 * length starts
+    pub all_use : all_used course.chips ≤ (steps_of_operation - 1) * length starts
     all_use =
-        let each : all_used course.chips ≤ 7 * length course.chips = sum-bound (λ (c : ChipRun W). used_by c.pending) 7 course.chips use_bound in
+        let each : all_used course.chips ≤ (steps_of_operation - 1) * length course.chips = sum-bound (λ (c : ChipRun W). used_by c.pending) (steps_of_operation - 1) course.chips use_bound in
         omega (arith, each, no_more_chips)
 
     -- an operation that has an event left has taken fewer
-    pub less_use : (k : ℕ) (c : ChipRun W) → slice_get course.chips k ≡ Some c → used_by c.pending + 1 ≤ 7 → all_used course.chips + 1 ≤ 7 * length starts
+    pub less_use : (k : ℕ) (c : ChipRun W) → slice_get course.chips k ≡ Some c → used_by c.pending + 1 ≤ steps_of_operation - 1 → all_used course.chips + 1 ≤ (steps_of_operation - 1) * length starts
     less_use k c at less =
-        let each : all_used course.chips + 1 ≤ 7 * length course.chips = sum-below
-        (λ (x : ChipRun W). used_by x.pending) 7 course.chips k c use_bound at less in
+        let each : all_used course.chips + 1 ≤ (steps_of_operation - 1) * length course.chips = sum-below
+        (λ (x : ChipRun W). used_by x.pending) (steps_of_operation - 1) course.chips k c use_bound at less in
         omega (arith, each, no_more_chips)
 
   -- what a turn that is not idle does
   pub data Spends (course new : Course W) : Type 0 where
     -- it takes one of the turns that are left
     Takes : new.dark ≡ false → EachGood (sizes_of boot starts) new.sessions
-        → 8 * all_left (sizes_of boot starts) new.sessions + all_used course.chips + 1 ≤ 8 * all_left
+        → steps_of_operation * all_left (sizes_of boot starts) new.sessions + all_used course.chips + 1 ≤ steps_of_operation * all_left
         (sizes_of boot starts) course.sessions + all_used new.chips → Spends course new
     -- or the controller goes dark
-    Darkens : new.dark ≡ true → all_used course.chips + 1 ≤ 7 * length starts → Spends course new
+    Darkens : new.dark ≡ true → all_used course.chips + 1 ≤ (steps_of_operation - 1) * length starts → Spends course new
 
   -- what an event adds to the turns of an operation
   advance_use : (now : ChipRun W) (e : PageEvent) (known : Known) (pending : Pending) → now.known ≡ Some known → now.pending ≡ Some pending
@@ -159,16 +160,16 @@ module _ {W : Type 0} (model : FaultModel W) (boot : Boot) (starts : List (ChipS
       abbrev flipped : List (ChipRun W)
       flipped = with_flips_before model boot (course.events + 1) course.chips
 
-      event_left : (e : PageEvent) → next_event_by boot.partitions c.chip c.attach_answers (Some known) (Some pending) ≡ Some e → used_by c.pending + 1 ≤ 7
+      event_left : (e : PageEvent) → next_event_by boot.partitions c.chip c.attach_answers (Some known) (Some pending) ≡ Some e → used_by c.pending + 1 ≤ steps_of_operation - 1
       event_left e next =
-          let few : length pending.answers < 6 = some_left 6 (operation_path c.chip.geometry boot.partitions known pending.op)
+          let few : length pending.answers < events_of_operation = some_left events_of_operation (operation_path c.chip.geometry boot.partitions known pending.op)
           (operation_within c.chip.geometry boot.partitions known pending.op) pending.answers e next in
           let so_far : used_by c.pending ≡ length pending.answers + 1 = ap used_by asks in
           omega (arith, few, so_far)
 
       done_spends : (now : ChipRun W) (e : PageEvent) (tear : Option Tear) → slice_get flipped k ≡ Some now → now.known ≡ Some known
           → now.pending ≡ Some pending
-          → used_by c.pending + 1 ≤ 7 → Spends course (event_done model boot course flipped k (course.events + 1) now e tear)
+          → used_by c.pending + 1 ≤ steps_of_operation - 1 → Spends course (event_done model boot course flipped k (course.events + 1) now e tear)
       done_spends now e None there now_knows now_asks less =
           let more = sum-change (λ (x : ChipRun W). used_by x.pending) flipped k now (λ old. advanced model now e) there in
           let before : used_by now.pending ≡ length pending.answers + 1 = ap used_by now_asks in
@@ -203,7 +204,7 @@ module _ {W : Type 0} (model : FaultModel W) (boot : Boot) (starts : List (ChipS
       answer_spends finished =
           let less = replied_costs (sizes_of boot starts) pending.session finished.reply course.sessions asker.0 pending.op good asker.1 asker.2 in
           let fewer = sum-change (λ (x : ChipRun W). used_by x.pending) course.chips k c (λ old. with_finished c finished) at in
-          let bound : used_by c.pending ≤ 7 = use_bound course live k c at in
+          let bound : used_by c.pending ≤ steps_of_operation - 1 = use_bound course live k c at in
           Takes live.lit (replied_good (sizes_of boot starts) pending.session finished.reply course.sessions good) (omega (arith, less, fewer, bound))
 
       pending_spends : (o : Option PageEvent) → next_event_by boot.partitions c.chip c.attach_answers (Some known) (Some pending) ≡ o
@@ -264,7 +265,7 @@ module _ {W : Type 0} (model : FaultModel W) (boot : Boot) (starts : List (ChipS
   -- the turns that do anything take what is left
   pub turns_taken_few : HaveOneNumberEach boot.sessions → (turns : List ℕ) (course : Course W) → IsLive model boot starts course
       → EachGood (sizes_of boot starts) course.sessions
-      → length (busy_turns model boot starts turns course) + all_used course.chips ≤ 8 * all_left (sizes_of boot starts) course.sessions + 7 * length starts
+      → length (busy_turns model boot starts turns course) + all_used course.chips ≤ steps_of_operation * all_left (sizes_of boot starts) course.sessions + (steps_of_operation - 1) * length starts
   turns_taken_few one [] course live good = omega (arith, all_use course live)
   turns_taken_few one (session ∷ turns) course live good =
       by_idle (is_idle boot.partitions (sizes_of boot starts) course session) refl (turn_step_holds model boot starts course session (inl live))
@@ -274,11 +275,11 @@ module _ {W : Type 0} (model : FaultModel W) (boot : Boot) (starts : List (ChipS
       next = turn_step model boot (sizes_of boot starts) course session
 
       Few : ℕ → Type 0
-      Few count = count + all_used course.chips ≤ 8 * all_left (sizes_of boot starts) course.sessions + 7 * length starts
+      Few count = count + all_used course.chips ≤ steps_of_operation * all_left (sizes_of boot starts) course.sessions + (steps_of_operation - 1) * length starts
 
       Later : Type 0
       Later = (now : Course W) → IsLive model boot starts now → EachGood (sizes_of boot starts) now.sessions
-          → length (busy_turns model boot starts turns now) + all_used now.chips ≤ 8 * all_left (sizes_of boot starts) now.sessions + 7 * length starts
+          → length (busy_turns model boot starts turns now) + all_used now.chips ≤ steps_of_operation * all_left (sizes_of boot starts) now.sessions + (steps_of_operation - 1) * length starts
 
       by_step : Holds model boot starts next → Later → Spends course next → Few (length (busy_turns model boot starts turns next) + 1)
       by_step (inl light) later (Takes lit kept spent) = omega (arith, later next light kept, spent)

@@ -1,16 +1,28 @@
 -- How long a boot is.
-use Rattle.std.specs.Prelude.{◌≡◌, ℕ, ◌+◌, ◌*◌, ◌≤◌, List, [], length, sum_by, All}
+use Rattle.std.specs.Prelude.{◌≡◌, ℕ, ◌+◌, ◌*◌, ◌-◌, ◌≤◌, List, [], length, sum_by, All}
 use Rattle.nand_model.specs.Chip.{ChipState, FaultModel}
 use Rattle.command_model.specs.Boot.{Boot}
 use Rattle.run_model.specs.Course.{course_after}
 use Rattle.run_laws.specs.Turns.{busy_turns}
 use Rattle.turn_laws.specs.Cost.{boot_cost}
 
+-- the most events of an operation: those of a mark, two for its block and twelve for its tables
+abbrev pub events_of_operation : ℕ
+events_of_operation = 14
+
+-- the most steps of an operation: its begin, its events and its answer
+abbrev pub steps_of_operation : ℕ
+steps_of_operation = events_of_operation + 2
+
+-- the most turns of a boot that do anything: the steps of each operation, and on each chip those of one that does not come to its end
+abbrev pub most_turns : {W : Type 0} → Boot → List (ChipState W) → ℕ
+most_turns boot starts = steps_of_operation * boot_cost boot starts + (steps_of_operation - 1) * length starts
+
 module _ {W : Type 0} (model : FaultModel W) (boot : Boot) (starts : List (ChipState W)) (attaches : ℕ) (turns : List ℕ) where
-  -- the turns that do anything: an operation has at most eight, its begin, six events and its answer, and seven more are those of an operation on each chip
+  -- the turns that do anything are few
   abbrev pub BusyTurnsAreFew : Type 0
   BusyTurnsAreFew =
-      length (busy_turns model boot starts turns (course_after model boot starts attaches [])) ≤ 8 * boot_cost boot starts + 7 * length starts
+      length (busy_turns model boot starts turns (course_after model boot starts attaches [])) ≤ most_turns boot starts
 
   -- each busy turn does at most one event
   abbrev pub EventsAreTurns : Type 0
