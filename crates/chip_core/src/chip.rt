@@ -6,7 +6,7 @@ ghost use Rattle.nand_model.specs.Counts.{HasRisen};
 ghost use Rattle.nand_model.specs.Path.{Data, answer_to, is_failure};
 ghost use Rattle.nand_model.specs.Quiet.{is_quiet};
 ghost use Rattle.nand_model.specs.declared.words.Fairness.TheVariants.{Plain};
-ghost use Rattle.nand_iface.specs.Flash.{FitsBits};
+ghost use Rattle.nand_model.specs.Flips.{FitsBits};
 ghost use Rattle.chip_paths.specs.Stage.{Rests, failure_told, finished_in, first_stage, is_attached, is_resting, is_working, news_after, note_of_news, stage_after, stage_begun, stage_event, stage_statistics, stage_table};
 ghost use Rattle.chip_core.specs.Begin.{CanBegin};
 ghost use Rattle.chip_core.specs.Phase.{AttachFits, KnowsQuiet, KnowsQuiet-prop, PhaseFits, PhaseFits-prop, news_in, phase_stage, programs_left};

@@ -17,19 +17,22 @@ use Rattle.nand_model.specs.declared.words.Command.TheVariants.{FlashErase as To
 use Rattle.nand_model.specs.declared.words.Flip.{Flip}
 use Rattle.nand_model.specs.declared.words.Part.{Part}
 use Rattle.command_model.specs.Command.{command_device, cost_of}
-use Rattle.command_model.specs.Boot.{geometry_for, geometry_of_chip}
-use Rattle.run_model.specs.Course.{sizes_of as sizes_for}
+use Rattle.command_model.specs.Cost.{command_cost, troubled_blocks}
+use Rattle.command_model.specs.Boot.{AreAscending, geometry_for, geometry_of_chip}
 use Rattle.plan_model.specs.Plan.{ChipPlan, items_of, new_chips}
 use Rattle.report_model.specs.Report.{line}
 use Rattle.report_model.proofs.Checked.{this_passes}
-use Rattle.tool_steps.specs.Stage.{CanRun, IsDeviceSize, device_size}
+use Rattle.command_model.specs.Runnable.{CanRun, IsDeviceSize}
+use Rattle.command_model.specs.Command.{command_blocks}
 use Rattle.tool_steps.proofs.Scripts.{cost_of-short}
+use Rattle.tool_steps.proofs.Ends.{all_troubled}
 use Rattle.several_chip_plan.specs.SeveralChips.{IsChip, IsCommand, IsFlip, IsPageOffset, IsPlan, IsSeveralChipPlan, blocks_of, chip_of, chip_text, data_text, command_of, command_text, flip_text, geometry_of, plan_text, schedule_text, session_text, sizes_of}
 use Rattle.several_chip_plan.specs.declared.lines.ChipLines.{ChipLines}
 use Rattle.several_chip_plan.specs.declared.lines.CommandLine.{CommandLine}
 use Rattle.several_chip_plan.specs.declared.lines.CommandLine.TheVariants.{RawWrite, NandWrite, RawDump, NandDump, NandDumpAt, FlashErase, IsBad, Stats}
 use Rattle.several_chip_plan.specs.declared.lines.PlanLines.{PlanLines}
-use Rattle.chips_boot.specs.Ready.{AllCommands, AreAscending, IsOfDevice, IsOnChip, IsOnFlash, IsReady, the_boot, the_chips}
+use Rattle.run_model.specs.Start.{CanRunBoot, CanStart, IsOfDevice, IsOnChip, IsOnFlash, IsPlain}
+use Rattle.chips_boot.specs.Ready.{the_boot, the_chips}
 use Rattle.chips_boot.proofs.Devices.{length-parts_by, part_at, part_for, parts_by}
 use Rattle.chips_boot.proofs.Sessions.{session_for, sessions_by}
 
@@ -125,10 +128,10 @@ module _ (chips : List ChipLines) (payload : List ℕ) (legal : All IsChip chips
   pub record IsGood (command : Command) : Type 0 where
     pub of_device : IsOfDevice (devices_by chips) command
     pub runs : CanRun (sizes command) command
-    pub cheap : cost_of (sizes command) command (device_size command) ≤ 1073
+    pub cheap : cost_of (sizes command) command (troubled_blocks (sizes command) command) ≤ 1073
 
   -- the device of a command that names its blocks
-  found_for : (command : Command) (dev : ℕ) (d : HasDevice chips dev) → command_device command ≡ dev → device_size command ≡ blocks_of chips dev
+  found_for : (command : Command) (dev : ℕ) (d : HasDevice chips dev) → command_device command ≡ dev → command_blocks command ≡ blocks_of chips dev
       → IsOfDevice (devices_by chips) command
   found_for command dev d names size =
       (part_for dev d.chip, ap (part_of (devices_by chips)) names ∙ part_found dev d, size ∙ blocks_found dev d)
@@ -140,18 +143,19 @@ module _ (chips : List ChipLines) (payload : List ℕ) (legal : All IsChip chips
       let most = (part_small d.chip d.legal).1 in (omega (arith, same, least), omega (arith, same, most))
 
   -- a command that can be run takes few operations
-  few_operations : (g : Geometry) (command : Command) → CanRun g command → g.pages_per_block ≡ 64 → device_size command ≤ 16 → cost_of g command (device_size command) ≤ 1073
-  few_operations g (ToErase dev blocks no_scan start count) h pages few = rw (cost_of-short g (ToErase dev blocks no_scan start count) blocks h) (omega (arith, few))
+  few_operations : (g : Geometry) (command : Command) → CanRun g command → g.pages_per_block ≡ 64 → command_blocks command ≤ 16 → cost_of g command (troubled_blocks g command) ≤ 1073
+  few_operations g (ToErase dev blocks no_scan start count) h pages few = rw (cost_of-short g (ToErase dev blocks no_scan start count) 0 h) (omega (arith, few))
   few_operations g (ToWrite dev blocks mark raw oob pad off bytes) h pages few =
-      rw (cost_of-short g (ToWrite dev blocks mark raw oob pad off bytes) blocks h) (rw pages (omega (arith, few)))
-  few_operations g (ToDump dev blocks off len raw oob bad) h pages few = rw (cost_of-short g (ToDump dev blocks off len raw oob bad) blocks h) (omega arith)
-  few_operations g (ToAsk dev blocks block) h pages few = rw (cost_of-short g (ToAsk dev blocks block) blocks h) (omega arith)
+      rw (all_troubled g dev blocks mark raw oob pad off bytes h)
+      (rw (cost_of-short g (ToWrite dev blocks mark raw oob pad off bytes) blocks h) (rw pages (omega (arith, few))))
+  few_operations g (ToDump dev blocks off len raw oob bad) h pages few = rw (cost_of-short g (ToDump dev blocks off len raw oob bad) 0 h) (omega arith)
+  few_operations g (ToAsk dev blocks block) h pages few = rw (cost_of-short g (ToAsk dev blocks block) 0 h) (omega arith)
   few_operations g (ToTest dev blocks keep mark seed passes off len) h pages few = absurd h
   few_operations g (ToMark dev blocks block) h pages few = absurd h
-  few_operations g (ToCount dev blocks) h pages few = rw (cost_of-short g (ToCount dev blocks) blocks h) (omega arith)
+  few_operations g (ToCount dev blocks) h pages few = rw (cost_of-short g (ToCount dev blocks) 0 h) (omega arith)
 
   -- a command of a device that can be run on its chip
-  good_by : (command : Command) (dev : ℕ) (d : HasDevice chips dev) → command_device command ≡ dev → device_size command ≡ blocks_of chips dev
+  good_by : (command : Command) (dev : ℕ) (d : HasDevice chips dev) → command_device command ≡ dev → command_blocks command ≡ blocks_of chips dev
       → CanRun (sizes command) command → IsGood command
   good_by command dev d names size runs =
       let is_chip : sizes command ≡ geometry_of d.chip =
@@ -241,7 +245,7 @@ module _ (chips : List ChipLines) (payload : List ℕ) (legal : All IsChip chips
 
   -- the operations of commands are few for the length of their lines
   abbrev cost : Command → ℕ
-  cost command = cost_of (sizes command) command (device_size command)
+  cost command = command_cost sizes command
 
   line_long : (line : CommandLine) → 1 ≤ length (command_text line)
   line_long (RawWrite dev) = omega arith
@@ -311,13 +315,7 @@ flip_on_flash chips legal flip h =
     let pages = sizes.pages in
     let blocks = sizes.blocks (this_passes IsChip chips flip.chip h.chip h.is_there legal) in
     let within = h.page in
-    record {
-      state = new_of h.chip;
-      is_there = start_at chips flip.chip h.chip h.is_there;
-      page = rw (blocks, pages) within;
-      bits = rw (page, spare) h.bits;
-      from_first = h.from_first;
-    }
+    (new_of h.chip, start_at chips flip.chip h.chip h.is_there, record { page_there = rw (blocks, pages) within; bits_there = rw (page, spare) h.bits })
 
 -- the flips of the one controller are all flips
 pub flips_of-all : (flips : List Flip) → items_of 0 (map (λ (flip : Flip). (0, flip)) flips) ≡ flips
@@ -342,13 +340,13 @@ text_before plan =
     ++ flat_map flip_text plan.flips
 
 -- each command of a plan can be run on its chip
-pub can_run : (plan : PlanLines) → IsPlan plan → AllCommands (λ (c : Command). CanRun (sizes_for (the_boot plan) (the_chips plan) c) c) (the_boot plan)
+pub can_run : (plan : PlanLines) → IsPlan plan → CanRunBoot (the_boot plan) (the_chips plan)
 can_run plan legal =
     all_of_sessions plan.chips plan.payload legal.chips legal.payload_fits (λ command. CanRun (sizes plan.chips plan.payload legal.chips command) command) (λ command good. good.runs) 0
     plan.sessions legal.commands
 
 -- a controller can be started on a plan
-pub can_start : (bytes : List ℕ) (plan : PlanLines) → IsSeveralChipPlan bytes plan → IsReady plan
+pub can_start : (bytes : List ℕ) (plan : PlanLines) → IsSeveralChipPlan bytes plan → CanStart (the_boot plan) (the_chips plan)
 can_start bytes plan h =
     let legal = h.legal in
     let cheap = sessions_cheap plan.chips plan.payload legal.chips legal.payload_fits 0 plan.sessions legal.commands in
@@ -359,7 +357,7 @@ can_start bytes plan h =
     let few = legal.chip_count.1 in
     record {
       few = omega (arith, many, few);
-      without_tables = without_tables plan.chips;
+      plain = without_tables plan.chips;
       parts = parts_on_chips plan.chips plan.payload legal.chips;
       flips = flips_on_flash plan legal;
       uncut = refl;

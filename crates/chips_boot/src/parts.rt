@@ -1,6 +1,7 @@
 // The chips of a several-chip plan, and their partitions.
 ghost use Rattle.std.specs.Prelude.{◌≡◌, ◌<◌, ◌≤◌, ◌+◌, ◌-◌, ◌^◌, length, map, All, Any, IfOk, OnOk};
-ghost use Rattle.mtd_part.specs.Blocks.{LiesWithin, SharesBlock, with_part};
+ghost use Rattle.nand_model.specs.Partitions.{LiesWithin};
+ghost use Rattle.mtd_part.specs.Blocks.{SharesBlock, with_part};
 ghost use Rattle.plan_model.specs.Plan.{parts_from};
 ghost use Rattle.several_chip_plan.specs.SeveralChips.{IsChip, chip_of, geometry_of};
 

@@ -1,5 +1,5 @@
 -- A controller's part of a boot, and the geometry of the chip of each of its commands.
-use Rattle.std.specs.Prelude.{ℕ, List, Option, zero, suc, [], ◌∷◌, slice_index_or, Some, None}
+use Rattle.std.specs.Prelude.{ℕ, List, Option, zero, suc, [], ◌∷◌, slice_index_or, Some, None, ◌≡◌, ◌<◌, slice_get}
 use Rattle.nand_model.specs.Partitions.{Partitions, chip_of}
 use Rattle.nand_model.specs.Sizes.{small_chip}
 use Rattle.command_model.specs.Command.{command_device}
@@ -28,3 +28,7 @@ geometry_of_chip geometries (Some k) = slice_index_or geometries k small_chip
 -- the geometry of the chip of a command's device (some geometry, where there is no such chip)
 abbrev pub geometry_for : Partitions → List Geometry → Command → Geometry
 geometry_for partitions geometries command = geometry_of_chip geometries (chip_of partitions (command_device command))
+
+-- the numbers of a boot's sessions ascend
+abbrev pub AreAscending : List (ℕ × List Command) → Type 0
+AreAscending begun = (i j : ℕ) (a b : ℕ × List Command) → i < j → slice_get begun i ≡ Some a → slice_get begun j ≡ Some b → a.0 < b.0

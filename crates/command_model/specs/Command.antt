@@ -372,17 +372,18 @@ cost_of g _ weak = 1
 abbrev pub is_range : (unit size off len : ℕ) → Bool
 is_range unit size off len = off % unit == 0 && len % unit == 0 && nat_lt off size && nat_le (off + len) size
 
-abbrev pub device_size : Geometry → ℕ → ℕ
-device_size g blocks = blocks * block_size g
+-- the bytes of a device of so many blocks
+abbrev pub device_bytes : Geometry → ℕ → ℕ
+device_bytes g blocks = blocks * block_size g
 
 -- the numbers of a command meet the rules of its line, on a device of so many blocks
 abbrev pub fits_device : Geometry → Command → Bool
 fits_device g (FlashErase dev blocks no_scan start count) = nat_lt start blocks && nat_le (start + count) blocks
 fits_device g (NandWrite dev blocks mark raw oob pad off bytes) =
-    off % g.page == 0 && nat_lt off (device_size g blocks) && (pad || length bytes % unit_size g oob == 0)
-fits_device g (NandDump dev blocks off len raw oob bad) = is_range g.page (device_size g blocks) off len
+    off % g.page == 0 && nat_lt off (device_bytes g blocks) && (pad || length bytes % unit_size g oob == 0)
+fits_device g (NandDump dev blocks off len raw oob bad) = is_range g.page (device_bytes g blocks) off len
 fits_device g (NandTest dev blocks keep mark seed passes off len) =
-    nat_le 1 passes && is_range (block_size g) (device_size g blocks) off len
+    nat_le 1 passes && is_range (block_size g) (device_bytes g blocks) off len
 fits_device g (MarkBad dev blocks block) = true
 fits_device g (AskBad dev blocks block) = true
 fits_device g (AskStats dev blocks) = true

@@ -4,3 +4,5 @@ pub mod Boot
 pub mod Session
 pub mod Laws
 pub mod Reads
+pub mod Runnable
+pub mod Cost

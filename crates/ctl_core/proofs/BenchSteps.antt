@@ -16,7 +16,7 @@ use Rattle.nand_model.specs.Partitions.{part_of, device_of}
 use Rattle.command_model.specs.Session.{SessionRun, next_op, next_op_of, with_reply}
 use Rattle.command_model.specs.Boot.{change_at}
 use Rattle.run_model.specs.Course.{session_run}
-use Rattle.tool_steps.specs.Stage.{CanRun}
+use Rattle.command_model.specs.Runnable.{CanRun}
 use Rattle.tool_steps.specs.Boot.{commands_at}
 use Rattle.session_steps.specs.declared.session.Session.{Session}
 use Rattle.session_steps.specs.Standing.{number_of, standing, commands_by, First, IsWaiting}

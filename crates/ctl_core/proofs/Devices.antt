@@ -3,7 +3,7 @@ use Rattle.std.proofs.Common.{◌≡◌, ◌+◌, ◌-◌, arith, ℕ, zero, suc
 use Rattle.std.specs.Prelude.{slice_get, map, option_map, All, nat_lt, if◌then◌else◌}
 use Rattle.std.proofs.lemmas.List.{get_or-drop, length-drop}
 use Rattle.std.proofs.lemmas.Option.{slice_get_within, get_or_from_slice_get, slice_get-map}
-use Rattle.mtd_part.specs.Blocks.{LiesWithin}
+use Rattle.nand_model.specs.Partitions.{LiesWithin, Partitions, part_of, chip_of_part}
 use Rattle.nand_model.specs.declared.geometry.Geometry.{Geometry}
 use Rattle.nand_model.specs.declared.words.Command.{Command}
 use Rattle.nand_model.specs.declared.words.Op.{Op}
@@ -12,7 +12,6 @@ use Rattle.nand_model.specs.declared.words.Note.{Note}
 use Rattle.nand_model.specs.declared.words.Reply.{Reply}
 use Rattle.nand_model.specs.Sizes.{small_chip}
 use Rattle.nand_model.specs.Chip.{ChipState, FaultModel}
-use Rattle.nand_model.specs.Partitions.{Partitions, part_of, chip_of_part}
 use Rattle.chip_paths.specs.ChipRun.{ChipRun}
 use Rattle.command_model.specs.Command.{Script, End, Ask, next_in, next_step, command_device}
 use Rattle.command_model.specs.Boot.{Boot, geometry_of_chip}
@@ -23,13 +22,13 @@ use Rattle.run_model.specs.Log.{Log}
 use Rattle.run_laws.proofs.Traces.{geometry_after}
 use Rattle.run_laws.proofs.Courses.{AtPlace, EndOf, by_log, Holds}
 use Rattle.run_laws.proofs.Faithful.{log_of}
-use Rattle.tool_steps.specs.Stage.{CanRun}
+use Rattle.command_model.specs.Runnable.{CanRun}
 use Rattle.tool_steps.proofs.Scripts.{asks_first}
 use Rattle.session_steps.specs.declared.session.Session.{Session}
 use Rattle.session_steps.specs.Standing.{standing}
 use Rattle.session_steps.specs.Mirrors.{GoesOn, Mirrors}
 use Rattle.session_steps.proofs.Scripts.{an_op}
-use Rattle.ctl_core.specs.Start.{CanStart, IsOnChip, IsOfDevice}
+use Rattle.run_model.specs.Start.{CanStart, IsOnChip, IsOfDevice}
 
 -- what holds of all items holds of the one at a place
 pub all_at : {A : Type 0} (P : A → Type 0) (xs : List A) (k : ℕ) (x : A) → All P xs → slice_get xs k ≡ Some x → P x

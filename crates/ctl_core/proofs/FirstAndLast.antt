@@ -13,7 +13,7 @@ use Rattle.command_model.specs.Session.{SessionRun, is_finished, without_finishe
 use Rattle.run_model.specs.Course.{sizes_of, is_over, unattached}
 use Rattle.run_laws.proofs.Places.{position_is}
 use Rattle.run_laws.proofs.Sessions.{number_stays}
-use Rattle.tool_steps.specs.Stage.{CanRun}
+use Rattle.command_model.specs.Runnable.{CanRun}
 use Rattle.session_steps.specs.declared.session.Session.{Session}
 use Rattle.session_steps.specs.Standing.{number_of}
 use Rattle.session_steps.specs.Mirrors.{Mirrors}
@@ -21,7 +21,7 @@ use Rattle.ctl_core.specs.declared.bench.Bench.{Bench}
 use Rattle.ctl_core.specs.KeptChip.{KeptChip, kept_first, all_kept, first_attaching}
 use Rattle.ctl_core.specs.Past.{Past, at_start, course_of}
 use Rattle.ctl_core.specs.Sessions.{AreFresh, AreAllDone}
-use Rattle.ctl_core.specs.Start.{CanStart}
+use Rattle.run_model.specs.Start.{CanStart}
 use Rattle.ctl_core.specs.Bench.{kept_slot, kept_chips, IsOnCourse}
 use Rattle.ctl_core.proofs.Positions.{mapped_at, mapped_length}
 use Rattle.ctl_core.proofs.Places.{item_at}

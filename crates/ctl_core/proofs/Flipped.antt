@@ -2,7 +2,7 @@
 use Rattle.std.proofs.Common.{◌≡◌, ◌⊎◌, inl, inr, ℕ, zero, suc, List, [], ◌∷◌, map, Option, Some, None, refl, ap, sym, ◌∙◌, subst}
 use Rattle.std.specs.Prelude.{slice_get, fold, option_map}
 use Rattle.std.proofs.lemmas.Bool.{cases_eq}
-use Rattle.nand_iface.specs.Flash.{FitsBits}
+use Rattle.nand_model.specs.Flips.{FitsBits}
 use Rattle.nand_model.specs.declared.words.Flip.{Flip}
 use Rattle.chip_paths.specs.Attach.{attach_path}
 use Rattle.nand_model.specs.Chip.{FaultModel, flip_events}

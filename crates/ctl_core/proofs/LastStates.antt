@@ -26,7 +26,7 @@ use Rattle.chip_paths.specs.Stage.{stage_by, stage_statistics, stage_table}
 use Rattle.ctl_core.specs.declared.bench.Bench.{Bench}
 use Rattle.ctl_core.specs.KeptChip.{KeptChip, kept_as, all_kept}
 use Rattle.ctl_core.specs.Past.{Past, starts_of, sizes_in, course_of}
-use Rattle.ctl_core.specs.Start.{IsOnChip}
+use Rattle.run_model.specs.Start.{IsOnChip}
 use Rattle.ctl_core.specs.Ended.{end_of_run, statistics_known, statistics_on, statistics_at, device_numbers, device_statistics, all_bad_blocks, kept_state, kept_statistics_on, kept_statistics_at, kept_statistics, kept_bad_blocks}
 use Rattle.ctl_core.specs.Bench.{kept_chips, IsOnCourse}
 use Rattle.ctl_core.proofs.Places.{item_at}

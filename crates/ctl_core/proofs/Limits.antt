@@ -19,7 +19,7 @@ use Rattle.run_laws.specs.Turns.{busy_turns}
 use Rattle.run_laws.proofs.Courses.{EndOf, by_log, Holds, place_start}
 use Rattle.run_laws.proofs.Faithful.{log_of}
 use Rattle.run_laws.proofs.Places.{position_is, position_none}
-use Rattle.turn_laws.specs.Cost.{boot_cost}
+use Rattle.run_model.specs.Start.{boot_cost}
 use Rattle.turn_laws.specs.Laws.{blocks_of}
 use Rattle.turn_laws.proofs.Bounds.{busy_few, events_few}
 use Rattle.turn_laws.proofs.Attaches.{attaches_few}

@@ -9,7 +9,7 @@ use Rattle.nand_model.specs.declared.words.Command.{Command}
 use Rattle.nand_model.specs.declared.words.Note.{Note}
 use Rattle.nand_model.specs.declared.words.Reply.{Reply}
 use Rattle.command_model.specs.Session.{SessionRun, with_reply, replied}
-use Rattle.command_model.specs.Boot.{change_at}
+use Rattle.command_model.specs.Boot.{change_at, AreAscending}
 use Rattle.run_model.specs.Run.{HaveOneNumberEach}
 use Rattle.session_steps.specs.declared.session.Session.{Session}
 use Rattle.session_steps.specs.Standing.{number_of, IsWaiting}
@@ -17,7 +17,7 @@ use Rattle.session_steps.specs.Mirrors.{Mirrors}
 use Rattle.session_steps.proofs.Mirrors.{mirrors_later}
 use Rattle.run_laws.proofs.Sessions.{number_stays}
 use Rattle.ctl_core.specs.KeptChip.{KeptChip}
-use Rattle.ctl_core.specs.Sessions.{AreAscending, SessionsMirror, HoldersWait}
+use Rattle.ctl_core.specs.Sessions.{SessionsMirror, HoldersWait}
 use Rattle.ctl_core.proofs.Places.{OneChanged, found_only, item_at, changed_at}
 
 -- a number stands at one place alone

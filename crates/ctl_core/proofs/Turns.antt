@@ -13,7 +13,7 @@ use Rattle.nand_model.specs.Partitions.{device_of, chip_of}
 use Rattle.chip_paths.specs.ChipRun.{ChipRun, Pending, next_chip_event}
 use Rattle.run_laws.proofs.Sessions.{number_stays}
 use Rattle.run_model.specs.Course.{finish, Course, session_run, pending_chip, unattached, turn_step, attach_step, with_flips_before, sizes_of}
-use Rattle.command_model.specs.Boot.{Boot, change_at}
+use Rattle.command_model.specs.Boot.{Boot, change_at, AreAscending}
 use Rattle.command_model.specs.Session.{SessionRun, next_op, next_op_of, with_reply}
 use Rattle.chip_paths.specs.Stage.{Stage, Attaches, Rests, Works, stage_event, failure_told, finished_in}
 use Rattle.run_laws.proofs.Courses.{Holds}
@@ -24,7 +24,6 @@ use Rattle.session_steps.specs.Mirrors.{Mirrors}
 use Rattle.ctl_core.specs.KeptChip.{KeptChip, kept_as, all_kept, is_held_by, first_attaching, first_held_by, after_event, after_begin, after_answer, with_news_told, failure_notes, news_notes}
 use Rattle.ctl_core.specs.Flips.{kept_flips_before}
 use Rattle.ctl_core.specs.Keeps.{Keeps}
-use Rattle.ctl_core.specs.Sessions.{AreAscending}
 use Rattle.ctl_core.specs.Follows.{Follows}
 use Rattle.ctl_core.proofs.Positions.{mapped_at}
 use Rattle.ctl_core.proofs.Places.{OneChanged}

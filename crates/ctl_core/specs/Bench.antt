@@ -17,7 +17,7 @@ use Rattle.ctl_core.specs.KeptChip.{KeptChip, first_attaching, after_event, with
 use Rattle.ctl_core.specs.Flips.{kept_flips_before}
 use Rattle.ctl_core.specs.Follows.{Follows}
 use Rattle.ctl_core.specs.Past.{Past, starts_of, course_of}
-use Rattle.ctl_core.specs.Start.{CanStart}
+use Rattle.run_model.specs.Start.{CanStart}
 
 -- a chip in its slot
 abbrev pub kept_slot : {F C : Type 0} {flash : Ghosts F} → Slot F C flash → KeptChip flash.FaultState

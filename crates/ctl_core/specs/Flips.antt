@@ -1,7 +1,7 @@
 -- The flips of a controller's chips: which are due before an event, and what they make of the chips.
 use Rattle.std.specs.Prelude.{◌≡◌, ℕ, List, length, filter, fold, sum_by, slice_get, Some}
 use Rattle.fault_plan.specs.Due.{is_due}
-use Rattle.nand_iface.specs.Flash.{FitsBits}
+use Rattle.nand_model.specs.Flips.{FitsBits}
 use Rattle.nand_model.specs.Chip.{FaultModel, after_trace, flip_events}
 use Rattle.nand_model.specs.declared.words.Flip.{Flip}
 use Rattle.command_model.specs.Boot.{change_at}

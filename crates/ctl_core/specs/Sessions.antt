@@ -1,17 +1,13 @@
 -- The sessions of a controller, beside those of the course that it is on.
-use Rattle.std.specs.Prelude.{◌≡◌, ℕ, ◌<◌, true, List, [], length, slice_get, Some}
+use Rattle.std.specs.Prelude.{◌≡◌, ℕ, List, length, slice_get, Some, [], true}
+use Rattle.command_model.specs.Session.{SessionRun, without_finished, is_finished}
+use Rattle.session_steps.specs.Standing.{number_of, IsWaiting, standing, commands_by}
+use Rattle.session_steps.specs.Mirrors.{Mirrors, CanAllRun}
+use Rattle.ctl_core.specs.KeptChip.{KeptChip}
 use Rattle.nand_model.specs.declared.geometry.Geometry.{Geometry}
 use Rattle.nand_model.specs.declared.words.Command.{Command}
 use Rattle.nand_model.specs.declared.words.Note.{Note}
-use Rattle.command_model.specs.Session.{SessionRun, without_finished, is_finished}
 use Rattle.session_steps.specs.declared.session.Session.{Session}
-use Rattle.session_steps.specs.Standing.{number_of, standing, commands_by, IsWaiting}
-use Rattle.session_steps.specs.Mirrors.{CanAllRun, Mirrors}
-use Rattle.ctl_core.specs.KeptChip.{KeptChip}
-
--- the numbers of a boot's sessions ascend
-abbrev pub AreAscending : List (ℕ × List Command) → Type 0
-AreAscending begun = (i j : ℕ) (a b : ℕ × List Command) → i < j → slice_get begun i ≡ Some a → slice_get begun j ≡ Some b → a.0 < b.0
 
 -- each session of a controller mirrors the one at its place in the course
 pub record SessionsMirror (sizes : Command → Geometry) (begun : List (ℕ × List Command)) (notes : List Note) (sessions : List Session)

@@ -3,12 +3,12 @@ ghost use Rattle.std.specs.Prelude.{◌≡◌, ◌≤◌, ◌+◌, ◌*◌, ◌�
 ghost use Rattle.run_model.specs.Course.{attach_step, end_states, is_idle, is_over, unattached};
 ghost use Rattle.run_model.specs.Run.{AreInOrder, CoursesAreFaithful};
 ghost use Rattle.tool_steps.specs.Boot.{session_number};
-ghost use Rattle.turn_laws.specs.Cost.{boot_cost};
+ghost use Rattle.run_model.specs.Start.{boot_cost, CanStart};
 ghost use Rattle.turn_laws.specs.Laws.{blocks_of};
 ghost use Rattle.ctl_core.specs.Answer.{is_did, turn_answer, attach_answer, after_turn, after_attach_turn};
 ghost use Rattle.ctl_core.specs.Ended.{all_bad_blocks, device_statistics, end_of_run, ends_by_notes};
 ghost use Rattle.ctl_core.specs.Past.{at_start, starts_of, sizes_in, course_of, next_course};
-ghost use Rattle.ctl_core.specs.Start.{CanStart, HasSession};
+ghost use Rattle.ctl_core.specs.Start.{HasSession};
 
 use crate::Turn;
 use crate::bench::Bench;

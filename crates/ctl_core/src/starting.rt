@@ -1,6 +1,6 @@
 // Chips and sessions at the start of a boot.
 ghost use Rattle.std.specs.Prelude.{◌≡◌, All, map, IfOk};
-ghost use Rattle.ctl_core.specs.Start.{IsPlain};
+ghost use Rattle.run_model.specs.Start.{IsPlain};
 ghost use Rattle.ctl_core.specs.KeptChip.{kept_first};
 ghost use Rattle.ctl_core.specs.Bench.{kept_slot};
 ghost use Rattle.ctl_core.specs.Sessions.{AreFresh};

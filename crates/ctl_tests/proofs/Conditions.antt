@@ -1,18 +1,17 @@
 -- The boots of the tests can be started on two small chips.
 use Rattle.std.proofs.Common.{◌≡◌, ◌<◌, ◌≤◌, arith, ℕ, zero, suc, true, false, List, [], ◌∷◌, Some, refl, ap, sym, subst, subst₂, get_or}
 use Rattle.std.specs.Prelude.{slice_get, All}
-use Rattle.nand_iface.specs.Flash.{FitsBits}
+use Rattle.nand_model.specs.Flips.{FitsBits}
 use Rattle.nand_model.specs.Chip.{ChipState}
 use Rattle.nand_model.specs.declared.words.Command.{Command}
 use Rattle.nand_model.specs.declared.words.Flip.{Flip}
 use Rattle.nand_model.specs.Partitions.{part_of}
-use Rattle.tool_steps.specs.Stage.{CanRun, ErasesAll, DumpsOnePage, device_size}
+use Rattle.command_model.specs.Runnable.{CanRun, ErasesAll, DumpsOnePage}
+use Rattle.command_model.specs.Command.{command_blocks}
 use Rattle.command_model.specs.Command.{command_device}
-use Rattle.command_model.specs.Boot.{Boot}
+use Rattle.command_model.specs.Boot.{Boot, AreAscending}
 use Rattle.run_model.specs.Course.{sizes_of}
-use Rattle.turn_laws.specs.Cost.{boot_cost, CanRunBoot}
-use Rattle.ctl_core.specs.Sessions.{AreAscending}
-use Rattle.ctl_core.specs.Start.{CanStart, IsPlain, IsOnChip, IsOfDevice, IsOnFlash}
+use Rattle.run_model.specs.Start.{boot_cost, CanRunBoot, CanStart, IsPlain, IsOnChip, IsOfDevice, IsOnFlash}
 use Rattle.ctl_tests.specs.Small.{IsSmall, IsSmallFlip, ArePairOfSmall, erasing, asking, dumping, boot_of, first_block, reading_sessions, small_parts, small_sessions, small_sizes}
 
 all_one : {A : Type 0} (P : A → Type 0) (x : A) → P x → All P (x ∷ [])
@@ -108,7 +107,7 @@ module _ {W : Type 0} where
         (small_all (IsOfDevice small_parts) (λ dev h. device dev h (erasing dev) refl refl) (λ dev h. device dev h (asking dev) refl refl))
         (small_all (λ c. CanRun (sizes_of (boot_of [] small_sessions) pair c) c) (λ dev h. erases) (λ dev h. asks)) ascending (omega arith)
       where
-        device : (dev : ℕ) → dev < 2 → (command : Command) → command_device command ≡ dev → device_size command ≡ 1 → IsOfDevice small_parts command
+        device : (dev : ℕ) → dev < 2 → (command : Command) → command_device command ≡ dev → command_blocks command ≡ 1 → IsOfDevice small_parts command
         device zero h command e n = (first_block 0, ap (part_of small_parts) e, n)
         device (suc zero) h command e n = (first_block 1, ap (part_of small_parts) e, n)
         device (suc (suc dev)) h command e n = absurd (omega arith)

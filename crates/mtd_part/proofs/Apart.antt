@@ -5,7 +5,8 @@ use Rattle.std.proofs.lemmas.Option.{slice_get_within, get_or_from_slice_get}
 use Rattle.std.proofs.lemmas.List.{get_or_default}
 use Rattle.std.proofs.lemmas.List.Elements.{All-append}
 use Rattle.nand_model.specs.declared.words.Part.{Part}
-use Rattle.mtd_part.specs.Blocks.{SharesBlock, LiesWithin, AreApart, ArePartitions}
+use Rattle.mtd_part.specs.Blocks.{SharesBlock, AreApart, ArePartitions}
+use Rattle.nand_model.specs.Partitions.{LiesWithin}
 
 -- an item of a list with one more at its end is an earlier one or that one
 pub place_of : (parts : List Part) (part : Part) (i : ℕ) (a : Part) → slice_get (parts ++ part ∷ []) i ≡ Some a

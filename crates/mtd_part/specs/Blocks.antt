@@ -1,6 +1,6 @@
 -- Which blocks are in which partition.
-use Rattle.std.specs.Prelude.{◌≡◌, ℕ, ◌+◌, ◌^◌, ◌<◌, ◌≤◌, ◌⊎◌, List, [], ◌∷◌, ◌++◌, length, slice_get, Some, All}
-use Rattle.nand_model.specs.Partitions.{Partitions}
+use Rattle.std.specs.Prelude.{◌≡◌, ℕ, ◌+◌, ◌<◌, ◌≤◌, ◌⊎◌, List, slice_get, Some, ◌^◌, length, All, [], ◌∷◌, ◌++◌}
+use Rattle.nand_model.specs.Partitions.{LiesWithin, Partitions}
 use Rattle.nand_model.specs.declared.words.Part.{Part}
 
 -- a block of a chip is in the partition
@@ -10,10 +10,6 @@ HasBlock part chip block = (part.chip ≡ chip) × (part.start ≤ block) × (bl
 -- some block is in both partitions
 abbrev pub SharesBlock : Part → Part → Type 0
 SharesBlock a b = (chip : ℕ) × (block : ℕ) × (HasBlock a chip block × HasBlock b chip block)
-
--- a partition has at least one block, and all of its blocks are among so many of its chip
-abbrev pub LiesWithin : ℕ → Part → Type 0
-LiesWithin blocks part = (0 < part.count) × (part.start + part.count ≤ blocks)
 
 -- a partition has no block, or passes the end of a chip with so many blocks
 abbrev pub LeavesChip : ℕ → Part → Type 0

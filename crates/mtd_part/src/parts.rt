@@ -1,6 +1,7 @@
 // The partitions of one controller.
 ghost use Rattle.std.specs.Prelude.{◌≡◌, ◌↔◌, ◌+◌, ◌-◌, ◌*◌, ◌^◌, ◌<◌, ◌≤◌, ◌++◌, ◌∷◌, [], length, Any, IsTrue, IsSome, IfSome, IfOk, OnOk, OnErr, false, SomeIff, option_copied};
-ghost use Rattle.mtd_part.specs.Blocks.{SharesBlock, LiesWithin, LeavesChip, AreApart, with_part};
+ghost use Rattle.mtd_part.specs.Blocks.{SharesBlock, LeavesChip, AreApart, with_part};
+ghost use Rattle.nand_model.specs.Partitions.{LiesWithin};
 
 use nand_model::Part;
 use std::alloc::{AllocFailed, Global};

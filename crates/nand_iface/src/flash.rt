@@ -2,9 +2,9 @@
 ghost use Rattle.std.specs.Prelude.{◌≡◌, ◌≤◌, ◌<◌, ◌+◌, ◌-◌, ◌^◌, ℕ, length, min, OnOk, is_none, is_ok};
 ghost use Rattle.std.specs.Coded.{Coded};
 ghost use Rattle.nand_model.specs.Chip.{ChipState, FaultModel, ProgramCall, EraseCall, Complete, ProgramEvent, EraseEvent, after_trace, failure_of, flip_events, happens};
-ghost use Rattle.nand_model.specs.Flips.{flips_between};
+ghost use Rattle.nand_model.specs.Flips.{flips_between, FitsBits};
 ghost use Rattle.nand_model.specs.Sizes.{page_count};
-ghost use Rattle.nand_iface.specs.Flash.{FitsBits, FitsPage, HasWholePages};
+ghost use Rattle.nand_iface.specs.Flash.{FitsPage, HasWholePages};
 
 use nand_model::{BlockList, Geometry};
 use std::alloc::AllocError;

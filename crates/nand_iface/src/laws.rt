@@ -1,9 +1,10 @@
 // What the clauses of a flash chip come to, page by page, proved from them alone for every chip.
 ghost use Rattle.std.specs.Prelude.{◌≡◌, ◌≢◌, ◌<◌, ◌≤◌, ◌+◌, ◌/◌, ◌++◌, ◌∷◌, [], ℕ, List, fold, length, replicate, OnOk, OnErr};
 ghost use Rattle.nand_model.specs.Chip.{ChipState, ChipEvent, Complete, ProgramEvent, EraseEvent, after_trace, flip_events, programmed};
-ghost use Rattle.nand_model.specs.Flips.{with_bit_turned};
+ghost use Rattle.nand_model.specs.Flips.{with_bit_turned, FitsBits};
 ghost use Rattle.nand_model.specs.Sizes.{raw_len};
-ghost use Rattle.nand_iface.specs.Flash.{FitsBits, FitsPage, HasRisen};
+ghost use Rattle.nand_iface.specs.Flash.{FitsPage};
+ghost use Rattle.nand_model.specs.Counts.{HasRisen};
 
 use crate::{EraseFailed, Flash, ProgramFailed};
 use nand_model::BlockList;

@@ -1,5 +1,7 @@
 -- Flips of bits of a page. Bit k of a page is in byte k / 8, and k mod 8 = 0 is its highest bit.
-use Rattle.std.specs.Prelude.{ℕ, ◌-◌, ◌/◌, ◌%◌, ◌^◌, ◌&&◌, nat_le, nat_lt, List, count_by, slice_index, slice_set, bit_xor, fold}
+use Rattle.std.specs.Prelude.{ℕ, ◌-◌, ◌/◌, ◌%◌, ◌^◌, ◌&&◌, nat_le, nat_lt, List, count_by, slice_index, slice_set, bit_xor, fold, ◌*◌, ◌<◌, All}
+use Rattle.nand_model.specs.Sizes.{page_count, raw_len}
+use Rattle.nand_model.specs.declared.geometry.Geometry.{Geometry}
 
 -- the page with bit k turned
 abbrev pub with_bit_turned : List ℕ → ℕ → List ℕ
@@ -12,3 +14,8 @@ flips_between flips from to = count_by (λ bit. nat_le from bit && nat_lt bit to
 -- the page with these bits turned
 abbrev pub with_bits_turned : List ℕ → List ℕ → List ℕ
 with_bits_turned cells bits = fold with_bit_turned cells bits
+
+-- a page of the chip, and bits of such a page
+pub record FitsBits (g : Geometry) (page : ℕ) (bits : List ℕ) : Type 0 where
+  pub page_there : page < page_count g
+  pub bits_there : All (λ bit. bit < 8 * raw_len g) bits

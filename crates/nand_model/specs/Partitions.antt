@@ -1,5 +1,5 @@
 -- The partitions of a controller, each of which is a device, and the devices that operations name.
-use Rattle.std.specs.Prelude.{ℕ, List, ◌-◌, nat_lt, if◌then◌else◌, slice_get, Option, None, Some}
+use Rattle.std.specs.Prelude.{ℕ, List, ◌-◌, nat_lt, if◌then◌else◌, slice_get, Option, None, Some, ◌+◌, ◌<◌, ◌≤◌}
 use Rattle.nand_model.specs.declared.words.Part.{Part}
 use Rattle.nand_model.specs.declared.words.Op.{Op}
 use Rattle.nand_model.specs.declared.words.Op.TheVariants.{Read, Write, RawRead, RawWrite, Erase, IsBad, Mark, Stats}
@@ -30,3 +30,7 @@ chip_of_part (Some part) = Some part.chip
 
 abbrev pub chip_of : Partitions → ℕ → Option ℕ
 chip_of partitions dev = chip_of_part (part_of partitions dev)
+
+-- a partition has at least one block, and all of its blocks are among so many of its chip
+abbrev pub LiesWithin : ℕ → Part → Type 0
+LiesWithin blocks part = (0 < part.count) × (part.start + part.count ≤ blocks)

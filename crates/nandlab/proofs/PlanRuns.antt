@@ -33,11 +33,12 @@ use Rattle.several_chip_plan.specs.SeveralChips.{IsPlan, boot_of, chip_of, geome
 use Rattle.several_chip_plan.specs.declared.lines.ChipLines.{ChipLines}
 use Rattle.several_chip_plan.specs.declared.lines.CommandLine.{CommandLine}
 use Rattle.several_chip_plan.specs.declared.lines.PlanLines.{PlanLines}
-use Rattle.chips_boot.specs.Ready.{IsOnFlash, IsReady, the_boot, the_chips}
+use Rattle.chips_boot.specs.Ready.{the_boot, the_chips}
 use Rattle.chips_boot.proofs.Devices.{length-parts_by}
 use Rattle.session_steps.specs.Ended.{EndOfSession}
 use Rattle.ctl_core.specs.Ended.{end_by_notes, ends_by_notes, statistics_at}
-use Rattle.ctl_core.specs.Start.{CanStart, HasSession, IsOnFlash as CanTurn}
+use Rattle.run_model.specs.Start.{CanStart}
+use Rattle.ctl_core.specs.Start.{HasSession}
 use Rattle.ctl_core.proofs.LastStates.{mapped_push}
 use Rattle.ctl_core.proofs.Sessions.{one_number_each}
 use Rattle.session_run.specs.Replay.{IsReplayed, rounds_after, session_numbers}
@@ -46,24 +47,6 @@ use Rattle.nandlab.specs.Answer.{IsHistory, IsReplay, IsReportOfPlan}
 use Rattle.nandlab.specs.Ends.{ends_by, stats_by, stats_of}
 use Rattle.nandlab.specs.Run.{EndsRun}
 use Rattle.nandlab.proofs.PlanTurns.{numbered, replay_turns-rounds}
-
--- a flip of a plan is one that its controller can make
-on_flash : (starts : List (ChipState SimFaults)) (flip : Flip) → IsOnFlash starts flip → CanTurn starts flip
-on_flash starts flip on = (on.state, on.is_there, record { page_there = on.page; bits_there = on.bits })
-
--- the controller of a plan can be started
-pub can_start : (plan : PlanLines) → IsReady plan → CanStart (the_boot plan) (the_chips plan)
-can_start plan ready = record {
-  few = ready.few;
-  plain = ready.without_tables;
-  parts = ready.parts;
-  flips = All-weaker (IsOnFlash (the_chips plan)) (CanTurn (the_chips plan)) (on_flash (the_chips plan)) (the_boot plan).flips ready.flips;
-  uncut = ready.uncut;
-  devices = ready.devices;
-  runnable = ready.runnable;
-  ascending = ready.ascending;
-  cheap = ready.cheap;
-}
 
 number_there : (m n k : ℕ) → k < n → slice_get (numbers_from m n) k ≡ Some (m + k)
 number_there m zero k h = absurd (omega arith)
@@ -173,7 +156,7 @@ once plan session commands has =
     stands_once session 0 (length plan.sessions) within.0 within.1
 
 -- what the run of a plan leaves
-module _ (plan : PlanLines) (notes : List Note) (ends : List EndOfSession) (stats : List (ℕ × Stats)) (legal : IsPlan plan) (ready : IsReady plan)
+module _ (plan : PlanLines) (notes : List Note) (ends : List EndOfSession) (stats : List (ℕ × Stats)) (legal : IsPlan plan) (ready : CanStart (the_boot plan) (the_chips plan))
     (run : EndsRun plan notes ends stats) where
   one : HaveOneNumberEach (the_boot plan).sessions
   one = one_number_each (the_boot plan).sessions ready.ascending

@@ -2,7 +2,8 @@
 ghost use Rattle.std.specs.Prelude.{◌≡◌, ◌∷◌, ◌++◌, [], length, OnOk, IfOk};
 ghost use Rattle.report_model.specs.Report.{geometry_in, report_text};
 ghost use Rattle.several_chip_plan.specs.SeveralChips.{IsPlan, boot_of, plan_of};
-ghost use Rattle.chips_boot.specs.Ready.{IsReady};
+ghost use Rattle.run_model.specs.Start.{CanStart};
+ghost use Rattle.chips_boot.specs.Ready.{the_boot, the_chips};
 ghost use Rattle.nandlab.specs.Answer.{IsReportOfPlan};
 ghost use Rattle.nandlab.specs.Ends.{ended_texts, ends_by, stats_by};
 
@@ -59,7 +60,7 @@ fn boot_report(
 /// Runs a plan, and gives the text of its report.
 pub fn report(alloc: Global, plan: &PlanLines) -> Result<Bytes, AllocError>
     requires legal { IsPlan plan.now }
-    requires ready { IsReady plan.now }
+    requires ready { CanStart (the_boot plan.now) (the_chips plan.now) }
     ensures { IfOk result (IsReportOfPlan plan.now) }
 {
     let ended = run_plan(alloc, plan)?;

@@ -3,7 +3,8 @@ ghost use Rattle.std.specs.Prelude.{◌≡◌, ◌++◌, ◌∷◌, [], map, IfO
 ghost use Rattle.plan_model.specs.Plan.{new_chips};
 ghost use Rattle.chip_sim.specs.State.{sim_state};
 ghost use Rattle.several_chip_plan.specs.SeveralChips.{IsPlan, chip_of};
-ghost use Rattle.chips_boot.specs.Ready.{IsReady};
+ghost use Rattle.run_model.specs.Start.{CanStart};
+ghost use Rattle.chips_boot.specs.Ready.{the_boot, the_chips};
 ghost use Rattle.nandlab.specs.Run.{EndsRun};
 
 use chip_sim::SimChip;
@@ -39,7 +40,7 @@ fn new_flashes(alloc: Global, chips: &ItemList<ChipLines>) -> Result<FlashList<S
 /// Runs a plan over new chips: they are attached, the turns of its schedule are taken, and then those of its sessions in their order, round after round, until all is over.
 pub fn run_plan(alloc: Global, plan: &PlanLines) -> Result<Ended<SimChip>, AllocError>
     requires legal { IsPlan plan.now }
-    requires ready { IsReady plan.now }
+    requires ready { CanStart (the_boot plan.now) (the_chips plan.now) }
     ensures { IfOk result (λ ended. EndsRun plan.now ended.notes.notes ended.outcomes ended.stats) }
 {
     let flashes = new_flashes(alloc, &plan.chips)?;

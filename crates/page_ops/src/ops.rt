@@ -3,7 +3,8 @@ ghost use Rattle.std.specs.Prelude.{◌≡◌, ◌≢◌, ◌<◌, ◌≤◌, �
 ghost use Rattle.nand_model.specs.Page.{marker_byte, kind_of, marker_image, Decoding, decoded, encoded};
 ghost use Rattle.nand_model.specs.Chip.{ProgramCall, EraseCall, Complete, ProgramEvent, EraseEvent, happens, failure_of};
 ghost use Rattle.nand_model.specs.Sizes.{first_page, page_count, raw_len};
-ghost use Rattle.nand_iface.specs.Flash.{FitsPage, HasRisen};
+ghost use Rattle.nand_iface.specs.Flash.{FitsPage};
+ghost use Rattle.nand_model.specs.Counts.{HasRisen};
 ghost use Rattle.page_ops.specs.Writes.{write_ended, erase_ended};
 
 use crate::{EraseError, WriteError};

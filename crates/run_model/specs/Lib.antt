@@ -6,3 +6,4 @@ pub mod ReadBack
 pub mod Run
 pub mod Laws
 pub mod Survival
+pub mod Start

@@ -1,9 +1,9 @@
 // A controller's boot, replayed.
 ghost use Rattle.std.specs.Prelude.{◌≡◌, ◌<◌, ◌≤◌, ◌+◌, ◌*◌, [], None, false, All, length, IfOk, OnOk, OnErr};
 ghost use Rattle.run_model.specs.Course.{is_over, turns_taken, unattached};
-ghost use Rattle.turn_laws.specs.Cost.{boot_cost};
+ghost use Rattle.run_model.specs.Start.{boot_cost, CanStart};
 ghost use Rattle.ctl_core.specs.Past.{starts_of, course_of};
-ghost use Rattle.ctl_core.specs.Start.{CanStart, HasSession};
+ghost use Rattle.ctl_core.specs.Start.{HasSession};
 ghost use Rattle.session_run.specs.Replay.{IsReplayed, IsOfTheSameStart, TakesTurn, session_numbers};
 
 use ctl_core::{Core, Turn};

@@ -11,7 +11,7 @@ use Rattle.nand_model.specs.declared.words.Outcome.{Outcome}
 use Rattle.nand_model.specs.declared.words.Reply.{Reply}
 use Rattle.command_model.specs.Command.{Script, End, Ask, Next, Do, Over, next_in, next_step, script_of}
 use Rattle.command_model.specs.Session.{SessionRun, with_reply, next_op_of, is_finished}
-use Rattle.tool_steps.specs.Stage.{CanRun}
+use Rattle.command_model.specs.Runnable.{CanRun}
 use Rattle.tool_steps.specs.Steps.{after_last, step_of, is_over}
 use Rattle.tool_steps.specs.declared.step.Step.{Step}
 use Rattle.tool_steps.specs.declared.step.Step.TheVariants.{Done as Finished}

@@ -11,7 +11,7 @@ use Rattle.nand_model.specs.declared.words.Outcome.{Outcome}
 use Rattle.nand_model.specs.declared.words.Reply.{Reply}
 use Rattle.command_model.specs.Command.{Script, End, Ask}
 use Rattle.command_model.specs.Session.{SessionRun}
-use Rattle.tool_steps.specs.Stage.{CanRun}
+use Rattle.command_model.specs.Runnable.{CanRun}
 use Rattle.session_steps.specs.declared.session.Session.{Session}
 use Rattle.session_steps.specs.Standing.{Standing}
 use Rattle.session_steps.specs.Mirrors.{GoesOn, IsPlaced, Shows, Mirrors}

@@ -8,7 +8,7 @@ use Rattle.nand_model.specs.declared.words.Outcome.{Outcome}
 use Rattle.nand_model.specs.declared.words.Reply.{Reply}
 use Rattle.command_model.specs.Command.{Script, End, Ask, Over, next_in, next_step, after_replies, script_of}
 use Rattle.command_model.specs.Session.{SessionRun, without_finished, with_reply, next_op_of, op_of_next}
-use Rattle.tool_steps.specs.Stage.{CanRun}
+use Rattle.command_model.specs.Runnable.{CanRun}
 use Rattle.tool_steps.specs.Steps.{is_over}
 use Rattle.tool_steps.proofs.Scripts.{asks_first, after_replies-append}
 use Rattle.session_steps.specs.Standing.{Standing, outcomes_by, commands_by, op_asked, put_down, begun, IsBetween, First}

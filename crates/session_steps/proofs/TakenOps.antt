@@ -16,7 +16,7 @@ use Rattle.command_model.specs.Laws.{AsksOnly}
 use Rattle.command_model.proofs.Devices.{own_device}
 use Rattle.command_model.specs.Taken.{IsTaken}
 use Rattle.tool_steps.specs.declared.dumping.Dumping.{Dumping}
-use Rattle.tool_steps.specs.Stage.{CanRun}
+use Rattle.command_model.specs.Runnable.{CanRun}
 use Rattle.tool_steps.specs.Work.{write_mode, unwritten, later_blocks, program_unit, page_passed, page_read, read_left, look_left}
 use Rattle.tool_steps.proofs.Scripts.{parity_start-low, dump_at, first_script, script_of-first, write_pages-one}
 use Rattle.session_steps.specs.Standing.{First}

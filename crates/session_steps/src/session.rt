@@ -7,7 +7,7 @@ ghost use Rattle.nand_model.specs.declared.words.Note.TheVariants.{Answered};
 ghost use Rattle.nand_model.specs.declared.words.Reply.{Reply as Replied};
 ghost use Rattle.command_model.specs.Command.{script_of};
 ghost use Rattle.command_model.specs.Session.{SessionRun, without_finished, with_reply, next_op_of, is_finished};
-ghost use Rattle.tool_steps.specs.Stage.{CanRun};
+ghost use Rattle.command_model.specs.Runnable.{CanRun};
 ghost use Rattle.session_steps.specs.Mirrors.{CanAllRun, Mirrors};
 ghost use Rattle.session_steps.specs.Standing.{standing, outcomes_by, commands_by, op_asked, put_down, begun, standing_alone, reply_at, end_of, number_of, IsBetween, First, IsWaiting};
 

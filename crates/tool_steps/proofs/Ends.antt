@@ -1,6 +1,7 @@
 -- Commands end after at most their cost.
 use Rattle.std.proofs.Common.{◌≡◌, ℕ, zero, suc, ◌+◌, ◌-◌, ◌*◌, ◌≤◌, Bool, true, false, List, [], ◌∷◌, ◌++◌, length, replicate, refl, sym, subst, arith}
 use Rattle.std.specs.Prelude.{if◌then◌else◌}
+use Rattle.std.proofs.Math.Nat.{zero-div, sub-zero}
 use Rattle.nand_model.specs.declared.geometry.Geometry.{Geometry}
 use Rattle.nand_model.specs.declared.words.Op.{Op}
 use Rattle.nand_model.specs.declared.words.Ending.TheVariants.{Whole, NoSpace, MarkerByte as AtMarkerByte}
@@ -10,11 +11,12 @@ use Rattle.nand_model.specs.declared.words.Command.{Command}
 use Rattle.nand_model.specs.declared.words.Command.TheVariants.{FlashErase, NandWrite, NandDump, NandTest, MarkBad, IsBad as AskBad, Stats as AskStats}
 use Rattle.nand_model.specs.declared.words.Reply.{Reply}
 use Rattle.nand_model.specs.declared.words.Reply.TheVariants.{BadBlock, MarkerByte, ProgramFailed}
-use Rattle.command_model.specs.Command.{Script, End, Ask, next_in, after_replies, cost_of, erase_blocks, write_unit, write_blocks, says_bad, is_dump_bad, stats_outcome}
+use Rattle.command_model.specs.Command.{block_size, Script, End, Ask, next_in, after_replies, cost_of, erase_blocks, write_unit, write_blocks, says_bad, is_dump_bad, stats_outcome}
 use Rattle.command_model.specs.Laws.{IsOver, trouble_of, is_trouble, troubles, CommandsEnd}
 use Rattle.tool_steps.specs.declared.dumping.Dumping.{Dumping}
 use Rattle.tool_steps.specs.Work.{write_mode, unwritten, later_blocks, program_unit, page_dumped, page_passed, page_read, read_left, look_left}
-use Rattle.tool_steps.specs.Stage.{CanRun, device_size}
+use Rattle.command_model.specs.Runnable.{CanRun, WritesOneUnit}
+use Rattle.command_model.specs.Cost.{troubled_blocks}
 use Rattle.tool_steps.specs.Steps.{EndsAtLast}
 use Rattle.tool_steps.proofs.Scripts.{write_pages-one, dump_at, first_script, short_cost, script_of-first, cost_of-short}
 
@@ -153,12 +155,20 @@ module _ (g : Geometry) (unit : List ℕ) (dev : ℕ) (raw : Bool) where
       ≤ left + 1 = scanned_troubles block left skipped failed (λ s f. write_troubles left (block + 1) s f) (says_bad r) replies in
       subst Few (sym (write_pages-one g (write_mode dev raw) unit block left skipped failed)) (omega (arith, few))
 
+-- where a nandwrite begins with the first block, each block of its device may be in trouble
+pub all_troubled : (g : Geometry) (dev blocks : ℕ) (mark raw oob pad : Bool) (off : ℕ) (bytes : List ℕ) → WritesOneUnit g blocks mark oob pad off bytes
+    → troubled_blocks g (NandWrite dev blocks mark raw oob pad off bytes) ≡ blocks
+all_troubled g dev blocks mark raw oob pad off bytes h = rw h.from_first (rw (zero-div (block_size g)) (sub-zero blocks))
+
 first_ends_at_last : (g : Geometry) (command : Command) → CanRun g command → (replies : List Reply)
-    → short_cost g command (device_size command) ≤ length replies → IsOver (next_in (after_replies replies (first_script g command)))
+    → short_cost g command (troubled_blocks g command) ≤ length replies → IsOver (next_in (after_replies replies (first_script g command)))
 first_ends_at_last g (NandWrite dev blocks mark raw oob pad off bytes) h replies few =
     let unit : List ℕ = bytes ++ replicate (g.page - length bytes) 0xff in
     let trouble = write_troubles g unit dev raw (suc (blocks - 1)) 0 0 0 replies in
-    write_ends g unit dev raw (suc (blocks - 1)) 0 0 0 (suc (blocks - 1)) replies trouble (omega (arith, h.size.0))
+    let all = all_troubled g dev blocks mark raw oob pad off bytes h in
+    let enough : blocks + 1 + (g.pages_per_block + 2) * blocks ≤ length replies =
+    subst (λ n. blocks + 1 + (g.pages_per_block + 2) * n ≤ length replies) all few in
+    write_ends g unit dev raw (suc (blocks - 1)) 0 0 0 (suc (blocks - 1)) replies trouble (omega (arith, h.size.0, enough))
 first_ends_at_last g (FlashErase dev blocks no_scan start count) h replies few = erase_ends dev (suc (blocks - 1)) 0 0 0 0 replies (omega (arith, h.size.0))
 first_ends_at_last g (NandDump dev blocks off len raw oob bad) h replies few = dump_ends g (dump_at g dev off raw bad) (is_dump_bad bad) replies few
 first_ends_at_last g (NandTest dev blocks keep mark seed passes off len) h replies few = absurd h
@@ -167,7 +177,7 @@ first_ends_at_last g (AskBad dev blocks block) h replies few = ask_ends _ AskedB
 first_ends_at_last g (AskStats dev blocks) h replies few = ask_ends _ stats_outcome replies few
 
 -- a command that can be run ends whatever the replies are
-pub command_ends_at_last : (g : Geometry) (command : Command) → CanRun g command → EndsAtLast g command (device_size command)
+pub command_ends_at_last : (g : Geometry) (command : Command) → CanRun g command → EndsAtLast g command (troubled_blocks g command)
 command_ends_at_last g command h replies few =
     let Ends : Script → Type 0 = λ s. IsOver (next_in (after_replies replies s)) in
-    subst Ends (sym (script_of-first g command h)) (first_ends_at_last g command h replies (rw (← cost_of-short g command (device_size command) h) few))
+    subst Ends (sym (script_of-first g command h)) (first_ends_at_last g command h replies (rw (← cost_of-short g command (troubled_blocks g command) h) few))

@@ -14,7 +14,7 @@ use Rattle.nand_model.specs.declared.words.Command.TheVariants.{FlashErase, Nand
 use Rattle.nand_model.specs.declared.words.Reply.{Reply}
 use Rattle.nand_model.specs.declared.words.Outcome.TheVariants.{IsBad as AskedBad, Stats as AskedStats}
 use Rattle.command_model.specs.Command.{Script, Ask, End, WriteMode, next_in, next_step, after_replies, script_of, cost_of, erase_blocks, write_pages, write_blocks, blocks_touched, block_size, unit_count, is_dump_bad, stats_outcome}
-use Rattle.tool_steps.specs.Stage.{ErasesAll, WritesOneUnit, DumpsOnePage, CanRun}
+use Rattle.command_model.specs.Runnable.{ErasesAll, WritesOneUnit, DumpsOnePage, CanRun}
 use Rattle.tool_steps.specs.Steps.{is_over, handed, after_last, HasHad}
 use Rattle.tool_steps.specs.Work.{write_mode, unwritten, program_unit, read_left, look_left, dump_left}
 use Rattle.tool_steps.specs.declared.dumping.Dumping.{Dumping}

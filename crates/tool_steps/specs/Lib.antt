@@ -1,4 +1,3 @@
-pub mod Stage
 pub mod Steps
 pub mod Work
 pub mod Boot

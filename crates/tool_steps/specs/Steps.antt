@@ -36,6 +36,6 @@ abbrev pub asks_something : Command → Bool
 asks_something (NandWrite dev blocks mark raw oob pad off bytes) = nat_lt 0 (length bytes)
 asks_something _ = true
 
--- with the device's size as the allowance for failing pages, the cost bounds the operations whatever the replies are
+-- with this allowance for failing pages, the cost bounds the operations whatever the replies are
 abbrev pub EndsAtLast : Geometry → Command → ℕ → Type 0
-EndsAtLast g command blocks = (replies : List Reply) → cost_of g command blocks ≤ length replies → IsOver (next_in (after_replies replies (script_of g command)))
+EndsAtLast g command weak = (replies : List Reply) → cost_of g command weak ≤ length replies → IsOver (next_in (after_replies replies (script_of g command)))

@@ -2,8 +2,10 @@
 ghost use Rattle.std.specs.Prelude.{◌≡◌, [], ◌+◌, ◌*◌, ◌^◌, ◌<◌, ◌≤◌, not};
 ghost use Rattle.nand_model.specs.declared.geometry.Geometry.{Geometry as Sizes};
 ghost use Rattle.command_model.specs.Command.{cost_of, next_step};
+ghost use Rattle.command_model.specs.Cost.{troubled_blocks};
 ghost use Rattle.command_model.specs.Laws.{CommandsEnd};
-ghost use Rattle.tool_steps.specs.Stage.{CanRun, device_size};
+ghost use Rattle.command_model.specs.Runnable.{CanRun};
+ghost use Rattle.command_model.specs.Command.{command_blocks};
 ghost use Rattle.tool_steps.specs.Steps.{asks_something, is_over, EndsAtLast};
 
 use nand_model::{Command, Geometry, Part};
@@ -24,14 +26,16 @@ pub fn has_operation(command: &Command) -> bool
     }
 }
 
-/// The most operations that a command takes, where at most `weak` of its written pages fail or are refused. With the number of the device's blocks as `weak`
-/// it bounds the operations whatever the replies are.
+/// The most operations that a command takes, where at most `weak` of its written pages fail or are refused.
+///
+/// For a nandwrite with the number of the device's blocks from the one of its offset on as `weak` it bounds the operations whatever
+/// the replies are.
 pub fn cost(command: &Command, g: &Geometry, part: &Part, weak: u32) -> u64
     requires runs { CanRun g.now command.now }
-    requires blocks { device_size command.now ≡ part.now.count }
+    requires blocks { command_blocks command.now ≡ part.now.count }
     ensures bound { result ≡ cost_of g.now command.now weak }
     ensures ends { CommandsEnd g.now command.now }
-    ensures ends_at_last { EndsAtLast g.now command.now part.now.count }
+    ensures ends_at_last { EndsAtLast g.now command.now (troubled_blocks g.now command.now) }
 {
     match command {
         Command::FlashErase { .. } => 2 * u64::from(part.count),

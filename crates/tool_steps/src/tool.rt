@@ -4,7 +4,7 @@ ghost use Rattle.nand_model.specs.declared.geometry.Geometry.{Geometry as Sizes}
 ghost use Rattle.nand_model.specs.declared.words.Command.{Command as Ordered};
 ghost use Rattle.nand_model.specs.declared.words.Reply.{Reply as Replied};
 ghost use Rattle.command_model.specs.Command.{Over, next_in, script_of};
-ghost use Rattle.tool_steps.specs.Stage.{CanRun};
+ghost use Rattle.command_model.specs.Runnable.{CanRun};
 ghost use Rattle.tool_steps.specs.Steps.{handed, after_last, step_of, is_over, HasHad};
 ghost use Rattle.tool_steps.specs.Work.{script_left, unit_bytes};
 

@@ -17,7 +17,7 @@ use Rattle.run_laws.proofs.Places.{position_is}
 use Rattle.run_laws.proofs.Turns.{turn_is_step}
 use Rattle.run_laws.proofs.Courses.{Holds}
 use Rattle.run_laws.proofs.Faithful.{course_holds}
-use Rattle.turn_laws.specs.Cost.{boot_cost, CanRunBoot}
+use Rattle.run_model.specs.Start.{boot_cost, CanRunBoot}
 use Rattle.turn_laws.specs.Laws.{BusyTurnsAreFew}
 use Rattle.turn_laws.proofs.Costs.{EachGood, all_left, start_good, start_left}
 use Rattle.turn_laws.proofs.Turns.{dark_turns, turns_taken_few}

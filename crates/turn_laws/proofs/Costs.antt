@@ -12,9 +12,9 @@ use Rattle.nand_model.specs.declared.words.Reply.{Reply}
 use Rattle.command_model.specs.Command.{Next, Do, Over, next_step}
 use Rattle.command_model.specs.Session.{SessionRun, without_finished, with_reply, replied, next_op_of}
 use Rattle.command_model.specs.Laws.{IsOver}
-use Rattle.tool_steps.specs.Stage.{CanRun}
+use Rattle.command_model.specs.Runnable.{CanRun}
 use Rattle.tool_steps.proofs.Ends.{command_ends_at_last}
-use Rattle.turn_laws.specs.Cost.{command_cost, commands_cost, sessions_cost}
+use Rattle.command_model.specs.Cost.{command_cost, commands_cost, sessions_cost}
 
 module _ (sizes : Command → Geometry) where
   -- each of these commands can be run

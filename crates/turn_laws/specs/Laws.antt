@@ -4,7 +4,7 @@ use Rattle.nand_model.specs.Chip.{ChipState, FaultModel}
 use Rattle.command_model.specs.Boot.{Boot}
 use Rattle.run_model.specs.Course.{course_after}
 use Rattle.run_laws.specs.Turns.{busy_turns}
-use Rattle.turn_laws.specs.Cost.{boot_cost}
+use Rattle.run_model.specs.Start.{boot_cost}
 
 -- the most events of an operation: those of a mark, two for its block and twelve for its tables
 abbrev pub events_of_operation : ℕ

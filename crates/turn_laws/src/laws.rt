@@ -3,7 +3,7 @@ ghost use Rattle.std.specs.Prelude.{ℕ, List};
 ghost use Rattle.nand_model.specs.Chip.{ChipState, FaultModel};
 ghost use Rattle.command_model.specs.Boot.{Boot};
 ghost use Rattle.run_model.specs.Run.{HaveOneNumberEach};
-ghost use Rattle.turn_laws.specs.Cost.{CanRunBoot};
+ghost use Rattle.run_model.specs.Start.{CanRunBoot};
 ghost use Rattle.turn_laws.specs.Laws.{BusyTurnsAreFew, EventsAreTurns, HaveNoTables, AttachesReadBlocks};
 
 /// A boot of commands that can be run ends, where each session has one number: whatever the turns, few of them do anything, and each does at most

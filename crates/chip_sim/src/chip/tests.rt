@@ -1,6 +1,7 @@
 // Simulated chips with pages of 2,048 bytes and a spare of 64, through the trait.
 ghost use Rattle.std.specs.Prelude.{◌≡◌, ◌≤◌, ◌<◌, ◌^◌, length, All, IfOk};
-ghost use Rattle.nand_iface.specs.Flash.{FitsBits, FitsPage};
+ghost use Rattle.nand_model.specs.Flips.{FitsBits};
+ghost use Rattle.nand_iface.specs.Flash.{FitsPage};
 ghost use Rattle.chip_sim.specs.State.{sim_state};
 
 use super::*;

@@ -2,7 +2,7 @@ use Rattle.std.proofs.Common.{◌≡◌, ◌<◌, ◌∷◌, ◌++◌, [], List,
 use Rattle.std.specs.Prelude.{All, IsSome}
 use Rattle.ctl_core.specs.Bench.{kept_slot}
 use Rattle.ctl_core.specs.KeptChip.{kept_first}
-use Rattle.ctl_core.specs.Start.{IsPlain}
+use Rattle.run_model.specs.Start.{IsPlain}
 use Rattle.ctl_core.proofs.FirstAndLast.{all_first, all_later, moved_on}
 use Rattle.ctl_core.proofs.starting.first_slots.Goals as goal
 

@@ -2,7 +2,7 @@ use Rattle.std.proofs.Common.{◌≡◌, ◌++◌, length, map}
 use Rattle.std.specs.Prelude.{All}
 use Rattle.ctl_core.specs.Bench.{kept_slot}
 use Rattle.ctl_core.specs.KeptChip.{kept_first}
-use Rattle.ctl_core.specs.Start.{IsPlain}
+use Rattle.run_model.specs.Start.{IsPlain}
 use Rattle.ctl_core.proofs.starting.first_slots.Given as goal
 
 abbrev pub invariant-loop-flash : goal.invariant-loop-flash

@@ -8,7 +8,7 @@ use Rattle.nand_model.specs.declared.words.Reply.{Reply}
 use Rattle.nand_model.specs.declared.words.Reply.TheVariants.{State}
 use Rattle.command_model.specs.Command.{Next, Do, Over, next_step}
 use Rattle.command_model.specs.Session.{SessionRun, without_finished, with_reply}
-use Rattle.tool_steps.specs.Stage.{CanRun}
+use Rattle.command_model.specs.Runnable.{CanRun}
 use Rattle.tool_steps.proofs.Scripts.{pages_positive}
 use Rattle.session_steps.specs.Standing.{First}
 use Rattle.session_steps.specs.Mirrors.{CanAllRun}

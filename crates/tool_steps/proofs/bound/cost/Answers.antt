@@ -1,20 +1,15 @@
 use Rattle.std.proofs.Common.{◌≡◌, ℕ, sym, subst, ap, ◌∙◌}
-use Rattle.tool_steps.specs.Stage.{CanRun, device_size}
-use Rattle.tool_steps.specs.Steps.{EndsAtLast}
 use Rattle.tool_steps.proofs.Scripts.{pages-le, short_cost, cost_of-short}
 use Rattle.tool_steps.proofs.Ends.{command_ends, command_ends_at_last}
 use Rattle.nand_model.specs.declared.geometry.Geometry.{Geometry}
 use Rattle.nand_model.specs.declared.words.Command.{Command}
 use Rattle.tool_steps.proofs.bound.cost.Goals as goal
 
-at_last : (g : Geometry) (command : Command) (count : ℕ) → CanRun g command → device_size command ≡ count → EndsAtLast g command count
-at_last g command count h same = let Ends : ℕ → Type 0 = λ n. EndsAtLast g command n in subst Ends same (command_ends_at_last g command h)
-
 pub returns-in-FlashErase-clause-ends : goal.returns-in-FlashErase-clause-ends
 returns-in-FlashErase-clause-ends c = command_ends c.args.g.now c.args.command.now c.requires.runs
 
 pub returns-in-FlashErase-clause-ends_at_last : goal.returns-in-FlashErase-clause-ends_at_last
-returns-in-FlashErase-clause-ends_at_last c = at_last c.args.g.now c.args.command.now c.args.part.now.count c.requires.runs c.requires.blocks
+returns-in-FlashErase-clause-ends_at_last c = command_ends_at_last c.args.g.now c.args.command.now c.requires.runs
 
 pub trouble_cost-requires : goal.trouble_cost-requires
 trouble_cost-requires c = pages-le c.args.g.now
@@ -23,7 +18,7 @@ pub returns-in-NandWrite-clause-ends : goal.returns-in-NandWrite-clause-ends
 returns-in-NandWrite-clause-ends c = command_ends c.args.g.now c.args.command.now c.requires.runs
 
 pub returns-in-NandWrite-clause-ends_at_last : goal.returns-in-NandWrite-clause-ends_at_last
-returns-in-NandWrite-clause-ends_at_last c = at_last c.args.g.now c.args.command.now c.args.part.now.count c.requires.runs c.requires.blocks
+returns-in-NandWrite-clause-ends_at_last c = command_ends_at_last c.args.g.now c.args.command.now c.requires.runs
 
 pub returns-in-NandDump-clause-bound : goal.returns-in-NandDump-clause-bound
 returns-in-NandDump-clause-bound c =
@@ -34,16 +29,16 @@ pub returns-in-NandDump-clause-ends : goal.returns-in-NandDump-clause-ends
 returns-in-NandDump-clause-ends c = command_ends c.args.g.now c.args.command.now c.requires.runs
 
 pub returns-in-NandDump-clause-ends_at_last : goal.returns-in-NandDump-clause-ends_at_last
-returns-in-NandDump-clause-ends_at_last c = at_last c.args.g.now c.args.command.now c.args.part.now.count c.requires.runs c.requires.blocks
+returns-in-NandDump-clause-ends_at_last c = command_ends_at_last c.args.g.now c.args.command.now c.requires.runs
 
 pub returns-in-IsBad-clause-ends : goal.returns-in-IsBad-clause-ends
 returns-in-IsBad-clause-ends c = command_ends c.args.g.now c.args.command.now c.requires.runs
 
 pub returns-in-IsBad-clause-ends_at_last : goal.returns-in-IsBad-clause-ends_at_last
-returns-in-IsBad-clause-ends_at_last c = at_last c.args.g.now c.args.command.now c.args.part.now.count c.requires.runs c.requires.blocks
+returns-in-IsBad-clause-ends_at_last c = command_ends_at_last c.args.g.now c.args.command.now c.requires.runs
 
 pub returns-in-IsBad-3-clause-ends : goal.returns-in-IsBad-3-clause-ends
 returns-in-IsBad-3-clause-ends c = command_ends c.args.g.now c.args.command.now c.requires.runs
 
 pub returns-in-IsBad-3-clause-ends_at_last : goal.returns-in-IsBad-3-clause-ends_at_last
-returns-in-IsBad-3-clause-ends_at_last c = at_last c.args.g.now c.args.command.now c.args.part.now.count c.requires.runs c.requires.blocks
+returns-in-IsBad-3-clause-ends_at_last c = command_ends_at_last c.args.g.now c.args.command.now c.requires.runs

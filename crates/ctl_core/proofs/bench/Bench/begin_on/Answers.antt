@@ -6,7 +6,7 @@ use Rattle.nand_model.specs.declared.geometry.Geometry.{Geometry}
 use Rattle.nand_model.specs.declared.words.Command.{Command}
 use Rattle.nand_model.specs.declared.words.Note.TheVariants.{Began}
 use Rattle.nand_model.specs.Partitions.{Partitions}
-use Rattle.tool_steps.specs.Stage.{CanRun}
+use Rattle.command_model.specs.Runnable.{CanRun}
 use Rattle.session_steps.specs.Standing.{First, commands_by, standing}
 use Rattle.chip_core.specs.Begin.{CanBegin}
 use Rattle.ctl_core.specs.KeptChip.{KeptChip, after_begin}

@@ -1,7 +1,7 @@
 use Rattle.std.proofs.Common.{◌≡◌, ◌≤◌, ◌+◌, ◌*◌, ℕ, List, length, Bool, true, false, not, None, Ok, refl, ap, sym, ◌∙◌, subst}
 use Rattle.std.specs.declared.alloc.AllocError.{AllocError}
 use Rattle.run_model.specs.Course.{is_idle, unattached}
-use Rattle.turn_laws.specs.Cost.{boot_cost}
+use Rattle.run_model.specs.Start.{boot_cost}
 use Rattle.ctl_core.specs.declared.turn.Turn.{Turn}
 use Rattle.ctl_core.specs.declared.turn.Turn.TheVariants.{Did, Held, Done, Dark}
 use Rattle.ctl_core.specs.Answer.{is_did, turn_answer, after_turn}

@@ -1,5 +1,5 @@
 use Rattle.std.proofs.Common.{◌+◌, ◌*◌, ◌≤◌, length, subst, sym, ◌∙◌}
-use Rattle.turn_laws.specs.Cost.{boot_cost}
+use Rattle.run_model.specs.Start.{boot_cost}
 use Rattle.ctl_core.specs.Past.{Past, starts_of}
 use Rattle.ctl_core.specs.Bench.{past_of}
 use Rattle.ctl_core.proofs.Limits.{few_turns}

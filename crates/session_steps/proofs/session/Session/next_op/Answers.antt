@@ -1,5 +1,5 @@
 use Rattle.std.proofs.Common.{◌≡◌, length, ◌∙◌}
-use Rattle.tool_steps.specs.Stage.{CanRun}
+use Rattle.command_model.specs.Runnable.{CanRun}
 use Rattle.session_steps.proofs.Mirrors.{no_op, next_there, next_mirrors, next_op_if}
 use Rattle.session_steps.proofs.session.Session.next_op.Goals as goal
 

@@ -1,9 +1,9 @@
 -- Which commands can be run: `nandwrite -p` of one unit and `nanddump` of one page, both also with `-n`, `flash_erase -N` of a device, `isbad` and `stats`.
-use Rattle.std.specs.Prelude.{◌≡◌, ℕ, ◌*◌, ◌%◌, ◌<◌, ◌≤◌, Bool, true, false, List, length}
+use Rattle.std.specs.Prelude.{ℕ, ◌≤◌, ◌≡◌, Bool, true, false, List, length, ◌*◌, ◌%◌, ◌<◌}
+use Rattle.command_model.specs.Command.{block_size}
 use Rattle.nand_model.specs.declared.geometry.Geometry.{Geometry}
 use Rattle.nand_model.specs.declared.words.Command.{Command}
 use Rattle.nand_model.specs.declared.words.Command.TheVariants.{FlashErase, NandWrite, NandDump, NandTest, MarkBad, IsBad, Stats}
-use Rattle.command_model.specs.Command.{block_size}
 
 -- the blocks that a device may have
 abbrev pub IsDeviceSize : ℕ → Type 0
@@ -43,13 +43,3 @@ CanRun g (NandTest dev blocks keep mark seed passes off len) = ⊥
 CanRun g (MarkBad dev blocks block) = ⊥
 CanRun g (IsBad dev blocks block) = IsDeviceSize blocks
 CanRun g (Stats dev blocks) = IsDeviceSize blocks
-
--- the blocks of the device that a command names
-abbrev pub device_size : Command → ℕ
-device_size (FlashErase dev blocks no_scan start count) = blocks
-device_size (NandWrite dev blocks mark raw oob pad off bytes) = blocks
-device_size (NandDump dev blocks off len raw oob bad) = blocks
-device_size (NandTest dev blocks keep mark seed passes off len) = blocks
-device_size (MarkBad dev blocks block) = blocks
-device_size (IsBad dev blocks block) = blocks
-device_size (Stats dev blocks) = blocks
