@@ -12,17 +12,17 @@ use Rattle.nand_model.specs.Sizes.{first_page}
 use Rattle.nand_model.specs.declared.geometry.Geometry.{Geometry}
 use Rattle.nand_model.specs.declared.words.Fairness.{Fairness}
 use Rattle.nand_iface.proofs.FlashLemmas.{happens-geometry}
-use Rattle.chip_paths.specs.Stage.{Stage, Works, fairness_where_failed, news_after, path_after, stage_after, stage_event}
+use Rattle.chip_paths.specs.Stage.{Stage, Works, one_further, fairness_where_failed, pending_note_after, path_after, stage_after, stage_event}
 use Rattle.chip_core.specs.Knowledge.{known_in}
 use Rattle.chip_core.specs.Markers.{marker_page}
 use Rattle.chip_core.specs.Phase.{KnowsQuiet, PhaseFits, phase_stage}
-use Rattle.chip_core.specs.Task.{Advances, task_event, task_left}
+use Rattle.chip_core.specs.Task.{Advances, task_event, task_left, task_progress}
 use Rattle.chip_core.specs.declared.phase.Phase.{Phase}
 use Rattle.chip_core.specs.declared.phase.Phase.TheVariants.{Attaching as IsAttaching, Working}
 use Rattle.chip_core.specs.declared.scan.Scan.{Scan}
 use Rattle.chip_core.specs.declared.knowledge.Knowledge.{Knowledge}
 use Rattle.chip_core.specs.declared.task.Task.{Task}
-use Rattle.chip_core.specs.declared.task.Task.TheVariants.{Reading, Decoding as IsDecoding, Programming, Erasing, Decoded, Ended}
+use Rattle.chip_core.specs.declared.task.Task.TheVariants.{Reading, Decoding as IsDecoding, Programming, Erasing, Decoded, AtOnce, Ended}
 use Rattle.chip_core.proofs.Scanning.{next_read}
 
 -- a task has an event where its path has one
@@ -32,6 +32,7 @@ has_event g k (IsDecoding dev page cells) h = h
 has_event g k (Programming page image) h = h
 has_event g k (Erasing block) h = h
 has_event g k (Decoded dev kind read image) h = h
+has_event g k (AtOnce reply) h = h
 has_event g k (Ended reply) h = h
 
 pub working_has_event : (known : Knowledge) (phase : Phase) (task : Task) → phase ≡ Working task → IsSome (stage_event (phase_stage known phase))
@@ -46,6 +47,7 @@ event_is g k (IsDecoding dev page cells) = refl
 event_is g k (Programming page image) = refl
 event_is g k (Erasing block) = refl
 event_is g k (Decoded dev kind read image) = refl
+event_is g k (AtOnce reply) = refl
 event_is g k (Ended reply) = refl
 
 told_where_failed : (failed : Bool) (fairness : Fairness) → is_some (fairness_where_failed failed fairness) ≡ failed
@@ -83,7 +85,8 @@ module _ {W : Type 0} (model : FaultModel W) (before after : ChipState W) (old n
         of_operation (λ stage e. phase_stage known (Working new) ≡ stage_after quiet (answer_to model before e) stage)
         (λ e done.
         let Goes : Geometry → Type 0 = λ g. task_left g k new ≡ path_after (answer_to model before e) (task_left g k old) in
-        ap (Works k) (subst Goes sizes (done.left k)))
+        ap (λ progress. Works k progress (task_left known.geometry k new)) done.progress
+        ∙ ap (Works k (one_further (task_progress old))) (subst Goes sizes (done.left k)))
 
     pub tells : IfSome (stage_event (phase_stage known phase)) (λ e. is_some told ≡ is_failure (answer_to model before e))
     tells =
@@ -119,11 +122,11 @@ module _ {W : Type 0} (model : FaultModel W) (s : ChipState W) (known : Knowledg
         ∙ ap (λ answer. stage_after quiet answer (phase_stage known (IsAttaching scan))) (sym saw)
         ∙ ap (λ p. stage_after quiet (answer_to model s (ReadEvent (first_page known.geometry scan.next))) (phase_stage known p)) (sym is))
 
-    pub read_news : (after news : Option (Bool × Attaching))
-        → after ≡ news_after scan.quiet_now (Data (marker_page s scan.next)) (phase_stage known (IsAttaching scan)) None
-        → IfSome (stage_event (phase_stage known phase)) (λ e. after ≡ news_after quiet (answer_to model s e) (phase_stage known phase) news)
-    read_news after news same =
-        of_read (λ e. after ≡ news_after quiet (answer_to model s e) (phase_stage known phase) news)
-        (same ∙ ap (λ q. news_after q (Data (marker_page s scan.next)) (phase_stage known (IsAttaching scan)) news) (sym now)
-        ∙ ap (λ answer. news_after quiet answer (phase_stage known (IsAttaching scan)) news) (sym saw)
-        ∙ ap (λ p. news_after quiet (answer_to model s (ReadEvent (first_page known.geometry scan.next))) (phase_stage known p) news) (sym is))
+    pub read_pending_note : (after pending_note : Option (Bool × Attaching))
+        → after ≡ pending_note_after scan.quiet_now (Data (marker_page s scan.next)) (phase_stage known (IsAttaching scan)) None
+        → IfSome (stage_event (phase_stage known phase)) (λ e. after ≡ pending_note_after quiet (answer_to model s e) (phase_stage known phase) pending_note)
+    read_pending_note after pending_note same =
+        of_read (λ e. after ≡ pending_note_after quiet (answer_to model s e) (phase_stage known phase) pending_note)
+        (same ∙ ap (λ q. pending_note_after q (Data (marker_page s scan.next)) (phase_stage known (IsAttaching scan)) pending_note) (sym now)
+        ∙ ap (λ answer. pending_note_after quiet answer (phase_stage known (IsAttaching scan)) pending_note) (sym saw)
+        ∙ ap (λ p. pending_note_after quiet (answer_to model s (ReadEvent (first_page known.geometry scan.next))) (phase_stage known p) pending_note) (sym is))

@@ -8,7 +8,7 @@ use Rattle.nand_model.specs.Chip.{ChipState, Complete, FaultModel, PageEvent, Re
 use Rattle.nand_model.specs.Path.{Path, Over, Data, answer_to}
 use Rattle.nand_model.specs.Quiet.{is_quiet}
 use Rattle.nand_model.specs.Sizes.{numbers_from, first_page}
-use Rattle.chip_paths.specs.Stage.{Stage, Attaches, Rests, attach_end, attach_stage, first_stage, news_after, path_after, stage_after, stage_event}
+use Rattle.chip_paths.specs.Stage.{Stage, Attaches, Rests, attach_end, attach_stage, first_stage, pending_note_after, path_after, stage_after, stage_event}
 use Rattle.chip_core.specs.Markers.{attached_by_markers, blocks_from, known_by_markers, marker_page, marker_state, markers_left}
 use Rattle.chip_core.specs.Whole.{marker_states}
 use Rattle.chip_core.proofs.Scanning.{attach_path-markers, blocks_from-end, blocks_from-head, next_read, no_end_yet, still_attaches}
@@ -27,10 +27,10 @@ quiet_before s zero = true
 quiet_before s (suc events) = is_quiet s.geometry s.pages
 
 -- a chip of which the blocks before this one are read
-pub record IsAttachedTo {W : Type 0} (start : ChipState W) (block : ℕ) (now : ChipState W) (stage : Stage) (news : Option (Bool × Attaching)) : Type 0 where
+pub record IsAttachedTo {W : Type 0} (start : ChipState W) (block : ℕ) (now : ChipState W) (stage : Stage) (pending_note : Option (Bool × Attaching)) : Type 0 where
   pub same : now ≡ start
   pub stage_is : stage ≡ attach_stage (left_from start block) (quiet_before start block)
-  pub news_is : news ≡ attach_end (left_from start block) (quiet_before start block)
+  pub pending_note_is : pending_note ≡ attach_end (left_from start block) (quiet_before start block)
 
 and-self : (a : Bool) → (a && a) ≡ a
 and-self true = refl
@@ -65,16 +65,16 @@ module _ {W : Type 0} (start : ChipState W) where
   first_there : 0 < start.geometry.blocks
   first_there = let low = (bounds start.geometry).blocks_low in omega arith
 
-  pub begins : start.geometry.bbt ≡ 0 → (now : ChipState W) (stage : Stage) (news : Option (Bool × Attaching)) → now ≡ start
-      → stage ≡ first_stage start.geometry → news ≡ None
-      → IsAttachedTo start 0 now stage news
-  begins none now stage news same stage_is news_is = record {
+  pub begins : start.geometry.bbt ≡ 0 → (now : ChipState W) (stage : Stage) (pending_note : Option (Bool × Attaching)) → now ≡ start
+      → stage ≡ first_stage start.geometry → pending_note ≡ None
+      → IsAttachedTo start 0 now stage pending_note
+  begins none now stage pending_note same stage_is pending_note_is = record {
     same = same;
     stage_is = stage_is ∙ ap (λ left. Attaches left true) (attach_path-markers start.geometry none) ∙ sym (still_attaches start.geometry [] 0 first_there true);
-    news_is = news_is ∙ sym (no_end_yet start.geometry [] 0 first_there true);
+    pending_note_is = pending_note_is ∙ sym (no_end_yet start.geometry [] 0 first_there true);
   }
 
-  module _ (block : ℕ) (now : ChipState W) (stage : Stage) (news : Option (Bool × Attaching)) (at : IsAttachedTo start block now stage news) where
+  module _ (block : ℕ) (now : ChipState W) (stage : Stage) (pending_note : Option (Bool × Attaching)) (at : IsAttachedTo start block now stage pending_note) where
     module _ (there : block < start.geometry.blocks) where
       attaches : stage ≡ Attaches (left_from start block) (quiet_before start block)
       attaches = at.stage_is ∙ still_attaches start.geometry (states_before start block) block there (quiet_before start block)
@@ -99,12 +99,12 @@ module _ {W : Type 0} (start : ChipState W) where
         saw = ap (λ s. answer_to model s (ReadEvent (first_page start.geometry block))) at.same
 
         -- one more block is read
-        pub goes_on : (after : ChipState W) (stage_then : Stage) (news_then : Option (Bool × Attaching))
+        pub goes_on : (after : ChipState W) (stage_then : Stage) (pending_note_then : Option (Bool × Attaching))
             → IfSome (stage_event stage) (λ e. after ≡ happens model now (Complete e))
             → IfSome (stage_event stage) (λ e. stage_then ≡ stage_after (is_quiet now.geometry now.pages) (answer_to model now e) stage)
-            → IfSome (stage_event stage) (λ e. news_then ≡ news_after (is_quiet now.geometry now.pages) (answer_to model now e) stage news)
-            → IsAttachedTo start (block + 1) after stage_then news_then
-        goes_on after stage_then news_then state_is stage_is news_is =
+            → IfSome (stage_event stage) (λ e. pending_note_then ≡ pending_note_after (is_quiet now.geometry now.pages) (answer_to model now e) stage pending_note)
+            → IsAttachedTo start (block + 1) after stage_then pending_note_then
+        goes_on after stage_then pending_note_then state_is stage_is pending_note_is =
             let read : PageEvent = ReadEvent (first_page start.geometry block) in
             let quiet : Bool = is_quiet start.geometry start.pages in
             record {
@@ -116,11 +116,11 @@ module _ {W : Type 0} (start : ChipState W) where
                   ∙ ap (stage_after quiet (Data (marker_page start block))) attaches
                   ∙ ap (λ left. attach_stage left (quiet_before start block && quiet)) path_goes_on
                   ∙ ap (attach_stage (left_from start (block + 1))) (quiet_before-more start block);
-              news_is =
-                  at_some (stage_event stage) read (λ e. news_then ≡ news_after (is_quiet now.geometry now.pages) (answer_to model now e) stage news) reads
-                  news_is
-                  ∙ ap (λ q. news_after q (answer_to model now read) stage news) is_now ∙ ap (λ answer. news_after quiet answer stage news) saw
-                  ∙ ap (λ stage. news_after quiet (Data (marker_page start block)) stage news) attaches
+              pending_note_is =
+                  at_some (stage_event stage) read (λ e. pending_note_then ≡ pending_note_after (is_quiet now.geometry now.pages) (answer_to model now e) stage pending_note) reads
+                  pending_note_is
+                  ∙ ap (λ q. pending_note_after q (answer_to model now read) stage pending_note) is_now ∙ ap (λ answer. pending_note_after quiet answer stage pending_note) saw
+                  ∙ ap (λ stage. pending_note_after quiet (Data (marker_page start block)) stage pending_note) attaches
                   ∙ ap (λ left. attach_end left (quiet_before start block && quiet)) path_goes_on
                   ∙ ap (attach_end (left_from start (block + 1))) (quiet_before-more start block);
             }
@@ -139,7 +139,7 @@ module _ {W : Type 0} (start : ChipState W) where
       was_quiet zero none = absurd (omega arith)
       was_quiet (suc events) some = refl
 
-      pub now_news : news ≡ Some (is_quiet start.geometry start.pages, attached_by_markers (marker_states start))
-      now_news =
-          at.news_is ∙ ap (λ left. attach_end left (quiet_before start block)) all_read
+      pub now_pending_note : pending_note ≡ Some (is_quiet start.geometry start.pages, attached_by_markers (marker_states start))
+      now_pending_note =
+          at.pending_note_is ∙ ap (λ left. attach_end left (quiet_before start block)) all_read
           ∙ ap (λ q. Some (q, attached_by_markers (marker_states start))) (was_quiet block (rw last first_there))

@@ -5,7 +5,7 @@ use Rattle.std.proofs.Math.Nat.{min-eq_left, min-eq_right}
 use Rattle.std.proofs.lemmas.Bool.{false≢true, true≢false, both_ways, cases_lt}
 use Rattle.chip_paths.specs.Attach.{Attaching}
 use Rattle.nand_model.specs.Chip.{ChipState, Complete, DoneBits, EraseCall, EraseEvent, FaultModel, PageEvent, ProgramCall, ProgramEvent, ReadEvent, counted, erase_block, failure_of, happens, program_page, saturating_increment}
-use Rattle.chip_paths.specs.ChipRun.{name_of}
+use Rattle.chip_paths.specs.ChipRun.{AtStart, name_of}
 use Rattle.nand_model.specs.Counts.{HasRisen}
 use Rattle.chip_paths.specs.Operation.{Finished, Known, after_read, answer, bad_count, chip_block, chip_page, done_or, entry_of, has_block, has_page, is_good_block, only_if, operation_by, operation_in, operation_path, raw_reply}
 use Rattle.nand_model.specs.Partitions.{Partitions, device_of, part_of}
@@ -20,7 +20,7 @@ use Rattle.nand_model.specs.declared.words.Reply.TheVariants.{Counts, OutOfRange
 use Rattle.chip_core.specs.Begin.{read_device}
 use Rattle.chip_core.specs.Task.{erased_from, program_from, raw_read_from, read_from}
 use Rattle.command_model.specs.Taken.{IsTaken}
-use Rattle.chip_paths.specs.Stage.{Stage, Attaches, Rests, Works, finished_in, is_resting, news_after, stage_after, stage_begun, stage_event}
+use Rattle.chip_paths.specs.Stage.{Stage, Attaches, Rests, Works, finished_in, is_resting, pending_note_after, stage_after, stage_begun, stage_event}
 use Rattle.chip_core.specs.Whole.{HasCause, HasPerformed, is_fault, is_refusal, known_at_rest, refusal_in, refusal_of, refused_unless}
 
 -- an operation ended with this reply, and nothing else known than before
@@ -165,7 +165,7 @@ module _ {W : Type 0} (model : FaultModel W) (partitions : Partitions) (op : Op)
 
     at_once : (path : Path Finished) → operation_path s.geometry partitions k op ≡ path → is_some (option_map name_of (first_event path)) ≡ false
         → (refusal : Option Reply) → IsShort k (read_device op) refusal path
-        → refusal_of s.geometry k (part_of partitions (device_of op)) op ≡ refusal → Ends s (Rests k) (Works k path)
+        → refusal_of s.geometry k (part_of partitions (device_of op)) op ≡ refusal → Ends s (Rests k) (Works k AtStart path)
     at_once path is none refusal (refused reply no_fault) why = record {
       known = k;
       end = ended k reply;
@@ -189,7 +189,7 @@ module _ {W : Type 0} (model : FaultModel W) (partitions : Partitions) (op : Op)
     after_one : (path : Path Finished) (quiet : Bool) (after : ChipState W) (last : Stage)
         → operation_path s.geometry partitions k op ≡ path → is_some (option_map name_of (first_event path)) ≡ true
         → IfSome (first_event path) (λ e. after ≡ happens model s (Complete e))
-        → IfSome (first_event path) (λ e. last ≡ stage_after quiet (answer_to model s e) (Works k path))
+        → IfSome (first_event path) (λ e. last ≡ stage_after quiet (answer_to model s e) (Works k AtStart path))
         → (refusal : Option Reply) → IsShort k (read_device op) refusal path
         → refusal_of s.geometry k (part_of partitions (device_of op)) op ≡ refusal → Ends after (Rests k) last
     after_one path quiet after last is some state stage refusal (refused reply no_fault) why = absurd (false≢true some)
@@ -222,25 +222,25 @@ module _ {W : Type 0} (model : FaultModel W) (partitions : Partitions) (op : Op)
               });
         }
 
-  news_stay : (quiet : Bool) (answer : Answer) (first begun : Stage) (news : Option (Bool × Attaching)) → is_resting first ≡ true
+  pending_note_stay : (quiet : Bool) (answer : Answer) (first begun : Stage) (pending_note : Option (Bool × Attaching)) → is_resting first ≡ true
       → begun ≡ stage_begun s.geometry partitions op first
-      → news_after quiet answer begun news ≡ news
-  news_stay quiet answer (Attaches left q) begun news rests is = absurd (false≢true rests)
-  news_stay quiet answer (Works k left) begun news rests is = absurd (false≢true rests)
-  news_stay quiet answer (Rests k) begun news rests is = ap (λ stage. news_after quiet answer stage news) is
+      → pending_note_after quiet answer begun pending_note ≡ pending_note
+  pending_note_stay quiet answer (Attaches left q) begun pending_note rests is = absurd (false≢true rests)
+  pending_note_stay quiet answer (Works k progress left) begun pending_note rests is = absurd (false≢true rests)
+  pending_note_stay quiet answer (Rests k) begun pending_note rests is = ap (λ stage. pending_note_after quiet answer stage pending_note) is
 
-  -- an event of an operation brings no news
-  pub news_kept : (quiet : Bool) (now : ChipState W) (first begun : Stage) (before after : Option (Bool × Attaching)) → is_resting first ≡ true
+  -- an event of an operation brings no pending note
+  pub pending_note_kept : (quiet : Bool) (now : ChipState W) (first begun : Stage) (before after : Option (Bool × Attaching)) → is_resting first ≡ true
       → begun ≡ stage_begun s.geometry partitions op first → (event : Option PageEvent) → is_some (option_map name_of event) ≡ true
-      → IfSome event (λ e. after ≡ news_after quiet (answer_to model now e) begun before) → after ≡ before
-  news_kept quiet now first begun before after rests is None some news = absurd (false≢true some)
-  news_kept quiet now first begun before after rests is (Some e) some news = news ∙ news_stay quiet (answer_to model now e) first begun before rests is
+      → IfSome event (λ e. after ≡ pending_note_after quiet (answer_to model now e) begun before) → after ≡ before
+  pending_note_kept quiet now first begun before after rests is None some pending_note = absurd (false≢true some)
+  pending_note_kept quiet now first begun before after rests is (Some e) some pending_note = pending_note ∙ pending_note_stay quiet (answer_to model now e) first begun before rests is
 
   -- an operation without events
   pub ends_at_once : (first last : Stage) → is_resting first ≡ true → IsTaken s.geometry op → last ≡ stage_begun s.geometry partitions op first
       → is_some (option_map name_of (stage_event last)) ≡ false → Ends s first last
   ends_at_once (Attaches left quiet) last rests taken begun none = absurd (false≢true rests)
-  ends_at_once (Works k left) last rests taken begun none = absurd (false≢true rests)
+  ends_at_once (Works k progress left) last rests taken begun none = absurd (false≢true rests)
   ends_at_once (Rests k) last rests taken begun none =
       subst (λ stage. Ends s (Rests k) stage) (sym begun)
       (at_once k (operation_path s.geometry partitions k op) refl (sym (ap (λ stage. is_some (option_map name_of (stage_event stage))) begun) ∙ none)
@@ -254,7 +254,7 @@ module _ {W : Type 0} (model : FaultModel W) (partitions : Partitions) (op : Op)
       → IfSome (stage_event begun) (λ e. last ≡ stage_after quiet (answer_to model now e) begun)
       → Ends after first last
   ends_after_one now same quiet after (Attaches left q) begun last rests taken is some state stage = absurd (false≢true rests)
-  ends_after_one now same quiet after (Works k left) begun last rests taken is some state stage = absurd (false≢true rests)
+  ends_after_one now same quiet after (Works k progress left) begun last rests taken is some state stage = absurd (false≢true rests)
   ends_after_one now same quiet after (Rests k) begun last rests taken is some state stage =
       after_one k (operation_path s.geometry partitions k op) quiet after last refl
       (sym (ap (λ stage. is_some (option_map name_of (stage_event stage))) is) ∙ some)

@@ -99,7 +99,8 @@ write_begins g k body free image page good is =
 -- a task that stands for a path stands for each path that is the same where this is known
 goes_as : (known : Knowledge) (path other : Known → Path Finished) (dev : Option ℕ) → path (known_in known) ≡ other (known_in known)
     → (task : Task) → Follows known path dev task → Follows known other dev task
-goes_as known path other dev same task follows = record { follows = follows.follows ∙ same; fits = follows.fits; counted = follows.counted }
+goes_as known path other dev same task follows =
+    record { follows = follows.follows ∙ same; fresh = follows.fresh; fits = follows.fits; counted = follows.counted }
 
 -- a page of a device that was found
 module _ (known : Knowledge) (found : Option Part) (dev page : ℕ) (place : Option ℕ)

@@ -71,12 +71,12 @@ module _ (g : Geometry) where
     over : markers_left g (take block states) (blocks_from g block) ≡ Over (attached_by_markers states)
     over = ap (markers_left g (take block states)) (blocks_from-end block past) ∙ ap (λ seen. Over (attached_by_markers seen)) whole
 
-    -- after the last page the chip rests, and there is news
+    -- after the last page the chip rests, and there is pending note
     pub now_rests : attach_stage (markers_left g (take block states) (blocks_from g block)) quiet ≡ Rests (known_by_markers states)
     now_rests = ap (λ left. attach_stage left quiet) over
 
-    pub now_news : attach_end (markers_left g (take block states) (blocks_from g block)) quiet ≡ Some (quiet, attached_by_markers states)
-    now_news = ap (λ left. attach_end left quiet) over
+    pub now_pending_note : attach_end (markers_left g (take block states) (blocks_from g block)) quiet ≡ Some (quiet, attached_by_markers states)
+    now_pending_note = ap (λ left. attach_end left quiet) over
 
   -- a chip whose next marker is read, and the state of that block kept
   module _ (states : List ℕ) (block : ℕ) (cells : List ℕ) (there : block < g.blocks) (all : length states ≡ g.blocks) (quiet : Bool) where
@@ -90,8 +90,8 @@ module _ (g : Geometry) where
           ap (λ left. attach_stage left quiet) (after_read states block there cells all)
           ∙ still_attaches (take (block + 1) (set states block (marker_state g cells))) (block + 1) more quiet
 
-      pub no_news : attach_end (path_after (Data cells) (markers_left g (take block states) (blocks_from g block))) quiet ≡ None
-      no_news =
+      pub no_pending_note : attach_end (path_after (Data cells) (markers_left g (take block states) (blocks_from g block))) quiet ≡ None
+      no_pending_note =
           ap (λ left. attach_end left quiet) (after_read states block there cells all)
           ∙ no_end_yet (take (block + 1) (set states block (marker_state g cells))) (block + 1) more quiet
 
@@ -102,8 +102,8 @@ module _ (g : Geometry) where
           ap (λ left. attach_stage left quiet) (after_read states block there cells all)
           ∙ now_rests (set states block (marker_state g cells)) (block + 1) last kept-all quiet
 
-      pub news : attach_end (path_after (Data cells) (markers_left g (take block states) (blocks_from g block))) quiet
+      pub pending_note : attach_end (path_after (Data cells) (markers_left g (take block states) (blocks_from g block))) quiet
           ≡ Some (quiet, attached_by_markers (set states block (marker_state g cells)))
-      news =
+      pending_note =
           ap (λ left. attach_end left quiet) (after_read states block there cells all)
-          ∙ now_news (set states block (marker_state g cells)) (block + 1) last kept-all quiet
+          ∙ now_pending_note (set states block (marker_state g cells)) (block + 1) last kept-all quiet

@@ -8,9 +8,10 @@ use Rattle.nand_model.specs.declared.geometry.Geometry.{Geometry}
 use Rattle.nand_model.specs.declared.words.Op.{Op}
 use Rattle.nand_model.specs.declared.words.Part.{Part}
 use Rattle.nand_model.specs.declared.words.Reply.TheVariants.{OutOfRange, BadBlock, MarkerByte, State}
+use Rattle.chip_paths.specs.ChipRun.{AtStart}
 use Rattle.chip_core.specs.Begin.{read_device}
 use Rattle.chip_core.specs.Knowledge.{known_in}
-use Rattle.chip_core.specs.Task.{TaskFits, counted_by, erased_from, program_from, task_left}
+use Rattle.chip_core.specs.Task.{TaskFits, counted_by, erased_from, program_from, task_left, task_progress}
 use Rattle.chip_core.specs.declared.knowledge.Knowledge.{Knowledge}
 use Rattle.chip_core.specs.declared.task.Task.{Task}
 pub use Rattle.chip_core.specs.Task.{raw_read_from, read_from}
@@ -52,6 +53,7 @@ state_from k block = answer k (State (entry_of k block))
 -- a task stands for this path where this is known, fits the chip, and adds to the statistics of this device or of none
 pub record Follows (known : Knowledge) (path : Known → Path Finished) (dev : Option ℕ) (task : Task) : Type 0 where
   pub follows : task_left known.geometry (known_in known) task ≡ path (known_in known)
+  pub fresh : task_progress task ≡ AtStart
   pub fits : TaskFits known.geometry task
   pub counted : (d : ℕ) → counted_by task ≡ Some d → dev ≡ Some d
 

@@ -11,7 +11,7 @@ use Rattle.nand_model.specs.declared.geometry.Geometry.{Geometry}
 use Rattle.chip_core.specs.Knowledge.{known_in}
 use Rattle.chip_core.specs.Markers.{attached_by_markers, markers_left, blocks_from}
 use Rattle.chip_core.specs.Sums.{AreSmall, place_of, stats_in}
-use Rattle.chip_core.specs.Task.{TaskFits, TaskFits-prop, counted_by, programs_of, task_left}
+use Rattle.chip_core.specs.Task.{TaskFits, TaskFits-prop, counted_by, programs_of, task_left, task_progress}
 use Rattle.chip_core.specs.declared.knowledge.Knowledge.{Knowledge}
 use Rattle.chip_core.specs.declared.scan.Finding.{Finding}
 use Rattle.chip_core.specs.declared.scan.Scan.{Scan}
@@ -25,7 +25,7 @@ abbrev pub phase_stage : Knowledge → Phase → Stage
 phase_stage known (IsAttaching scan) =
     Attaches (markers_left known.geometry (take scan.next known.states) (blocks_from known.geometry scan.next)) scan.quiet_so_far
 phase_stage known Resting = Rests (known_in known)
-phase_stage known (Working task) = Works (known_in known) (task_left known.geometry (known_in known) task)
+phase_stage known (Working task) = Works (known_in known) (task_progress task) (task_left known.geometry (known_in known) task)
 
 -- a block is still to be read, and there is room for a page and for the note
 pub record ScanFits (g : Geometry) (scan : Scan) : Type 0 where
@@ -82,10 +82,10 @@ seen_marker quiet Resting = Resting
 seen_marker quiet (Working task) = Working task
 
 -- the attach whose note is still to be handed out, by what it found
-abbrev pub news_of : Finding → Bool × Attaching
-news_of finding = (finding.quiet, attached_by_markers finding.states)
+abbrev pub pending_note_of : Finding → Bool × Attaching
+pending_note_of finding = (finding.quiet, attached_by_markers finding.states)
 
-abbrev pub news_in : Phase → Option Finding → Option (Bool × Attaching)
-news_in (IsAttaching scan) finding = None
-news_in Resting finding = option_map news_of finding
-news_in (Working task) finding = option_map news_of finding
+abbrev pub pending_note_in : Phase → Option Finding → Option (Bool × Attaching)
+pending_note_in (IsAttaching scan) finding = None
+pending_note_in Resting finding = option_map pending_note_of finding
+pending_note_in (Working task) finding = option_map pending_note_of finding

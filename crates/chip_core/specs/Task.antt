@@ -7,7 +7,8 @@ use Rattle.nand_model.specs.Counts.{HasRisen}
 use Rattle.nand_model.specs.Page.{Decoding, decoded}
 use Rattle.nand_model.specs.Path.{Path, Over, Then, cells_of, answer_to}
 use Rattle.chip_paths.specs.Operation.{Known, Finished, after_read, answer, done_or, raw_reply, with_statistics}
-use Rattle.chip_paths.specs.Stage.{failure_told, path_after}
+use Rattle.chip_paths.specs.ChipRun.{Progress, AtStart, AfterOne}
+use Rattle.chip_paths.specs.Stage.{one_further, failure_told, path_after}
 use Rattle.nand_iface.specs.Flash.{FitsPage}
 use Rattle.nand_model.specs.declared.geometry.Geometry.{Geometry}
 use Rattle.nand_model.specs.declared.words.Fairness.{Fairness}
@@ -16,7 +17,7 @@ use Rattle.nand_model.specs.declared.words.PageKind.{PageKind}
 use Rattle.nand_model.specs.declared.words.PageRead.{PageRead}
 use Rattle.nand_model.specs.declared.words.Reply.TheVariants.{ProgramFailed, EraseFailed, Page}
 use Rattle.chip_core.specs.declared.task.Task.{Task}
-use Rattle.chip_core.specs.declared.task.Task.TheVariants.{Reading, Decoding as IsDecoding, Programming, Erasing, Decoded, Ended}
+use Rattle.chip_core.specs.declared.task.Task.TheVariants.{Reading, Decoding as IsDecoding, Programming, Erasing, Decoded, AtOnce, Ended}
 
 -- the event of a raw read and what follows it
 abbrev pub raw_read_from : Known → ℕ → Path Finished
@@ -50,7 +51,18 @@ task_left g k (IsDecoding dev page cells) = read_from g k dev page
 task_left g k (Programming page image) = program_from k image page
 task_left g k (Erasing block) = erased_from k block
 task_left g k (Decoded dev kind read image) = counted_read k dev kind read image
+task_left g k (AtOnce reply) = answer k reply
 task_left g k (Ended reply) = answer k reply
+
+-- how far a task has come
+abbrev pub task_progress : Task → Progress
+task_progress (Reading page cells) = AtStart
+task_progress (IsDecoding dev page cells) = AtStart
+task_progress (Programming page image) = AtStart
+task_progress (Erasing block) = AtStart
+task_progress (Decoded dev kind read image) = AfterOne
+task_progress (AtOnce reply) = AtStart
+task_progress (Ended reply) = AfterOne
 
 -- the next event of a task
 abbrev pub task_event : Task → Option PageEvent
@@ -59,6 +71,7 @@ task_event (IsDecoding dev page cells) = Some (ReadEvent page)
 task_event (Programming page image) = Some (ProgramEvent page image)
 task_event (Erasing block) = Some (EraseEvent block)
 task_event (Decoded dev kind read image) = None
+task_event (AtOnce reply) = None
 task_event (Ended reply) = None
 
 -- pages and blocks of a task are there, and its bytes are those of a whole page
@@ -68,6 +81,7 @@ TaskFits g (IsDecoding dev page cells) = FitsPage g page cells
 TaskFits g (Programming page image) = FitsPage g page image
 TaskFits g (Erasing block) = block < g.blocks
 TaskFits g (Decoded dev kind read image) = ⊤
+TaskFits g (AtOnce reply) = ⊤
 TaskFits g (Ended reply) = ⊤
 
 pub TaskFits-prop : (g : Geometry) (task : Task) → IsProp (TaskFits g task)
@@ -76,6 +90,7 @@ TaskFits-prop g (IsDecoding dev page cells) = hlevel props
 TaskFits-prop g (Programming page image) = hlevel props
 TaskFits-prop g (Erasing block) = hlevel props
 TaskFits-prop g (Decoded dev kind read image) = Unit-prop
+TaskFits-prop g (AtOnce reply) = Unit-prop
 TaskFits-prop g (Ended reply) = Unit-prop
 
 -- the pages that a task may still program
@@ -85,6 +100,7 @@ programs_of (IsDecoding dev page cells) = 0
 programs_of (Programming page image) = 1
 programs_of (Erasing block) = 0
 programs_of (Decoded dev kind read image) = 0
+programs_of (AtOnce reply) = 0
 programs_of (Ended reply) = 0
 
 -- the device to whose statistics a task adds
@@ -94,12 +110,14 @@ counted_by (IsDecoding dev page cells) = Some dev
 counted_by (Programming page image) = None
 counted_by (Erasing block) = None
 counted_by (Decoded dev kind read image) = Some dev
+counted_by (AtOnce reply) = None
 counted_by (Ended reply) = None
 
 -- an event of a task is done: the chip is as after it, the task goes on by its answer, and a failure is told and counted
 pub record Advances {W : Type 0} (model : FaultModel W) (before after : ChipState W) (e : PageEvent) (old new : Task) (failure : Option Fairness) : Type 0 where
   pub state : after ≡ happens model before (Complete e)
   pub left : (k : Known) → task_left before.geometry k new ≡ path_after (answer_to model before e) (task_left before.geometry k old)
+  pub progress : task_progress new ≡ one_further (task_progress old)
   pub told : failure ≡ failure_told model before e
   pub plain : IfSome failure (λ fairness. fairness ≡ Plain)
   pub risen : IfSome failure (λ fairness. HasRisen before.faults after.faults)

@@ -24,7 +24,7 @@ marker_states s = marker_table s.geometry (map (marker_page s) (numbers_from 0 s
 abbrev pub known_at_rest : Stage → Option Known
 known_at_rest (Attaches left quiet) = None
 known_at_rest (Rests known) = Some known
-known_at_rest (Works known left) = None
+known_at_rest (Works known progress left) = None
 
 -- from this chip and what is known of it to this chip at this stage, by a whole operation with this reply; only a read changes what is known
 pub record HasPerformed {W : Type 0} (model : FaultModel W) (partitions : Partitions) (k : Known) (op : Op) (before after : ChipState W)

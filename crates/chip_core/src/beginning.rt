@@ -68,7 +68,7 @@ fn read(alloc: Global, known: &Knowledge, dev: u32, page: Option<u32>) -> Result
     ensures { IfOk result (λ task. Follows known.now (λ k. in_range k page (read_from known.now.geometry k dev)) (Some dev) task) }
 {
     let Some(page) = page else {
-        return Ok(Task::Ended(Reply::OutOfRange));
+        return Ok(Task::AtOnce(Reply::OutOfRange));
     };
     let cells = Bytes::filled(alloc, 0, known.geometry.raw_len() as usize)?;
     Ok(Task::Decoding { dev, page, cells })
@@ -88,11 +88,11 @@ fn write<C: PageCode>(
     ensures { IfOk result (λ task. Follows known.now (λ k. in_range k page (write_from known.now.geometry k body.now free.now)) None task) }
 {
     let Some(page) = page else {
-        return Ok(Task::Ended(Reply::OutOfRange));
+        return Ok(Task::AtOnce(Reply::OutOfRange));
     };
     let g = &known.geometry;
     if !known.is_good(page / g.pages_per_block) {
-        return Ok(Task::Ended(Reply::BadBlock));
+        return Ok(Task::AtOnce(Reply::BadBlock));
     }
     let image = image_of(alloc, code, g, body, free)?;
     Ok(Task::Programming { page, image })
@@ -134,7 +134,7 @@ fn raw_read(alloc: Global, known: &Knowledge, page: Option<u32>) -> Result<Task,
     ensures { IfOk result (λ task. Follows known.now (λ k. in_range k page (raw_read_from k)) None task) }
 {
     let Some(page) = page else {
-        return Ok(Task::Ended(Reply::OutOfRange));
+        return Ok(Task::AtOnce(Reply::OutOfRange));
     };
     let cells = Bytes::filled(alloc, 0, known.geometry.raw_len() as usize)?;
     Ok(Task::Reading { page, cells })
@@ -152,14 +152,14 @@ fn raw_write(
     ensures { IfOk result (λ task. Follows known.now (λ k. in_range k page (raw_write_from known.now.geometry k image.now)) None task) }
 {
     let Some(page) = page else {
-        return Ok(Task::Ended(Reply::OutOfRange));
+        return Ok(Task::AtOnce(Reply::OutOfRange));
     };
     let g = &known.geometry;
     if !known.is_good(page / g.pages_per_block) {
-        return Ok(Task::Ended(Reply::BadBlock));
+        return Ok(Task::AtOnce(Reply::BadBlock));
     }
     if image[g.page as usize] != 0xff {
-        return Ok(Task::Ended(Reply::MarkerByte));
+        return Ok(Task::AtOnce(Reply::MarkerByte));
     }
     let image = Bytes::from_slice(alloc, image)?;
     Ok(Task::Programming { page, image })
@@ -171,9 +171,9 @@ fn erase(known: &Knowledge, block: Option<u32>) -> Task
     ensures { Follows known.now (λ k. in_range k block (erase_from k)) None result }
 {
     match block {
-        None => Task::Ended(Reply::OutOfRange),
+        None => Task::AtOnce(Reply::OutOfRange),
         Some(block) if known.is_good(block) => Task::Erasing { block },
-        Some(_) => Task::Ended(Reply::BadBlock),
+        Some(_) => Task::AtOnce(Reply::BadBlock),
     }
 }
 
@@ -183,8 +183,8 @@ fn is_bad(known: &Knowledge, block: Option<u32>) -> Task
     ensures { Follows known.now (λ k. in_range k block (state_from k)) None result }
 {
     match block {
-        None => Task::Ended(Reply::OutOfRange),
-        Some(block) => Task::Ended(Reply::State(u32::from(known.state(block)))),
+        None => Task::AtOnce(Reply::OutOfRange),
+        Some(block) => Task::AtOnce(Reply::State(u32::from(known.state(block)))),
     }
 }
 
@@ -194,10 +194,10 @@ fn stats(known: &Knowledge, parts: &Parts, dev: u32) -> Task
     ensures { Begins known.now parts.now (AsksStats dev) result }
 {
     match parts.get(dev) {
-        None => Task::Ended(Reply::OutOfRange),
+        None => Task::AtOnce(Reply::OutOfRange),
         Some(part) => {
             let stats = known.sums.get(dev);
-            Task::Ended(Reply::Counts {
+            Task::AtOnce(Reply::Counts {
                 corrected: stats.corrected,
                 failed: stats.failed,
                 bad: known.bad_in(part),

@@ -7,9 +7,9 @@ ghost use Rattle.nand_model.specs.Path.{Data, answer_to, is_failure};
 ghost use Rattle.nand_model.specs.Quiet.{is_quiet};
 ghost use Rattle.nand_model.specs.declared.words.Fairness.TheVariants.{Plain};
 ghost use Rattle.nand_model.specs.Flips.{FitsBits};
-ghost use Rattle.chip_paths.specs.Stage.{Rests, failure_told, finished_in, first_stage, is_attached, is_resting, is_working, news_after, note_of_news, stage_after, stage_begun, stage_event, stage_statistics, stage_table};
+ghost use Rattle.chip_paths.specs.Stage.{Rests, failure_told, finished_in, first_stage, is_attached, is_resting, is_working, pending_note_after, note_of_attach, stage_after, stage_begun, stage_event, stage_statistics, stage_table};
 ghost use Rattle.chip_core.specs.Begin.{CanBegin};
-ghost use Rattle.chip_core.specs.Phase.{AttachFits, KnowsQuiet, KnowsQuiet-prop, PhaseFits, PhaseFits-prop, news_in, phase_stage, programs_left};
+ghost use Rattle.chip_core.specs.Phase.{AttachFits, KnowsQuiet, KnowsQuiet-prop, PhaseFits, PhaseFits-prop, pending_note_in, phase_stage, programs_left};
 ghost use Rattle.chip_core.specs.Markers.{marker_page};
 ghost use Rattle.chip_core.specs.declared.phase.Phase.TheVariants.{Attaching, Resting};
 
@@ -27,8 +27,8 @@ use std::mem;
 /// A chip with its attach or its operation, which is held from its begin to its answer. It has no tables on flash.
 ///
 /// Contracts see the state of its flash (`chip_state`); its stage (`chip_stage`): what is left of its attach or of its operation, or what is known of it at
-/// rest; its spare (`chip_spare`): how many pages may be programmed or flipped beyond those of the attach or the operation; its bits (`chip_bits`): how many bits
-/// may be flipped; and its news (`chip_news`): the attach whose note was not handed out yet.
+/// rest; its page room (`chip_page_room`): how many pages may be programmed or flipped beyond those of the attach or the operation; its bits (`chip_bits`): how many bits
+/// may be flipped; and its pending note (`chip_pending_note`): the attach whose note was not handed out yet.
 #[derive(Drop)]
 pub struct Chip<F: Flash, C: PageCode> {
     alloc: Global,
@@ -37,16 +37,16 @@ pub struct Chip<F: Flash, C: PageCode> {
     known: Knowledge,
     finding: Option<Finding>,
     phase: Phase,
-    spare: u32,
+    page_room: u32,
     ghost sizes: { (F.state flash).geometry ≡ known.geometry },
     ghost without_tables: { (F.state flash).geometry.bbt ≡ 0 },
     ghost quiet: { KnowsQuiet (F.state flash) phase } by { KnowsQuiet-prop (F.state flash) phase },
     ghost fits: { PhaseFits known.geometry known.sums phase } by { PhaseFits-prop known.geometry known.sums phase },
-    ghost room: { spare + programs_left phase ≤ F.room flash },
+    ghost room: { page_room + programs_left phase ≤ F.room flash },
 }
 
 impl<F: Flash, C: PageCode> Chip<F, C> {
-    ghost use Rattle.chip_core.specs.Chip.{chip_bits, chip_news, chip_spare, chip_stage, chip_state};
+    ghost use Rattle.chip_core.specs.Chip.{chip_bits, chip_pending_note, chip_page_room, chip_stage, chip_state};
 
     /// A chip at the start of its attach, with all the memory that attaching needs.
     ///
@@ -55,7 +55,7 @@ impl<F: Flash, C: PageCode> Chip<F, C> {
         requires { (F.state flash).geometry.bbt ≡ 0 }
         ensures state { IfOk result (λ chip. chip_state chip ≡ F.state flash) }
         ensures stage { IfOk result (λ chip. chip_stage chip ≡ first_stage (F.state flash).geometry) }
-        ensures news { IfOk result (λ chip. chip_news chip ≡ None) }
+        ensures pending_note { IfOk result (λ chip. chip_pending_note chip ≡ None) }
     {
         let geometry = flash.geometry();
         let scan = Scan::start(alloc, &flash, &geometry)?;
@@ -66,7 +66,7 @@ impl<F: Flash, C: PageCode> Chip<F, C> {
             known: Knowledge::new(alloc, geometry)?,
             finding: None,
             phase: Phase::Attaching(scan),
-            spare: 0,
+            page_room: 0,
         })
     }
 
@@ -88,37 +88,37 @@ impl<F: Flash, C: PageCode> Chip<F, C> {
         }
     }
 
-    /// Makes the spare at least `pages` and the bits at least `bits`, and leaves all else as it is. Where memory runs out, neither is less than before.
+    /// Makes the page room at least `pages` and the bits at least `bits`, and leaves all else as it is. Where memory runs out, neither is less than before.
     pub fn reserve(&mut self, pages: u32, bits: u32) -> Result<(), AllocError>
-        ensures spare { OnOk result (pages ≤ chip_spare self.new) }
+        ensures page_room { OnOk result (pages ≤ chip_page_room self.new) }
         ensures bits { OnOk result (bits ≤ chip_bits self.new) }
-        ensures no_less { chip_spare self.old ≤ chip_spare self.new }
+        ensures no_less { chip_page_room self.old ≤ chip_page_room self.new }
         ensures no_fewer_bits { chip_bits self.old ≤ chip_bits self.new }
         ensures state { chip_state self.new ≡ chip_state self.old }
         ensures stage { chip_stage self.new ≡ chip_stage self.old }
-        ensures news { chip_news self.new ≡ chip_news self.old }
+        ensures pending_note { chip_pending_note self.new ≡ chip_pending_note self.old }
     {
-        let spare = pages.max(self.spare);
-        let room = spare.checked_add(self.phase.programs()).ok_or(AllocError)?;
+        let page_room = pages.max(self.page_room);
+        let room = page_room.checked_add(self.phase.programs()).ok_or(AllocError)?;
         self.flash.reserve(room, bits)?;
-        self.spare = spare;
+        self.page_room = page_room;
         Ok(())
     }
 
-    /// Turns these bits of a page one after the other; bit 0 is the highest of byte 0. It takes at most one page of the spare, and at most as many bits of the room
+    /// Turns these bits of a page one after the other; bit 0 is the highest of byte 0. It takes at most one page of the page room, and at most as many bits of the room
     /// as these are.
     pub fn flip(&mut self, page: u32, bits: &BlockList)
         requires place { FitsBits (chip_state self.old).geometry page bits.now }
-        requires spare { 1 ≤ chip_spare self.old }
+        requires page_room { 1 ≤ chip_page_room self.old }
         requires bits { length bits.now ≤ chip_bits self.old }
         ensures state { chip_state self.new ≡ after_trace F.fault_model (chip_state self.old) (flip_events page bits.now) }
         ensures stage { chip_stage self.new ≡ chip_stage self.old }
-        ensures news { chip_news self.new ≡ chip_news self.old }
-        ensures spare { chip_spare self.old ≤ chip_spare self.new + 1 }
+        ensures pending_note { chip_pending_note self.new ≡ chip_pending_note self.old }
+        ensures page_room { chip_page_room self.old ≤ chip_page_room self.new + 1 }
         ensures bits { chip_bits self.old ≤ chip_bits self.new + length bits.now }
     {
         self.flash.flip(page, bits);
-        self.spare -= 1;
+        self.page_room -= 1;
         let g = &self.known.geometry;
         let quiet = marker_is_quiet(&self.flash, g, page / g.pages_per_block);
         self.phase.see_marker(quiet);
@@ -126,11 +126,11 @@ impl<F: Flash, C: PageCode> Chip<F, C> {
 
     /// Hands out the note of the attach, under this number of the chip. None comes exactly where attaching is not over or the note was handed out before.
     pub fn attach_note(&mut self, chip: u32) -> Option<Note>
-        ensures note { result ≡ option_map (note_of_news chip) (chip_news self.old) }
-        ensures once { chip_news self.new ≡ None }
+        ensures note { result ≡ option_map (note_of_attach chip) (chip_pending_note self.old) }
+        ensures once { chip_pending_note self.new ≡ None }
         ensures state { chip_state self.new ≡ chip_state self.old }
         ensures stage { chip_stage self.new ≡ chip_stage self.old }
-        ensures spare { chip_spare self.new ≡ chip_spare self.old }
+        ensures page_room { chip_page_room self.new ≡ chip_page_room self.old }
         ensures bits { chip_bits self.old ≤ chip_bits self.new }
     {
         if let Phase::Attaching(_) = &self.phase {
@@ -186,13 +186,13 @@ impl<F: Flash, C: PageCode> Chip<F, C> {
         ensures begun { OnOk result (chip_stage self.new ≡ stage_begun (chip_state self.old).geometry parts.now op.now (chip_stage self.old)) }
         ensures no_memory { OnErr result (chip_stage self.new ≡ chip_stage self.old) }
         ensures state { chip_state self.new ≡ chip_state self.old }
-        ensures news { chip_news self.new ≡ chip_news self.old }
-        ensures spare { chip_spare self.new ≡ chip_spare self.old }
+        ensures pending_note { chip_pending_note self.new ≡ chip_pending_note self.old }
+        ensures page_room { chip_page_room self.new ≡ chip_page_room self.old }
         ensures bits { chip_bits self.old ≤ chip_bits self.new }
     {
         self.known.expect(op)?;
         let task = begin(self.alloc, &self.code, &self.known, parts, op)?;
-        let room = self.spare.checked_add(task.programs()).ok_or(AllocError)?;
+        let room = self.page_room.checked_add(task.programs()).ok_or(AllocError)?;
         self.flash.reserve(room, 0)?;
         self.phase = Phase::Working(task);
         Ok(())
@@ -207,14 +207,14 @@ impl<F: Flash, C: PageCode> Chip<F, C> {
         ensures stage { IfSome (stage_event (chip_stage self.old)) (λ e. chip_stage self.new
             ≡ stage_after (is_quiet (chip_state self.old).geometry (chip_state self.old).pages) (answer_to F.fault_model (chip_state self.old) e)
             (chip_stage self.old)) }
-        ensures news { IfSome (stage_event (chip_stage self.old)) (λ e. chip_news self.new
-            ≡ news_after (is_quiet (chip_state self.old).geometry (chip_state self.old).pages) (answer_to F.fault_model (chip_state self.old) e)
-            (chip_stage self.old) (chip_news self.old)) }
+        ensures pending_note { IfSome (stage_event (chip_stage self.old)) (λ e. chip_pending_note self.new
+            ≡ pending_note_after (is_quiet (chip_state self.old).geometry (chip_state self.old).pages) (answer_to F.fault_model (chip_state self.old) e)
+            (chip_stage self.old) (chip_pending_note self.old)) }
         ensures told { IfSome (stage_event (chip_stage self.old)) (λ e. result ≡ failure_told F.fault_model (chip_state self.old) e) }
         ensures failed { IfSome (stage_event (chip_stage self.old)) (λ e. is_some result ≡ is_failure (answer_to F.fault_model (chip_state self.old) e)) }
         ensures plain { IfSome result (λ fairness. fairness ≡ Plain) }
         ensures risen { IfSome result (λ fairness. HasRisen (chip_state self.old).faults (chip_state self.new).faults) }
-        ensures spare { chip_spare self.new ≡ chip_spare self.old }
+        ensures page_room { chip_page_room self.new ≡ chip_page_room self.old }
         ensures bits { chip_bits self.old ≤ chip_bits self.new }
     {
         match mem::replace(&mut self.phase, Phase::Resting) {
@@ -237,12 +237,12 @@ impl<F: Flash, C: PageCode> Chip<F, C> {
         ensures reply { IfSome (finished_in (chip_stage self.old)) (λ finished. result ≡ finished.reply) }
         ensures stage { IfSome (finished_in (chip_stage self.old)) (λ finished. chip_stage self.new ≡ Rests finished.known) }
         ensures state { chip_state self.new ≡ chip_state self.old }
-        ensures news { chip_news self.new ≡ chip_news self.old }
-        ensures spare { chip_spare self.new ≡ chip_spare self.old }
+        ensures pending_note { chip_pending_note self.new ≡ chip_pending_note self.old }
+        ensures page_room { chip_page_room self.new ≡ chip_page_room self.old }
         ensures bits { chip_bits self.old ≤ chip_bits self.new }
     {
         match mem::replace(&mut self.phase, Phase::Resting) {
-            Phase::Working(Task::Ended(reply)) => reply,
+            Phase::Working(Task::AtOnce(reply) | Task::Ended(reply)) => reply,
             Phase::Working(
                 Task::Decoded {
                     dev,
@@ -274,9 +274,9 @@ impl<F: Flash, C: PageCode> Chip<F, C> {
         ensures state { F.state self.new.flash ≡ F.state self.old.flash }
         ensures stage { phase_stage self.new.known self.new.phase
             ≡ stage_after scan.quiet_now (Data (marker_page (F.state self.old.flash) scan.next)) (phase_stage self.old.known (Attaching scan)) }
-        ensures news { news_in self.new.phase self.new.finding
-            ≡ news_after scan.quiet_now (Data (marker_page (F.state self.old.flash) scan.next)) (phase_stage self.old.known (Attaching scan)) None }
-        ensures spare { self.new.spare ≡ self.old.spare }
+        ensures pending_note { pending_note_in self.new.phase self.new.finding
+            ≡ pending_note_after scan.quiet_now (Data (marker_page (F.state self.old.flash) scan.next)) (phase_stage self.old.known (Attaching scan)) None }
+        ensures page_room { self.new.page_room ≡ self.old.page_room }
         ensures bits { F.bit_room self.old.flash ≤ F.bit_room self.new.flash }
     {
         let mut scan = scan;

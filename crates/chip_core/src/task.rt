@@ -2,7 +2,7 @@
 ghost use Rattle.std.specs.Prelude.{◌≡◌, ◌≤◌, ◌<◌, ◌+◌, Some, option_map, IsSome, IfSome};
 ghost use Rattle.nand_iface.specs.Flash.{FitsPage};
 ghost use Rattle.nand_model.specs.Chip.{Complete, EraseEvent, ProgramEvent, happens};
-ghost use Rattle.chip_paths.specs.ChipRun.{name_of};
+ghost use Rattle.chip_paths.specs.ChipRun.{AfterOne, name_of};
 ghost use Rattle.nand_model.specs.Counts.{HasRisen};
 ghost use Rattle.chip_paths.specs.Operation.{Known, after_read, done_or, raw_reply};
 ghost use Rattle.nand_model.specs.Page.{decoded};
@@ -10,7 +10,7 @@ ghost use Rattle.nand_model.specs.Path.{Over, answer_to};
 ghost use Rattle.nand_model.specs.declared.words.Fairness.TheVariants.{Plain};
 ghost use Rattle.nand_model.specs.declared.words.Reply.TheVariants.{ProgramFailed as RepliesProgramFailed, EraseFailed as RepliesEraseFailed};
 ghost use Rattle.chip_paths.specs.Stage.{failure_told};
-ghost use Rattle.chip_core.specs.Task.{Advances, TaskFits, counted_by, programs_of, task_event, task_left};
+ghost use Rattle.chip_core.specs.Task.{Advances, TaskFits, counted_by, programs_of, task_event, task_left, task_progress};
 ghost use Rattle.chip_core.specs.declared.task.Task.TheVariants.{Ended};
 
 use nand_iface::{EraseFailed, Event, Fairness, Flash, PageCode, ProgramFailed, Reply};
@@ -46,7 +46,9 @@ pub enum Task {
         read: PageRead,
         image: Bytes,
     },
-    /// No event is left.
+    /// The operation has no event.
+    AtOnce(Reply),
+    /// The operation's one event was done.
     Ended(Reply),
 }
 
@@ -59,7 +61,7 @@ impl Task {
             Task::Reading { page, .. } | Task::Decoding { page, .. } => Some(Event::Read(*page)),
             Task::Programming { page, .. } => Some(Event::Program(*page)),
             Task::Erasing { block } => Some(Event::Erase(*block)),
-            Task::Decoded { .. } | Task::Ended(_) => None,
+            Task::Decoded { .. } | Task::AtOnce(_) | Task::Ended(_) => None,
         }
     }
 
@@ -90,7 +92,7 @@ impl Task {
             Task::Decoding { dev, page, cells } => (decode(flash, code, dev, page, cells), None),
             Task::Programming { page, image } => program(flash, page, image.as_slice()),
             Task::Erasing { block } => erase(flash, block),
-            Task::Decoded { .. } | Task::Ended(_) => unreachable!(),
+            Task::Decoded { .. } | Task::AtOnce(_) | Task::Ended(_) => unreachable!(),
         }
     }
 }
@@ -119,6 +121,7 @@ fn decode<F: Flash, C: PageCode>(flash: &F, code: &C, dev: u32, page: u32, cells
     ensures left { (k : Known) → task_left (F.state flash.now).geometry k result
         ≡ Over (after_read (F.state flash.now).geometry k dev (decoded (F.state flash.now).geometry ((F.state flash.now).pages page).cells)) }
     ensures fits { TaskFits (F.state flash.now).geometry result }
+    ensures progress { task_progress result ≡ AfterOne }
     ensures counted { counted_by result ≡ Some dev }
     ensures programs { programs_of result ≡ 0 }
 {

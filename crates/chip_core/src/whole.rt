@@ -4,7 +4,7 @@ ghost use Rattle.nand_model.specs.Partitions.{device_of, part_of};
 ghost use Rattle.nand_model.specs.Quiet.{is_quiet};
 ghost use Rattle.chip_paths.specs.Stage.{Rests, is_resting};
 ghost use Rattle.chip_core.specs.Begin.{CanBegin};
-ghost use Rattle.chip_core.specs.Chip.{chip_bits, chip_news, chip_spare, chip_stage, chip_state};
+ghost use Rattle.chip_core.specs.Chip.{chip_bits, chip_pending_note, chip_page_room, chip_stage, chip_state};
 ghost use Rattle.chip_core.specs.Markers.{attached_by_markers, known_by_markers};
 ghost use Rattle.chip_core.specs.Whole.{HasCause, HasPerformed, known_at_rest, marker_states, refusal_of};
 
@@ -23,7 +23,7 @@ pub fn attach<F: Flash, C: PageCode>(
     requires { (F.state flash).geometry.bbt ≡ 0 }
     ensures state { IfOk result (λ chip. chip_state chip ≡ F.state flash) }
     ensures stage { IfOk result (λ chip. chip_stage chip ≡ Rests (known_by_markers (marker_states (F.state flash)))) }
-    ensures news { IfOk result (λ chip. chip_news chip
+    ensures pending_note { IfOk result (λ chip. chip_pending_note chip
         ≡ Some (is_quiet (F.state flash).geometry (F.state flash).pages, attached_by_markers (marker_states (F.state flash)))) }
 {
     let mut chip = Chip::attach_start(alloc, flash, code)?;
@@ -49,8 +49,8 @@ pub fn perform<F: Flash, C: PageCode>(
     ensures no_memory { OnErr result (chip_state chip.new ≡ chip_state chip.old) }
     ensures no_memory_stage { OnErr result (chip_stage chip.new ≡ chip_stage chip.old) }
     ensures rests { is_resting (chip_stage chip.new) ≡ true }
-    ensures news { chip_news chip.new ≡ chip_news chip.old }
-    ensures spare { chip_spare chip.new ≡ chip_spare chip.old }
+    ensures pending_note { chip_pending_note chip.new ≡ chip_pending_note chip.old }
+    ensures page_room { chip_page_room chip.new ≡ chip_page_room chip.old }
     ensures bits { chip_bits chip.old ≤ chip_bits chip.new }
 {
     chip.begin(parts, op)?;

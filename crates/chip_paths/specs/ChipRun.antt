@@ -13,7 +13,6 @@ use Rattle.nand_model.specs.declared.words.Event.TheVariants.{Read as ReadOf, Pr
 use Rattle.nand_model.specs.declared.words.Note.{Note}
 use Rattle.nand_model.specs.declared.words.Note.TheVariants.{Torn, Attached}
 use Rattle.nand_model.specs.declared.geometry.Geometry.{Geometry}
-use Rattle.nand_model.specs.declared.words.Op.TheVariants.{Mark}
 
 -- a pending operation: who asked for it, and how its events were answered so far
 pub record Pending : Type 0 where
@@ -119,14 +118,26 @@ abbrev pub ends_well : {A : Type 0} → Path A → A
 ends_well (Over result) = result
 ends_well (Then event rest) = ends_well (rest Good)
 
--- the table in memory changes within a mark once its marker is programmed: from then on it is the one that the mark ends with where no further event fails
-abbrev pub table_in_mark : List Answer → Path Finished → List ℕ → List ℕ
-table_in_mark (erased ∷ marker ∷ answers) path table = (ends_well (after_answers (erased ∷ marker ∷ answers) path)).known.table
-table_in_mark answers path table = table
+-- how far an operation has come: none of its events was answered, one was, or more were
+pub data Progress : Type 0 where
+  AtStart : Progress
+  AfterOne : Progress
+  AfterMore : Progress
+
+abbrev pub progress_of : List Answer → Progress
+progress_of [] = AtStart
+progress_of (first ∷ []) = AfterOne
+progress_of (first ∷ second ∷ answers) = AfterMore
+
+-- the table in memory changes within an operation once its second event is answered, which is the program of a mark's marker: from
+-- then on it is the one that the operation ends with where no further event fails
+abbrev pub table_at : Progress → Path Finished → List ℕ → List ℕ
+table_at AtStart left table = table
+table_at AfterOne left table = table
+table_at AfterMore left table = (ends_well left).known.table
 
 abbrev pub table_during : Geometry → Partitions → Known → Op → List Answer → List ℕ
-table_during g partitions k (Mark dev block) answers = table_in_mark answers (operation_path g partitions k (Mark dev block)) k.table
-table_during g partitions k op answers = k.table
+table_during g partitions k op answers = table_at (progress_of answers) (after_answers answers (operation_path g partitions k op)) k.table
 
 -- the table in memory, also while an operation is pending: a mark that has had no event yet leaves it as it is
 abbrev pub table_now : {W : Type 0} → Partitions → ChipRun W → Option (List ℕ)

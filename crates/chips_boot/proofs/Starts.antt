@@ -7,7 +7,7 @@ use Rattle.std.proofs.lemmas.List.Elements.{All-cons, All-head, All-nil, All-tai
 use Rattle.std.proofs.lemmas.List.Sums.{sum_by-cons}
 use Rattle.std.proofs.lemmas.Option.{get_or_from_slice_get, slice_get-map}
 use Rattle.nand_model.specs.Chip.{ChipState, SimFaults, new_chip}
-use Rattle.nand_model.specs.Partitions.{Partitions, part_of, chip_of as chip_number, chip_of_part}
+use Rattle.nand_model.specs.Partitions.{Partitions, part_of, chip_of as chip_number, chip_of_part, command_device}
 use Rattle.nand_model.specs.Sizes.{small_chip}
 use Rattle.nand_model.specs.declared.geometry.Geometry.{Geometry}
 use Rattle.nand_model.specs.declared.words.BadMode.{BadMode}
@@ -16,14 +16,13 @@ use Rattle.nand_model.specs.declared.words.Command.{Command}
 use Rattle.nand_model.specs.declared.words.Command.TheVariants.{FlashErase as ToErase, NandWrite as ToWrite, NandDump as ToDump, NandTest as ToTest, MarkBad as ToMark, Stats as ToCount, IsBad as ToAsk}
 use Rattle.nand_model.specs.declared.words.Flip.{Flip}
 use Rattle.nand_model.specs.declared.words.Part.{Part}
-use Rattle.command_model.specs.Command.{command_device, cost_of}
+use Rattle.command_model.specs.Command.{cost_of, command_blocks}
 use Rattle.command_model.specs.Cost.{command_cost, troubled_blocks}
 use Rattle.command_model.specs.Boot.{AreAscending, geometry_for, geometry_of_chip}
 use Rattle.plan_model.specs.Plan.{ChipPlan, items_of, new_chips}
 use Rattle.report_model.specs.Report.{line}
 use Rattle.report_model.proofs.Checked.{this_passes}
 use Rattle.command_model.specs.Runnable.{CanRun, IsDeviceSize}
-use Rattle.command_model.specs.Command.{command_blocks}
 use Rattle.tool_steps.proofs.Scripts.{cost_of-short}
 use Rattle.tool_steps.proofs.Ends.{all_troubled}
 use Rattle.several_chip_plan.specs.SeveralChips.{IsChip, IsCommand, IsFlip, IsPageOffset, IsPlan, IsSeveralChipPlan, blocks_of, chip_of, chip_text, data_text, command_of, command_text, flip_text, geometry_of, plan_text, schedule_text, session_text, sizes_of}

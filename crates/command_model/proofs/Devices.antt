@@ -8,8 +8,8 @@ use Rattle.nand_model.specs.declared.words.Op.{Op}
 use Rattle.nand_model.specs.declared.words.Op.TheVariants.{Read, RawRead, Erase}
 use Rattle.nand_model.specs.declared.words.Reply.{Reply}
 use Rattle.nand_model.specs.declared.words.Reply.TheVariants.{Done, BadBlock, MarkerByte, ProgramFailed, EraseFailed}
-use Rattle.nand_model.specs.Partitions.{device_of}
-use Rattle.command_model.specs.Command.{Script, Ask, is_done, says_bad, one_if, erase_blocks, WriteMode, WriteCounts, write_unit, after_write, write_pages, write_blocks, DumpMode, DumpCounts, is_dump_bad, dump_pages, dump_block, dump_blocks, TestMode, TestCounts, read_bodies, after_change, write_bodies, different_bodies, test_worn, test_change, test_restore, test_compare, test_rewrite, test_block, test_blocks, test_passes, script_of, command_device}
+use Rattle.nand_model.specs.Partitions.{device_of, command_device}
+use Rattle.command_model.specs.Command.{Script, Ask, is_done, says_bad, one_if, erase_blocks, WriteMode, WriteCounts, write_unit, after_write, write_pages, write_blocks, DumpMode, DumpCounts, is_dump_bad, dump_pages, dump_block, dump_blocks, TestMode, TestCounts, read_bodies, after_change, write_bodies, different_bodies, test_worn, test_change, test_restore, test_compare, test_rewrite, test_block, test_blocks, test_passes, script_of}
 use Rattle.command_model.specs.Laws.{AsksOnly}
 
 module _ (dev : ℕ) where

@@ -1,8 +1,7 @@
 -- A controller's part of a boot, and the geometry of the chip of each of its commands.
 use Rattle.std.specs.Prelude.{ℕ, List, Option, zero, suc, [], ◌∷◌, slice_index_or, Some, None, ◌≡◌, ◌<◌, slice_get}
-use Rattle.nand_model.specs.Partitions.{Partitions, chip_of}
+use Rattle.nand_model.specs.Partitions.{Partitions, chip_of, command_device}
 use Rattle.nand_model.specs.Sizes.{small_chip}
-use Rattle.command_model.specs.Command.{command_device}
 use Rattle.nand_model.specs.declared.words.Flip.{Flip}
 use Rattle.nand_model.specs.declared.words.CutAt.{CutAt}
 use Rattle.nand_model.specs.declared.words.Command.{Command}

@@ -344,16 +344,6 @@ script_of g (AskStats dev blocks) = Ask (Stats dev) (λ r. End (stats_outcome r)
 abbrev pub next_step : Geometry → Command → List Reply → Next
 next_step g command replies = next_in (after_replies replies (script_of g command))
 
--- the device that a command names
-abbrev pub command_device : Command → ℕ
-command_device (FlashErase dev blocks no_scan start count) = dev
-command_device (NandWrite dev blocks mark raw oob pad off bytes) = dev
-command_device (NandDump dev blocks off len raw oob bad) = dev
-command_device (NandTest dev blocks keep mark seed passes off len) = dev
-command_device (MarkBad dev blocks block) = dev
-command_device (AskBad dev blocks block) = dev
-command_device (AskStats dev blocks) = dev
-
 -- a bound on the operations of a command, where at most `weak` written pages fail or are refused
 abbrev pub cost_of : Geometry → Command → ℕ → ℕ
 cost_of g (FlashErase dev blocks no_scan start count) weak = 2 * count_or_rest count start blocks

@@ -1,5 +1,6 @@
 //! Laws of commands.
-ghost use Rattle.command_model.specs.Command.{command_device, script_of};
+ghost use Rattle.nand_model.specs.Partitions.{command_device};
+ghost use Rattle.command_model.specs.Command.{script_of};
 ghost use Rattle.command_model.specs.Laws.{AsksOnly, TroublesAreFew};
 ghost use Rattle.nand_model.specs.declared.geometry.Geometry.{Geometry};
 ghost use Rattle.nand_model.specs.declared.words.Command.{Command};

@@ -5,12 +5,12 @@ use Rattle.nand_model.specs.Path.{Answer, Path, Over, Then, answer_to, after_ans
 use Rattle.chip_paths.specs.Attach.{Attaching, attach_path}
 use Rattle.nand_model.specs.Partitions.{Partitions}
 use Rattle.chip_paths.specs.Operation.{Known, Finished, operation_path}
-use Rattle.chip_paths.specs.ChipRun.{ChipRun, Pending, known_once_over, next_event_by, next_chip_event, advanced, answered_by, with_pending, with_finished, attach_notes, attach_notes_of, attach_notes_by, notes_of_advance, torn_notes, finished_by}
+use Rattle.chip_paths.specs.ChipRun.{progress_of, ChipRun, Pending, known_once_over, next_event_by, next_chip_event, advanced, answered_by, with_pending, with_finished, attach_notes, attach_notes_of, attach_notes_by, notes_of_advance, torn_notes, finished_by}
 use Rattle.nand_model.specs.Quiet.{is_quiet, fairness_of}
 use Rattle.nand_model.specs.declared.words.Op.{Op}
-use Rattle.chip_paths.specs.Stage.{Attaches, Works, stage_by, stage_of, stage_event, stage_begun, path_after, attach_stage, stage_after, news_after, attach_end, failure_told, fairness_where_failed, finished_in}
+use Rattle.chip_paths.specs.Stage.{Attaches, Works, one_further, stage_by, stage_of, stage_event, stage_begun, path_after, attach_stage, stage_after, pending_note_after, attach_end, failure_told, fairness_where_failed, finished_in}
 use Rattle.run_laws.proofs.Traces.{geometry_happens}
-use Rattle.ctl_core.specs.KeptChip.{kept_as, holder_by, after_event, after_begin, after_answer, with_news_told, failure_notes, news_notes}
+use Rattle.ctl_core.specs.SlotState.{slot_as, holder_by, after_event, after_begin, after_answer, with_note_written, failure_notes, pending_notes}
 
 -- one more answer takes one more step along a path
 pub after_one_more : {A : Type 0} (path : Path A) (answers : List Answer) (answer : Answer)
@@ -19,6 +19,12 @@ after_one_more (Over result) [] answer = refl
 after_one_more (Then event rest) [] answer = refl
 after_one_more (Over result) (a ∷ answers) answer = refl
 after_one_more (Then event rest) (a ∷ answers) answer = after_one_more (rest a) answers answer
+
+-- and further into an operation
+progress_after : (answers : List Answer) (answer : Answer) → progress_of (answers ++ answer ∷ []) ≡ one_further (progress_of answers)
+progress_after [] answer = refl
+progress_after (first ∷ []) answer = refl
+progress_after (first ∷ second ∷ answers) answer = refl
 
 -- a chip at rest begins an operation
 pub begun_at_rest : {W : Type 0} (partitions : Partitions) (c : ChipRun W) (known : Known) (session : ℕ) (op : Op) (k : Option Known) (p : Option Pending)
@@ -57,16 +63,16 @@ module _ {W : Type 0} (partitions : Partitions) where
 
   -- an operation begins on a chip at rest
   pub begun : (c : ChipRun W) (known : Known) (session : ℕ) (op : Op) → c.known ≡ Some known → c.pending ≡ None
-      → kept_as partitions (with_pending c session op) ≡ after_begin partitions session op (kept_as partitions c)
+      → slot_as partitions (with_pending c session op) ≡ after_begin partitions session op (slot_as partitions c)
   begun c known session op h i =
-      λ j. record { state = c.chip; stage = begun_at_rest partitions c known session op c.known c.pending h i j; news = None; holder = held c.known h j }
+      λ j. record { state = c.chip; stage = begun_at_rest partitions c known session op c.known c.pending h i j; pending_note = None; holder = held c.known h j }
     where
       held : (k : Option Known) → k ≡ Some known → holder_by k (Some (record { session = session; op = op; answers = [] })) ≡ Some session
       held None h = cc
       held (Some k) h = refl
 
   -- an operation is answered
-  pub answered : (c : ChipRun W) (finished : Finished) → kept_as partitions (with_finished c finished) ≡ after_answer finished.known (kept_as partitions c)
+  pub answered : (c : ChipRun W) (finished : Finished) → slot_as partitions (with_finished c finished) ≡ after_answer finished.known (slot_as partitions c)
   answered c finished = refl
 
   -- where the attach has come so far
@@ -97,9 +103,13 @@ module _ {W : Type 0} (partitions : Partitions) where
         (answer_to model c.chip e))
     advanced_stage c e (Some known) None = refl
     advanced_stage c e (Some known) (Some pending) =
-        ap (λ g. Works known (after_answers (pending.answers ++ answer_to model c.chip e ∷ []) (operation_path g partitions known pending.op)))
+        ap (λ g. Works known (progress_of (pending.answers ++ answer_to model c.chip e ∷ []))
+        (after_answers (pending.answers ++ answer_to model c.chip e ∷ []) (operation_path g partitions known pending.op)))
         (geometry_happens model c.chip (Complete e))
-        ∙ ap (λ x. Works known x) (after_one_more (operation_path c.chip.geometry partitions known pending.op) pending.answers (answer_to model c.chip e))
+        ∙ ap (λ x. Works known x (after_answers (pending.answers ++ answer_to model c.chip e ∷ []) (operation_path c.chip.geometry partitions known pending.op)))
+        (progress_after pending.answers (answer_to model c.chip e))
+        ∙ ap (λ x. Works known (one_further (progress_of pending.answers)) x)
+        (after_one_more (operation_path c.chip.geometry partitions known pending.op) pending.answers (answer_to model c.chip e))
 
     advanced_holder : (c : ChipRun W) (e : PageEvent) (k : Option Known) (p : Option Pending)
         → holder_by (advanced_by c e k p).known (advanced_by c e k p).pending ≡ holder_by k p
@@ -112,11 +122,11 @@ module _ {W : Type 0} (partitions : Partitions) where
     advanced_state c e (Some known) p = refl
 
     -- one more event, with its attach note written
-    pub kept_advanced : (c : ChipRun W) (e : PageEvent) → kept_as partitions (advanced model c e) ≡ with_news_told (after_event model e (kept_as partitions c))
-    kept_advanced c e = λ j. record {
+    pub slot_advanced : (c : ChipRun W) (e : PageEvent) → slot_as partitions (advanced model c e) ≡ with_note_written (after_event model e (slot_as partitions c))
+    slot_advanced c e = λ j. record {
       state = advanced_state c e c.known c.pending j;
       stage = advanced_stage c e c.known c.pending j;
-      news = None;
+      pending_note = None;
       holder = advanced_holder c e c.known c.pending j;
     }
 
@@ -130,20 +140,20 @@ module _ {W : Type 0} (partitions : Partitions) where
         by_test false = refl
 
     -- the note of an attach that has come to its end
-    note_by : (k : ℕ) (quiet : Bool) (x : Path Attaching) → attach_notes_of k quiet x ≡ news_notes k (attach_end x quiet)
+    note_by : (k : ℕ) (quiet : Bool) (x : Path Attaching) → attach_notes_of k quiet x ≡ pending_notes k (attach_end x quiet)
     note_by k quiet (Over attaching) = refl
     note_by k quiet (Then event rest) = refl
 
-    news_by : (k : ℕ) (c : ChipRun W) (e : PageEvent) (known : Option Known) (p : Option Pending)
+    pending_note_by : (k : ℕ) (c : ChipRun W) (e : PageEvent) (known : Option Known) (p : Option Pending)
         → attach_notes_by k (advanced_by c e known p) known
-        ≡ news_notes k (news_after (is_quiet c.chip.geometry c.chip.pages) (answer_to model c.chip e) (stage_by partitions c known p) None)
-    news_by k c e None p =
+        ≡ pending_notes k (pending_note_after (is_quiet c.chip.geometry c.chip.pages) (answer_to model c.chip e) (stage_by partitions c known p) None)
+    pending_note_by k c e None p =
         ap (attach_notes_of k (c.quiet && is_quiet c.chip.geometry c.chip.pages)) (attach_path_after c e)
         ∙ note_by k (c.quiet && is_quiet c.chip.geometry c.chip.pages) (path_after (answer_to model c.chip e)
         (after_answers c.attach_answers (attach_path c.chip.geometry)))
-    news_by k c e (Some known) None = refl
-    news_by k c e (Some known) (Some pending) = refl
+    pending_note_by k c e (Some known) None = refl
+    pending_note_by k c e (Some known) (Some pending) = refl
 
-    pub news_is : (k : ℕ) (c : ChipRun W) (e : PageEvent) → attach_notes k c (advanced model c e)
-        ≡ news_notes k (after_event model e (kept_as partitions c)).news
-    news_is k c e = news_by k c e c.known c.pending
+    pub pending_note_is : (k : ℕ) (c : ChipRun W) (e : PageEvent) → attach_notes k c (advanced model c e)
+        ≡ pending_notes k (after_event model e (slot_as partitions c)).pending_note
+    pending_note_is k c e = pending_note_by k c e c.known c.pending

@@ -17,12 +17,12 @@ use Rattle.run_laws.proofs.Places.{position_is}
 use Rattle.session_steps.specs.declared.session.Session.{Session}
 use Rattle.session_steps.specs.Standing.{number_of}
 use Rattle.chip_paths.specs.Stage.{stage_event, is_attached, failure_told}
-use Rattle.ctl_core.specs.declared.bench.Bench.{Bench}
-use Rattle.ctl_core.specs.KeptChip.{KeptChip, first_attaching, after_event, with_news_told, failure_notes, news_notes}
+use Rattle.ctl_core.specs.declared.board.Board.{Board}
+use Rattle.ctl_core.specs.SlotState.{SlotState, first_attaching, after_event, with_note_written, failure_notes, pending_notes}
 use Rattle.ctl_core.specs.Past.{Past, with_attach, with_turn, starts_of, sizes_in, course_of, next_course}
 use Rattle.ctl_core.specs.Start.{HasSession}
-use Rattle.ctl_core.specs.Bench.{kept_slot, kept_chips, StandsAt, IsOnCourse, DidEvent}
-use Rattle.ctl_core.specs.Flips.{kept_flips_before}
+use Rattle.ctl_core.specs.Board.{slot_state, slot_states, StandsAt, IsOnCourse, DidEvent}
+use Rattle.ctl_core.specs.Flips.{slot_flips_before}
 use Rattle.ctl_core.proofs.ChipSteps.{next_is}
 use Rattle.ctl_core.proofs.Flipped.{flipped_at}
 use Rattle.ctl_core.proofs.Positions.{position_kept}
@@ -34,31 +34,31 @@ use Rattle.ctl_core.proofs.PastSteps.{one_more_turn, one_more_attach, one_more_b
 use Rattle.ctl_core.proofs.Limits.{attached_there, place_there}
 
 -- a search in the slots is one in what is kept of them
-pub attaching_in_slots : {F C : Type 0} {flash : Ghosts F} (bench : Bench F C flash) → position (λ slot. not (is_attached (kept_slot slot).stage))
-    bench.slots.items ≡ first_attaching (kept_chips bench)
-attaching_in_slots bench = position_kept _ _ kept_slot bench.slots.items (λ k slot h. refl)
+pub attaching_in_slots : {F C : Type 0} {flash : Ghosts F} (board : Board F C flash) → position (λ slot. not (is_attached (slot_state slot).stage))
+    board.slots.items ≡ first_attaching (slot_states board)
+attaching_in_slots board = position_kept _ _ slot_state board.slots.items (λ k slot h. refl)
 
-module _ {F C : Type 0} {flash : Ghosts F} (past : Past F) (bench : Bench F C flash) (on : IsOnCourse past bench) where
+module _ {F C : Type 0} {flash : Ghosts F} (past : Past F) (board : Board F C flash) (on : IsOnCourse past board) where
   -- with another room for notes
-  pub renoted : (notes : NotesAndRoom) → notes.notes ≡ bench.notes.notes → IsOnCourse past (record bench { notes = notes })
+  pub renoted : (notes : NotesAndRoom) → notes.notes ≡ board.notes.notes → IsOnCourse past (record board { notes = notes })
   renoted notes same = record {
     conditions = on.conditions;
     attached_first = on.attached_first;
     attach_events = on.attach_events;
     all_busy = on.all_busy;
-    stands = follows_as past.boot (starts_of flash.state past) (course_of flash.fault_model flash.state past) (kept_chips bench) (kept_chips bench)
-        bench.events bench.events
-        bench.notes.notes notes.notes bench.sessions.items bench.sessions.items refl refl same refl on.stands;
+    stands = follows_as past.boot (starts_of flash.state past) (course_of flash.fault_model flash.state past) (slot_states board) (slot_states board)
+        board.events board.events
+        board.notes.notes notes.notes board.sessions.items board.sessions.items refl refl same refl on.stands;
   }
 
   -- with other lists of the same turns and notes
-  pub relisted : (turns : List ℕ) (notes : NotesAndRoom) → turns ≡ past.turns → notes.notes ≡ bench.notes.notes
-      → IsOnCourse (record past { turns = turns }) (record bench { notes = notes })
-  relisted turns notes same_turns same_notes = subst (λ ts. IsOnCourse (record past { turns = ts }) (record bench { notes = notes })) (sym same_turns)
+  pub relisted : (turns : List ℕ) (notes : NotesAndRoom) → turns ≡ past.turns → notes.notes ≡ board.notes.notes
+      → IsOnCourse (record past { turns = turns }) (record board { notes = notes })
+  relisted turns notes same_turns same_notes = subst (λ ts. IsOnCourse (record past { turns = ts }) (record board { notes = notes })) (sym same_turns)
       (renoted notes same_notes)
 
   -- at the same course with other chips, notes or sessions
-  pub stayed_on : (new : Bench F C flash) → StandsAt past (course_of flash.fault_model flash.state past) new → IsOnCourse past new
+  pub stayed_on : (new : Board F C flash) → StandsAt past (course_of flash.fault_model flash.state past) new → IsOnCourse past new
   stayed_on new stands = record {
     conditions = on.conditions;
     attached_first = on.attached_first;
@@ -68,19 +68,19 @@ module _ {F C : Type 0} {flash : Ghosts F} (past : Past F) (bench : Bench F C fl
   }
 
   -- the first chip that is not attached has an event
-  pub attach_there : (k : ℕ) → first_attaching (kept_chips bench) ≡ Some k
-      → (x : KeptChip flash.FaultState) × (e : PageEvent) × (slice_get (kept_chips bench) k ≡ Some x) × (stage_event x.stage ≡ Some e)
+  pub attach_there : (k : ℕ) → first_attaching (slot_states board) ≡ Some k
+      → (x : SlotState flash.FaultState) × (e : PageEvent) × (slice_get (slot_states board) k ≡ Some x) × (stage_event x.stage ≡ Some e)
   attach_there k h =
-      let x = position_is (λ (y : KeptChip flash.FaultState). not (is_attached y.stage)) (kept_chips bench) k h in
+      let x = position_is (λ (y : SlotState flash.FaultState). not (is_attached y.stage)) (slot_states board) k h in
       let c = chip_there flash.fault_model past.boot on.conditions.uncut (starts_of flash.state past) (course_of flash.fault_model flash.state past)
-      (kept_chips bench) bench.events bench.notes.notes bench.sessions.items on.stands k x.0 x.1 in
-      let first : unattached (course_of flash.fault_model flash.state past) ≡ Some k = attached_there past bench on ∙ h in
+      (slot_states board) board.events board.notes.notes board.sessions.items on.stands k x.0 x.1 in
+      let first : unattached (course_of flash.fault_model flash.state past) ≡ Some k = attached_there past board on ∙ h in
       let unknown = position_is (λ (d : ChipRun flash.FaultState). is_none d.known) (course_of flash.fault_model flash.state past).chips k first in
       let same : unknown.0 ≡ c.0 = cc (unknown.1, c.1) in
       let step = (attach_is_step flash.fault_model past.boot (starts_of flash.state past) (sizes_in flash.state past) past.attaches past.turns).event_else k
       on.stands.keeps.lit first in
       let is : stage_event x.0.stage ≡ next_chip_event past.boot.partitions c.0 = sym (next_is past.boot.partitions c.0
-      ∙ ap (λ (y : KeptChip flash.FaultState). stage_event y.stage) c.2) in
+      ∙ ap (λ (y : SlotState flash.FaultState). stage_event y.stage) c.2) in
       let e = by_event c.0 c.1 first (ap (λ (d : ChipRun flash.FaultState). is_none d.known) (sym same) ∙ unknown.2) step
       (next_chip_event past.boot.partitions c.0) refl in
       (x.0, e.0, x.1, is ∙ e.1)
@@ -111,11 +111,11 @@ module _ {F C : Type 0} {flash : Ghosts F} (past : Past F) (bench : Bench F C fl
           absurd (omega (arith, same))
 
   -- no turn was taken while a chip is not attached
-  no_turns : (k : ℕ) → first_attaching (kept_chips bench) ≡ Some k → past.turns ≡ []
-  no_turns k h = on.attached_first k (attached_there past bench on ∙ h)
+  no_turns : (k : ℕ) → first_attaching (slot_states board) ≡ Some k → past.turns ≡ []
+  no_turns k h = on.attached_first k (attached_there past board on ∙ h)
 
   -- one more attach step
-  pub next_attach : (k : ℕ) → first_attaching (kept_chips bench) ≡ Some k
+  pub next_attach : (k : ℕ) → first_attaching (slot_states board) ≡ Some k
       → course_of flash.fault_model flash.state (with_attach past) ≡ attach_step flash.fault_model past.boot (sizes_in flash.state past)
       (course_of flash.fault_model flash.state past)
   next_attach k h =
@@ -124,22 +124,22 @@ module _ {F C : Type 0} {flash : Ghosts F} (past : Past F) (bench : Bench F C fl
       ∙ ap (λ ts. attach_step flash.fault_model past.boot (sizes_in flash.state past) (course_after flash.fault_model past.boot (starts_of flash.state past)
       past.attaches ts)) (sym (no_turns k h))
 
-  attached_on : (k : ℕ) (x y : KeptChip flash.FaultState) (e : PageEvent) (new : Bench F C flash) → first_attaching (kept_chips bench) ≡ Some k
-      → slice_get (kept_chips bench) k ≡ Some x
-      → stage_event x.stage ≡ Some e → slice_get (kept_flips_before flash.fault_model past.boot.flips (bench.events + 1) (kept_chips bench)) k ≡ Some y
-      → DidEvent past.boot.flips k y e bench new → IsOnCourse (with_attach past) new
+  attached_on : (k : ℕ) (x y : SlotState flash.FaultState) (e : PageEvent) (new : Board F C flash) → first_attaching (slot_states board) ≡ Some k
+      → slice_get (slot_states board) k ≡ Some x
+      → stage_event x.stage ≡ Some e → slice_get (slot_flips_before flash.fault_model past.boot.flips (board.events + 1) (slot_states board)) k ≡ Some y
+      → DidEvent past.boot.flips k y e board new → IsOnCourse (with_attach past) new
   attached_on k x y e new first at has flipped did = record {
     conditions = on.conditions;
     stands = subst (λ course. StandsAt past course new) (sym (next_attach k first))
         (follows_as past.boot (starts_of flash.state past) (attach_step flash.fault_model past.boot (sizes_in flash.state past)
         (course_of flash.fault_model flash.state past))
-        (change_at (kept_flips_before flash.fault_model past.boot.flips (bench.events + 1) (kept_chips bench)) k
-        (λ z. with_news_told (after_event flash.fault_model e z))) (kept_chips new) (bench.events + 1) new.events
-        (bench.notes.notes ++ failure_notes k (bench.events + 1) e (failure_told flash.fault_model y.state e) ++ news_notes k
-        (after_event flash.fault_model e y).news) new.notes.notes
-        bench.sessions.items new.sessions.items did.chips did.events did.notes did.sessions
+        (change_at (slot_flips_before flash.fault_model past.boot.flips (board.events + 1) (slot_states board)) k
+        (λ z. with_note_written (after_event flash.fault_model e z))) (slot_states new) (board.events + 1) new.events
+        (board.notes.notes ++ failure_notes k (board.events + 1) e (failure_told flash.fault_model y.state e) ++ pending_notes k
+        (after_event flash.fault_model e y).pending_note) new.notes.notes
+        board.sessions.items new.sessions.items did.chips did.events did.notes did.sessions
         (follows_attach flash.fault_model past.boot on.conditions.uncut (starts_of flash.state past) (course_of flash.fault_model flash.state past)
-        (kept_chips bench) bench.events bench.notes.notes bench.sessions.items
+        (slot_states board) board.events board.notes.notes board.sessions.items
         on.stands k x y e first at has flipped));
     attached_first = λ j h. no_turns k first;
     attach_events = counted;
@@ -153,21 +153,21 @@ module _ {F C : Type 0} {flash : Ghosts F} (past : Past F) (bench : Bench F C fl
       counted : (course_after flash.fault_model past.boot (starts_of flash.state past) (past.attaches + 1) []).events ≡ past.attaches + 1
       counted = ap (λ (d : Course flash.FaultState). d.events) (one_more_attach flash.fault_model past.boot (starts_of flash.state past) past.attaches)
           ∙ (attach_is_step flash.fault_model past.boot (starts_of flash.state past) (sizes_in flash.state past) past.attaches []).event_else k
-          (ap (λ (d : Course flash.FaultState). d.dark) (sym here) ∙ on.stands.keeps.lit) (ap unattached (sym here) ∙ attached_there past bench on ∙ first)
+          (ap (λ (d : Course flash.FaultState). d.dark) (sym here) ∙ on.stands.keeps.lit) (ap unattached (sym here) ∙ attached_there past board on ∙ first)
           ∙ ap (λ n. n + 1) on.attach_events
 
   -- the flips that are due are made, and the first chip that is not attached does its event
-  pub attached_now : (k : ℕ) (new : Bench F C flash) → first_attaching (kept_chips bench) ≡ Some k → (flips : List Flip) → flips ≡ past.boot.flips
-      → ((y : KeptChip flash.FaultState) (e : PageEvent) → slice_get (kept_flips_before flash.fault_model flips (bench.events + 1) (kept_chips bench)) k
+  pub attached_now : (k : ℕ) (new : Board F C flash) → first_attaching (slot_states board) ≡ Some k → (flips : List Flip) → flips ≡ past.boot.flips
+      → ((y : SlotState flash.FaultState) (e : PageEvent) → slice_get (slot_flips_before flash.fault_model flips (board.events + 1) (slot_states board)) k
       ≡ Some y → stage_event y.stage ≡ Some e
-      → DidEvent flips k y e bench new)
+      → DidEvent flips k y e board new)
       → IsOnCourse (with_attach past) new
   attached_now k new first flips same did =
       let there = attach_there k first in
-      let flipped = flipped_at flash.fault_model past.boot.flips (bench.events + 1) (kept_chips bench) k there.0 there.2 in
-      let now = subst (λ fs. (y : KeptChip flash.FaultState) (e : PageEvent) → slice_get
-      (kept_flips_before flash.fault_model fs (bench.events + 1) (kept_chips bench)) k ≡ Some y
-      → stage_event y.stage ≡ Some e → DidEvent fs k y e bench new) same did in
+      let flipped = flipped_at flash.fault_model past.boot.flips (board.events + 1) (slot_states board) k there.0 there.2 in
+      let now = subst (λ fs. (y : SlotState flash.FaultState) (e : PageEvent) → slice_get
+      (slot_flips_before flash.fault_model fs (board.events + 1) (slot_states board)) k ≡ Some y
+      → stage_event y.stage ≡ Some e → DidEvent fs k y e board new) same did in
       attached_on k there.0 flipped.0 there.1 new first there.2 there.3 flipped.1 (now flipped.0 there.1 flipped.1 (ap stage_event flipped.2.stage ∙ there.3))
 
   -- one more turn
@@ -179,7 +179,7 @@ module _ {F C : Type 0} {flash : Ghosts F} (past : Past F) (bench : Bench F C fl
   next_attached session h = ap unattached (next_turn session) ∙ stays_attached flash.fault_model past.boot on.conditions.uncut (sizes_in flash.state past)
       (course_of flash.fault_model flash.state past) session h
 
-  pub turned_on : (session : ℕ) (new : Bench F C flash) → unattached (course_of flash.fault_model flash.state past) ≡ None
+  pub turned_on : (session : ℕ) (new : Board F C flash) → unattached (course_of flash.fault_model flash.state past) ≡ None
       → is_idle past.boot.partitions (sizes_in flash.state past) (course_of flash.fault_model flash.state past) session ≡ false
       → StandsAt past (next_course flash.fault_model flash.state past session) new → IsOnCourse (with_turn past session) new
   turned_on session new attached busy stands = record {
@@ -201,14 +201,14 @@ module _ {F C : Type 0} {flash : Ghosts F} (past : Past F) (bench : Bench F C fl
       idle
 
   -- a session of the boot is one that is found
-  pub has_found : (session : ℕ) → (o : Option ℕ) → o ≡ position (λ (s : Session). number_of s == session) bench.sessions.items
+  pub has_found : (session : ℕ) → (o : Option ℕ) → o ≡ position (λ (s : Session). number_of s == session) board.sessions.items
       → ((is_some o ≡ true) → HasSession past.boot session) × (HasSession past.boot session → is_some o ≡ true)
-  has_found session None h = ((λ e. cc), (λ has. absurd (place_there past bench on session has (sym h))))
+  has_found session None h = ((λ e. cc), (λ has. absurd (place_there past board on session has (sym h))))
   has_found session (Some k) h = ((λ e. there), (λ has. refl))
     where
       there : HasSession past.boot session
       there =
-          let s = position_is (λ (x : Session). number_of x == session) bench.sessions.items k (sym h) in
-          let p = placed (sizes_in flash.state past) past.boot.sessions bench.notes.notes bench.sessions.items
+          let s = position_is (λ (x : Session). number_of x == session) board.sessions.items k (sym h) in
+          let p = placed (sizes_in flash.state past) past.boot.sessions board.notes.notes board.sessions.items
           (course_of flash.fault_model flash.state past).sessions on.stands.mirrors k s.0 s.1 in
           (k, ap (option_map (λ (x : ℕ × List Command). x.0)) p.begun_at ∙ ap Some (sym p.number ∙ eqb-true _ _ s.2))

@@ -15,10 +15,10 @@ use Rattle.run_model.specs.Course.{Course, session_run, pending_chip, unattached
 use Rattle.command_model.specs.Session.{next_op}
 use Rattle.chip_paths.specs.Stage.{stage_by, failure_told, is_attached}
 use Rattle.run_laws.proofs.Places.{position_none}
-use Rattle.ctl_core.specs.KeptChip.{KeptChip, kept_as, all_kept, is_held_by, first_attaching, first_held_by, after_event, after_begin, after_answer, with_news_told, failure_notes, news_notes, holder_by}
-use Rattle.ctl_core.specs.Flips.{kept_flips_before}
+use Rattle.ctl_core.specs.SlotState.{SlotState, slot_as, slots_as, is_held_by, first_attaching, first_held_by, after_event, after_begin, after_answer, with_note_written, failure_notes, pending_notes, holder_by}
+use Rattle.ctl_core.specs.Flips.{slot_flips_before}
 use Rattle.ctl_core.specs.Keeps.{Keeps}
-use Rattle.ctl_core.proofs.ChipSteps.{begun, answered, kept_advanced, failure_is, news_is}
+use Rattle.ctl_core.proofs.ChipSteps.{begun, answered, slot_advanced, failure_is, pending_note_is}
 use Rattle.ctl_core.proofs.Flipped.{flips_kept}
 use Rattle.ctl_core.proofs.Positions.{position_kept, mapped_change}
 
@@ -44,22 +44,22 @@ module _ {W : Type 0} (partitions : Partitions) where
   attaching_by c (Some known) None = refl
   attaching_by c (Some known) (Some pending) = refl
 
-  pub unattached_is : (course : Course W) → unattached course ≡ first_attaching (all_kept partitions course.chips)
-  unattached_is course = position_kept (λ (c : ChipRun W). is_none c.known) (λ (c : KeptChip W). not (is_attached c.stage)) (kept_as partitions) course.chips
+  pub unattached_is : (course : Course W) → unattached course ≡ first_attaching (slots_as partitions course.chips)
+  unattached_is course = position_kept (λ (c : ChipRun W). is_none c.known) (λ (c : SlotState W). not (is_attached c.stage)) (slot_as partitions) course.chips
       (λ k c h. attaching_by c c.known c.pending)
 
   pub pending_is : (course : Course W) (session : ℕ) → unattached course ≡ None → pending_chip course session
-      ≡ first_held_by session (all_kept partitions course.chips)
-  pending_is course session h = position_kept (λ (c : ChipRun W). is_pending_of session c.pending) (λ (c : KeptChip W). is_held_by session c.holder)
-      (kept_as partitions) course.chips
+      ≡ first_held_by session (slots_as partitions course.chips)
+  pending_is course session h = position_kept (λ (c : ChipRun W). is_pending_of session c.pending) (λ (c : SlotState W). is_held_by session c.holder)
+      (slot_as partitions) course.chips
       (λ k c e. held_by_session session c.known c.pending (position_none (λ (d : ChipRun W). is_none d.known) course.chips h k c e))
 
   -- an attached chip that no session holds
-  pub resting : (c : ChipRun W) → is_none c.known ≡ false → (kept_as partitions c).holder ≡ None → (known : Known) × (c.known ≡ Some known) × (c.pending ≡ None)
+  pub resting : (c : ChipRun W) → is_none c.known ≡ false → (slot_as partitions c).holder ≡ None → (known : Known) × (c.known ≡ Some known) × (c.pending ≡ None)
   resting c h i = resting_by c.known c.pending h i
 
   -- the operation of the session that holds a chip
-  pub holding : (c : ChipRun W) (by : ℕ) → (kept_as partitions c).holder ≡ Some by → (pending : Pending) × (c.pending ≡ Some pending) × (pending.session ≡ by)
+  pub holding : (c : ChipRun W) (by : ℕ) → (slot_as partitions c).holder ≡ Some by → (pending : Pending) × (c.pending ≡ Some pending) × (pending.session ≡ by)
   holding c by h = holding_by c.known c.pending by h
 
 abbrev idle_by : Bool → Option ℕ → Option ℕ → Bool → Bool
@@ -150,50 +150,50 @@ module _ {W : Type 0} (model : FaultModel W) (boot : Boot) (uncut : boot.cut ≡
       ∙ (λ j. with_answer boot.partitions sizes course k c (is_known j) (is_pending j)) ∙ ap (finish sizes course k c pending.session) over
 
   -- what is kept after an event, of a chip that stood so after the flips
-  pub event_kept : (kept : List (KeptChip W)) (events : ℕ) (notes : List Note) (k : ℕ) (c : ChipRun W) (e : PageEvent)
+  pub event_kept : (kept : List (SlotState W)) (events : ℕ) (notes : List Note) (k : ℕ) (c : ChipRun W) (e : PageEvent)
       → Keeps boot.partitions course kept events notes → slice_get after_flips k ≡ Some c
       → Keeps boot.partitions (after_chip_event k c e)
-      (change_at (kept_flips_before model boot.flips (events + 1) kept) k (λ x. with_news_told (after_event model e x))) (events + 1)
-      (notes ++ failure_notes k (events + 1) e (failure_told model c.chip e) ++ news_notes k (after_event model e (kept_as boot.partitions c)).news)
+      (change_at (slot_flips_before model boot.flips (events + 1) kept) k (λ x. with_note_written (after_event model e x))) (events + 1)
+      (notes ++ failure_notes k (events + 1) e (failure_told model c.chip e) ++ pending_notes k (after_event model e (slot_as boot.partitions c)).pending_note)
   event_kept kept events notes k c e keeps at = record {
     lit = refl;
     of_chips =
-        let flipped : kept_flips_before model boot.flips (events + 1) kept ≡ all_kept boot.partitions after_flips =
-        (λ j. kept_flips_before model boot.flips (keeps.of_events j + 1) (keeps.of_chips j))
+        let flipped : slot_flips_before model boot.flips (events + 1) kept ≡ slots_as boot.partitions after_flips =
+        (λ j. slot_flips_before model boot.flips (keeps.of_events j + 1) (keeps.of_chips j))
         ∙ sym (flips_kept model boot.partitions boot (course.events + 1) course.chips) in
-        ap (λ xs. change_at xs k (λ x. with_news_told (after_event model e x))) flipped
-        ∙ sym (mapped_change (kept_as boot.partitions) (λ old. advanced model c e) (λ x. with_news_told (after_event model e x)) after_flips k c at
-        (kept_advanced boot.partitions model c e));
+        ap (λ xs. change_at xs k (λ x. with_note_written (after_event model e x))) flipped
+        ∙ sym (mapped_change (slot_as boot.partitions) (λ old. advanced model c e) (λ x. with_note_written (after_event model e x)) after_flips k c at
+        (slot_advanced boot.partitions model c e));
     of_events = ap (λ n. n + 1) keeps.of_events;
     of_notes = let failed : failure_notes k (events + 1) e (failure_told model c.chip e) ≡ notes_of_advance model k (course.events + 1) c e =
         ap (λ n. failure_notes k (n + 1) e (failure_told model c.chip e)) keeps.of_events ∙ sym (failure_is boot.partitions model k (course.events + 1) c e) in
-        let news : news_notes k (after_event model e (kept_as boot.partitions c)).news ≡ attach_notes k c (advanced model c e) = sym
-        (news_is boot.partitions model k c e) in
-        λ j. keeps.of_notes j ++ failed j ++ news j;
+        let pending_note : pending_notes k (after_event model e (slot_as boot.partitions c)).pending_note ≡ attach_notes k c (advanced model c e) = sym
+        (pending_note_is boot.partitions model k c e) in
+        λ j. keeps.of_notes j ++ failed j ++ pending_note j;
   }
 
   -- what is kept after an operation began
-  pub begin_kept : (kept : List (KeptChip W)) (events : ℕ) (notes : List Note) (session k : ℕ) (op : Op) (c : ChipRun W) (known : Known)
+  pub begin_kept : (kept : List (SlotState W)) (events : ℕ) (notes : List Note) (session k : ℕ) (op : Op) (c : ChipRun W) (known : Known)
       → Keeps boot.partitions course kept events notes → slice_get course.chips k ≡ Some c → c.known ≡ Some known → c.pending ≡ None
       → Keeps boot.partitions (began course session k op) (change_at kept k (after_begin boot.partitions session op)) events (notes ++ Began session op ∷ [])
   begin_kept kept events notes session k op c known keeps at is_known free = record {
     lit = keeps.lit;
     of_chips = ap (λ xs. change_at xs k (after_begin boot.partitions session op)) keeps.of_chips
-        ∙ sym (mapped_change (kept_as boot.partitions) (λ d. with_pending d session op) (after_begin boot.partitions session op) course.chips k c at
+        ∙ sym (mapped_change (slot_as boot.partitions) (λ d. with_pending d session op) (after_begin boot.partitions session op) course.chips k c at
         (begun boot.partitions c known session op is_known free));
     of_events = keeps.of_events;
     of_notes = ap (λ zs. zs ++ Began session op ∷ []) keeps.of_notes;
   }
 
   -- what is kept after an operation is answered
-  pub answer_kept : (kept : List (KeptChip W)) (events : ℕ) (notes : List Note) (session k : ℕ) (c : ChipRun W) (finished : Finished)
+  pub answer_kept : (kept : List (SlotState W)) (events : ℕ) (notes : List Note) (session k : ℕ) (c : ChipRun W) (finished : Finished)
       → Keeps boot.partitions course kept events notes → slice_get course.chips k ≡ Some c
       → Keeps boot.partitions (finish sizes course k c session (Some finished)) (change_at kept k (after_answer finished.known)) events
       (notes ++ Answered session finished.reply ∷ [])
   answer_kept kept events notes session k c finished keeps at = record {
     lit = keeps.lit;
     of_chips = ap (λ xs. change_at xs k (after_answer finished.known)) keeps.of_chips
-        ∙ sym (mapped_change (kept_as boot.partitions) (λ old. with_finished c finished) (after_answer finished.known) course.chips k c at
+        ∙ sym (mapped_change (slot_as boot.partitions) (λ old. with_finished c finished) (after_answer finished.known) course.chips k c at
         (answered boot.partitions c finished));
     of_events = keeps.of_events;
     of_notes = ap (λ zs. zs ++ Answered session finished.reply ∷ []) keeps.of_notes;

@@ -3,7 +3,7 @@ use Rattle.std.proofs.Common.{◌≡◌, ◌+◌, ◌-◌, arith, ℕ, zero, suc
 use Rattle.std.specs.Prelude.{slice_get, map, option_map, All, nat_lt, if◌then◌else◌}
 use Rattle.std.proofs.lemmas.List.{get_or-drop, length-drop}
 use Rattle.std.proofs.lemmas.Option.{slice_get_within, get_or_from_slice_get, slice_get-map}
-use Rattle.nand_model.specs.Partitions.{LiesWithin, Partitions, part_of, chip_of_part}
+use Rattle.nand_model.specs.Partitions.{LiesWithin, Partitions, part_of, chip_of_part, command_device}
 use Rattle.nand_model.specs.declared.geometry.Geometry.{Geometry}
 use Rattle.nand_model.specs.declared.words.Command.{Command}
 use Rattle.nand_model.specs.declared.words.Op.{Op}
@@ -13,7 +13,7 @@ use Rattle.nand_model.specs.declared.words.Reply.{Reply}
 use Rattle.nand_model.specs.Sizes.{small_chip}
 use Rattle.nand_model.specs.Chip.{ChipState, FaultModel}
 use Rattle.chip_paths.specs.ChipRun.{ChipRun}
-use Rattle.command_model.specs.Command.{Script, End, Ask, next_in, next_step, command_device}
+use Rattle.command_model.specs.Command.{Script, End, Ask, next_in, next_step}
 use Rattle.command_model.specs.Boot.{Boot, geometry_of_chip}
 use Rattle.run_model.specs.Course.{Course, sizes_of}
 use Rattle.command_model.specs.Session.{SessionRun, next_op_of, op_of_next}

@@ -17,12 +17,12 @@ use Rattle.command_model.specs.Runnable.{CanRun}
 use Rattle.session_steps.specs.declared.session.Session.{Session}
 use Rattle.session_steps.specs.Standing.{number_of}
 use Rattle.session_steps.specs.Mirrors.{Mirrors}
-use Rattle.ctl_core.specs.declared.bench.Bench.{Bench}
-use Rattle.ctl_core.specs.KeptChip.{KeptChip, kept_first, all_kept, first_attaching}
+use Rattle.ctl_core.specs.declared.board.Board.{Board}
+use Rattle.ctl_core.specs.SlotState.{SlotState, slot_first, slots_as, first_attaching}
 use Rattle.ctl_core.specs.Past.{Past, at_start, course_of}
 use Rattle.ctl_core.specs.Sessions.{AreFresh, AreAllDone}
 use Rattle.run_model.specs.Start.{CanStart}
-use Rattle.ctl_core.specs.Bench.{kept_slot, kept_chips, IsOnCourse}
+use Rattle.ctl_core.specs.Board.{slot_state, slot_states, IsOnCourse}
 use Rattle.ctl_core.proofs.Positions.{mapped_at, mapped_length}
 use Rattle.ctl_core.proofs.Places.{item_at}
 use Rattle.ctl_core.proofs.Known.{all_known}
@@ -90,7 +90,7 @@ same_none None false h = cc
 same_none (Some k) true h = cc
 same_none (Some k) false h = ((λ e. cc), (λ e. (k, refl)))
 
-module _ {F C : Type 0} {flash : Ghosts F} (past : Past F) (bench : Bench F C flash) (on : IsOnCourse past bench) where
+module _ {F C : Type 0} {flash : Ghosts F} (past : Past F) (board : Board F C flash) (on : IsOnCourse past board) where
   over_by : (dark known done : Bool) → dark ≡ false → known ≡ true → done ≡ (dark || (known && done))
   over_by true known done d k = cc
   over_by false true done d k = refl
@@ -101,8 +101,8 @@ module _ {F C : Type 0} {flash : Ghosts F} (past : Past F) (bench : Bench F C fl
   not_over_by false true done d k = cc
   not_over_by false false done d k = refl
 
-  -- the sessions of the bench are done where those of the course are
-  done_there : (done : Bool) → IsTrue done ↔ AreAllDone past.boot.sessions bench.notes.notes bench.sessions.items
+  -- the sessions of the board are done where those of the course are
+  done_there : (done : Bool) → IsTrue done ↔ AreAllDone past.boot.sessions board.notes.notes board.sessions.items
       → done ≡ list_all (λ (s : SessionRun). is_finished s.commands) (course_of flash.fault_model flash.state past).sessions
   done_there true h = sym (all_true (λ (s : SessionRun). is_finished s.commands) (course_of flash.fault_model flash.state past).sessions finished)
     where
@@ -110,12 +110,12 @@ module _ {F C : Type 0} {flash : Ghosts F} (past : Past F) (bench : Bench F C fl
       finished k run at =
           let within = slice_get_within (course_of flash.fault_model flash.state past).sessions k run at in
           let b = item_at past.boot.sessions k (omega (arith, within, on.stands.mirrors.runs_many)) in
-          let s = item_at bench.sessions.items k (omega (arith, within, on.stands.mirrors.runs_many, on.stands.mirrors.many)) in
+          let s = item_at board.sessions.items k (omega (arith, within, on.stands.mirrors.runs_many, on.stands.mirrors.many)) in
           ap is_finished (on.stands.mirrors.each k b.0 s.0 run b.1 s.1 at).1.shows.left ∙ h.0 refl k b.0 s.0 b.1 s.1
   done_there false h = by_all (list_all (λ (s : SessionRun). is_finished s.commands) (course_of flash.fault_model flash.state past).sessions) refl
     where
       all_done : list_all (λ (s : SessionRun). is_finished s.commands) (course_of flash.fault_model flash.state past).sessions ≡ true
-          → AreAllDone past.boot.sessions bench.notes.notes bench.sessions.items
+          → AreAllDone past.boot.sessions board.notes.notes board.sessions.items
       all_done all k b s at there =
           let within = slice_get_within past.boot.sessions k b at in
           let r = item_at (course_of flash.fault_model flash.state past).sessions k (omega (arith, within, on.stands.mirrors.runs_many)) in
@@ -126,10 +126,10 @@ module _ {F C : Type 0} {flash : Ghosts F} (past : Past F) (bench : Bench F C fl
       by_all true e = let bad : IsTrue false = h.1 (all_done e) in cc
       by_all false e = refl
 
-  pub over_where_done : (none done : Bool) (o : Option ℕ) → o ≡ first_attaching (kept_chips bench) → is_some o ≡ not none → none ≡ true
-      → IsTrue done ↔ AreAllDone past.boot.sessions bench.notes.notes bench.sessions.items → done ≡ is_over (course_of flash.fault_model flash.state past)
+  pub over_where_done : (none done : Bool) (o : Option ℕ) → o ≡ first_attaching (slot_states board) → is_some o ≡ not none → none ≡ true
+      → IsTrue done ↔ AreAllDone past.boot.sessions board.notes.notes board.sessions.items → done ≡ is_over (course_of flash.fault_model flash.state past)
   over_where_done none done o first same absent all =
-      let attached : unattached (course_of flash.fault_model flash.state past) ≡ None = attached_there past bench on ∙ sym first
+      let attached : unattached (course_of flash.fault_model flash.state past) ≡ None = attached_there past board on ∙ sym first
       ∙ (same_none o none same).0 absent in
       let known : list_all (λ (c : ChipRun flash.FaultState). is_some c.known) (course_of flash.fault_model flash.state past).chips ≡ true =
       all_true (λ (c : ChipRun flash.FaultState). is_some c.known) (course_of flash.fault_model flash.state past).chips
@@ -146,11 +146,11 @@ module _ {F C : Type 0} {flash : Ghosts F} (past : Past F) (bench : Bench F C fl
       is_known : (c : ChipRun flash.FaultState) → is_none c.known ≡ false → is_some c.known ≡ true
       is_known c h = known_some c.known h
 
-  pub not_over_where_attaching : (none : Bool) (o : Option ℕ) → o ≡ first_attaching (kept_chips bench) → is_some o ≡ not none → none ≡ false
+  pub not_over_where_attaching : (none : Bool) (o : Option ℕ) → o ≡ first_attaching (slot_states board) → is_some o ≡ not none → none ≡ false
       → none ≡ is_over (course_of flash.fault_model flash.state past)
   not_over_where_attaching none o first same there =
       let k = (same_none o none same).1 there in
-      let some : unattached (course_of flash.fault_model flash.state past) ≡ Some k.0 = attached_there past bench on ∙ sym first ∙ k.1 in
+      let some : unattached (course_of flash.fault_model flash.state past) ≡ Some k.0 = attached_there past board on ∙ sym first ∙ k.1 in
       let c = position_is (λ (d : ChipRun flash.FaultState). is_none d.known) (course_of flash.fault_model flash.state past).chips k.0 some in
       there ∙ not_over_by (course_of flash.fault_model flash.state past).dark (list_all (λ (c : ChipRun flash.FaultState). is_some c.known)
       (course_of flash.fault_model flash.state past).chips)
@@ -162,21 +162,21 @@ module _ {F C : Type 0} {flash : Ghosts F} (past : Past F) (bench : Bench F C fl
       unknown (Some x) h = cc
 
 -- chips at the start
-kept_at_start : {W : Type 0} (partitions : Partitions) (starts : List (ChipState W)) → map kept_first starts ≡ all_kept partitions (map chip_at_start starts)
-kept_at_start partitions [] = refl
-kept_at_start partitions (s ∷ starts) = ap (λ zs. kept_first s ∷ zs) (kept_at_start partitions starts)
+slots_at_start : {W : Type 0} (partitions : Partitions) (starts : List (ChipState W)) → map slot_first starts ≡ slots_as partitions (map chip_at_start starts)
+slots_at_start partitions [] = refl
+slots_at_start partitions (s ∷ starts) = ap (λ zs. slot_first s ∷ zs) (slots_at_start partitions starts)
 
 -- a controller at its start
-pub start_on : {F C : Type 0} {flash : Ghosts F} (boot : Boot) (flashes : List F) (bench : Bench F C flash) → CanStart boot (map flash.state flashes)
-    → map kept_slot bench.slots.items ≡ map kept_first (map flash.state flashes) → AreFresh boot.sessions bench.sessions.items → bench.events ≡ 0
-    → bench.notes.notes ≡ []
-    → IsOnCourse (at_start boot flashes) bench
-start_on {F} {C} {flash} boot flashes bench start slots fresh events notes = record {
+pub start_on : {F C : Type 0} {flash : Ghosts F} (boot : Boot) (flashes : List F) (board : Board F C flash) → CanStart boot (map flash.state flashes)
+    → map slot_state board.slots.items ≡ map slot_first (map flash.state flashes) → AreFresh boot.sessions board.sessions.items → board.events ≡ 0
+    → board.notes.notes ≡ []
+    → IsOnCourse (at_start boot flashes) board
+start_on {F} {C} {flash} boot flashes board start slots fresh events notes = record {
   conditions = start;
   stands = record {
     keeps = record {
       lit = refl;
-      of_chips = slots ∙ kept_at_start boot.partitions (map flash.state flashes);
+      of_chips = slots ∙ slots_at_start boot.partitions (map flash.state flashes);
       of_events = events;
       of_notes = notes;
     };
@@ -185,8 +185,8 @@ start_on {F} {C} {flash} boot flashes bench start slots fresh events notes = rec
       runs_many = mapped_length begin boot.sessions;
       each = each_one;
     };
-    wait = λ k i c s at there holds. let m = mapped_at kept_first (map flash.state flashes) k c (ap (λ xs. slice_get xs k) (sym slots) ∙ at) in
-        let none : None ≡ Some (number_of s) = ap (λ (y : KeptChip flash.FaultState). y.holder) m.2 ∙ holds in cc;
+    wait = λ k i c s at there holds. let m = mapped_at slot_first (map flash.state flashes) k c (ap (λ xs. slice_get xs k) (sym slots) ∙ at) in
+        let none : None ≡ Some (number_of s) = ap (λ (y : SlotState flash.FaultState). y.holder) m.2 ∙ holds in cc;
   };
   attached_first = λ k h. refl;
   attach_events = refl;
@@ -196,17 +196,17 @@ start_on {F} {C} {flash} boot flashes bench start slots fresh events notes = rec
     begin : ℕ × List Command → SessionRun
     begin s = without_finished (sizes_of boot (map flash.state flashes)) s.0 s.1 [] []
 
-    each_one : (i : ℕ) (b : ℕ × List Command) (s : Session) (run : SessionRun) → slice_get boot.sessions i ≡ Some b → slice_get bench.sessions.items i
+    each_one : (i : ℕ) (b : ℕ × List Command) (s : Session) (run : SessionRun) → slice_get boot.sessions i ≡ Some b → slice_get board.sessions.items i
         ≡ Some s → slice_get (map begin boot.sessions) i ≡ Some run
-        → (number_of s ≡ b.0) × Mirrors (sizes_of boot (map flash.state flashes)) b.1 bench.notes.notes s run
+        → (number_of s ≡ b.0) × Mirrors (sizes_of boot (map flash.state flashes)) b.1 board.notes.notes s run
     each_one i b s run at there is =
         let r = mapped_at begin boot.sessions i run is in
         let own : r.0 ≡ b = cc (r.1, at) in
         let same : begin b ≡ run = ap begin (sym own) ∙ r.2 in
         let runnable = all_at (λ (x : ℕ × List Command). All (λ c. CanRun (sizes_of boot (map flash.state flashes) c) c) x.1) boot.sessions i b start.runnable
         at in
-        let m = fresh.each i b s at there (sizes_of boot (map flash.state flashes)) b.1 bench.notes.notes runnable in (
+        let m = fresh.each i b s at there (sizes_of boot (map flash.state flashes)) b.1 board.notes.notes runnable in (
           sym m.shows.number ∙ number_stays (sizes_of boot (map flash.state flashes)) b.0 b.1 [] [],
           subst
-              (Mirrors (sizes_of boot (map flash.state flashes)) b.1 bench.notes.notes s) same m,
+              (Mirrors (sizes_of boot (map flash.state flashes)) b.1 board.notes.notes s) same m,
         )

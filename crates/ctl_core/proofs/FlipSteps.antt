@@ -7,15 +7,15 @@ use Rattle.std.proofs.lemmas.Bool.{eq-eqb, ne_eqb}
 use Rattle.std.proofs.lemmas.List.{length-drop}
 use Rattle.std.proofs.lemmas.List.Sums.{sum_by-cons}
 use Rattle.std.proofs.lemmas.Option.{slice_get_within, get_or_from_slice_get}
-use Rattle.fault_plan.specs.Due.{is_due}
+use Rattle.nand_model.specs.Flips.{is_due, due_flips}
 use Rattle.nand_iface.specs.declared.flash.Flash.{Ghosts}
 use Rattle.nand_model.specs.Chip.{PageEvent}
 use Rattle.nand_model.specs.declared.words.Flip.{Flip}
 use Rattle.chip_paths.specs.Stage.{stage_event}
-use Rattle.ctl_core.specs.declared.bench.Slot.{Slot}
-use Rattle.ctl_core.specs.Bench.{HasRoom, kept_slot}
-use Rattle.ctl_core.specs.Flips.{CanFlip, bit_count, due_flips, kept_flip, kept_flips_before}
-use Rattle.ctl_core.specs.KeptChip.{KeptChip}
+use Rattle.ctl_core.specs.declared.board.Slot.{Slot}
+use Rattle.ctl_core.specs.Board.{HasRoom, slot_state}
+use Rattle.ctl_core.specs.Flips.{CanFlip, bit_count, slot_flip, slot_flips_before}
+use Rattle.ctl_core.specs.SlotState.{SlotState}
 use Rattle.ctl_core.proofs.Flipped.{can_still_flip, flipped_at}
 use Rattle.ctl_core.proofs.OnCourse.{and_then_some, some_of}
 use Rattle.ctl_core.proofs.Positions.{mapped_length}
@@ -84,8 +84,8 @@ module _ {F C : Type 0} {flash : Ghosts F} where
       ≡ length flip.bits + bit_count rest
       → All (HasRoom pages bits) slots → All (HasRoom (1 + length rest) (length flip.bits + bit_count rest)) slots × All (HasRoom 1 (length flip.bits)) slots
   room_split pages bits flip rest slots more more_bits all = (
-    λ k d h. let r = all k d h in record { spare = omega (arith, r.spare); bits_room = omega (arith, r.bits_room) },
-    λ k d h. let r = all k d h in record { spare = omega (arith, r.spare); bits_room = omega (arith, r.bits_room) },
+    λ k d h. let r = all k d h in record { page_room = omega (arith, r.page_room); bits_room = omega (arith, r.bits_room) },
+    λ k d h. let r = all k d h in record { page_room = omega (arith, r.page_room); bits_room = omega (arith, r.bits_room) },
   )
 
   -- the room that is left after a flip of the chip in a slot
@@ -94,16 +94,16 @@ module _ {F C : Type 0} {flash : Ghosts F} where
       → All (HasRoom (1 + pages) (length flip.bits + bits)) slots → All (HasRoom pages bits) (set slots k now)
   room_left flip slots k slot now pages bits at here all =
       all_set (HasRoom (1 + pages) (length flip.bits + bits)) (HasRoom pages bits) slots k slot now at here
-      (λ other r. record { spare = omega (arith, r.spare); bits_room = omega (arith, r.bits_room) }) all
+      (λ other r. record { page_room = omega (arith, r.page_room); bits_room = omega (arith, r.bits_room) }) all
 
   -- the loop over the flips stands at place n: chips and room are those of the flips before, and those that are left can be made
-  pub record FlipsLeft (flips : List Flip) (event n : ℕ) (start : List (KeptChip flash.FaultState)) (slots : List (Slot F C flash)) : Type 0 where
-    pub there : All (CanFlip (map kept_slot slots)) flips
+  pub record FlipsLeft (flips : List Flip) (event n : ℕ) (start : List (SlotState flash.FaultState)) (slots : List (Slot F C flash)) : Type 0 where
+    pub there : All (CanFlip (map slot_state slots)) flips
     pub room : All (HasRoom (length (due_flips (drop n flips) event)) (bit_count (due_flips (drop n flips) event))) slots
-    pub so_far : fold (kept_flip flash.fault_model) (map kept_slot slots) (due_flips (drop n flips) event)
-        ≡ kept_flips_before flash.fault_model flips event start
+    pub so_far : fold (slot_flip flash.fault_model) (map slot_state slots) (due_flips (drop n flips) event)
+        ≡ slot_flips_before flash.fault_model flips event start
 
-  module _ (flips : List Flip) (event n : ℕ) (start : List (KeptChip flash.FaultState)) (slots : List (Slot F C flash))
+  module _ (flips : List Flip) (event n : ℕ) (start : List (SlotState flash.FaultState)) (slots : List (Slot F C flash))
       (left : FlipsLeft flips event n start slots)
       (flip : Flip) (at : slice_get flips n ≡ Some flip) where
     module _ (due : flip.before ≡ event) where
@@ -122,49 +122,49 @@ module _ {F C : Type 0} {flash : Ghosts F} where
       flip_room = flip_rooms.1
 
       -- it is made
-      pub one_flipped : (now : List (Slot F C flash)) → map kept_slot now ≡ kept_flip flash.fault_model (map kept_slot slots) flip
+      pub one_flipped : (now : List (Slot F C flash)) → map slot_state now ≡ slot_flip flash.fault_model (map slot_state slots) flip
           → ((pages bits : ℕ) → All (HasRoom (1 + pages) (length flip.bits + bits)) slots → All (HasRoom pages bits) now)
           → FlipsLeft flips event (n + 1) start now
       one_flipped now chips room = record {
-        there = λ k d h. subst (λ cs. CanFlip cs (get_or flips k d)) (sym chips) (can_still_flip flash.fault_model (map kept_slot slots) flip
+        there = λ k d h. subst (λ cs. CanFlip cs (get_or flips k d)) (sym chips) (can_still_flip flash.fault_model (map slot_state slots) flip
             (get_or flips k d) (left.there k d h));
         room = room (length (due_flips (drop (n + 1) flips) event)) (bit_count (due_flips (drop (n + 1) flips) event)) flip_rooms.0;
-        so_far = ap (λ cs. fold (kept_flip flash.fault_model) cs (due_flips (drop (n + 1) flips) event)) chips
-            ∙ ap (fold (kept_flip flash.fault_model) (map kept_slot slots)) (sym (due_here flips event n flip at is_due_here)) ∙ left.so_far;
+        so_far = ap (λ cs. fold (slot_flip flash.fault_model) cs (due_flips (drop (n + 1) flips) event)) chips
+            ∙ ap (fold (slot_flip flash.fault_model) (map slot_state slots)) (sym (due_here flips event n flip at is_due_here)) ∙ left.so_far;
       }
 
     -- a flip that is not due is passed over
     pub none_flipped : (flip.before ≡ event → ⊥) → FlipsLeft flips event (n + 1) start slots
-    none_flipped other = subst (λ due. All (HasRoom (length due) (bit_count due)) slots → fold (kept_flip flash.fault_model) (map kept_slot slots) due
-        ≡ kept_flips_before flash.fault_model flips event start
+    none_flipped other = subst (λ due. All (HasRoom (length due) (bit_count due)) slots → fold (slot_flip flash.fault_model) (map slot_state slots) due
+        ≡ slot_flips_before flash.fault_model flips event start
         → FlipsLeft flips event (n + 1) start slots)
         (sym (due_later flips event n flip at (ne_eqb flip.before event other)))
         (λ room so_far. record { there = left.there; room = room; so_far = so_far }) left.room left.so_far
 
   -- at its end all flips are made
-  pub all_flipped : (flips : List Flip) (event n : ℕ) (start : List (KeptChip flash.FaultState)) (slots : List (Slot F C flash))
+  pub all_flipped : (flips : List Flip) (event n : ℕ) (start : List (SlotState flash.FaultState)) (slots : List (Slot F C flash))
       → FlipsLeft flips event n start slots → length flips ≤ n
-      → map kept_slot slots ≡ kept_flips_before flash.fault_model flips event start
+      → map slot_state slots ≡ slot_flips_before flash.fault_model flips event start
   all_flipped flips event n start slots left end =
-      ap (fold (kept_flip flash.fault_model) (map kept_slot slots)) (sym (due_at_end flips event n end)) ∙ left.so_far
+      ap (fold (slot_flip flash.fault_model) (map slot_state slots)) (sym (due_at_end flips event n end)) ∙ left.so_far
 
   -- a chip in a slot after the flips, which has an event before them
   pub event_there : (flips : List Flip) (event : ℕ) (before now : List (Slot F C flash)) (k : ℕ)
-      → IsSome (option_and_then (λ (c : KeptChip flash.FaultState). stage_event c.stage) (slice_get (map kept_slot before) k))
-      → map kept_slot now ≡ kept_flips_before flash.fault_model flips event (map kept_slot before)
-      → (x : KeptChip flash.FaultState) × (e : PageEvent) × (slice_get (map kept_slot now) k ≡ Some x) × (stage_event x.stage ≡ Some e) × (k < length before)
+      → IsSome (option_and_then (λ (c : SlotState flash.FaultState). stage_event c.stage) (slice_get (map slot_state before) k))
+      → map slot_state now ≡ slot_flips_before flash.fault_model flips event (map slot_state before)
+      → (x : SlotState flash.FaultState) × (e : PageEvent) × (slice_get (map slot_state now) k ≡ Some x) × (stage_event x.stage ≡ Some e) × (k < length before)
       × (k < length now)
   event_there flips event before now k some made =
-      let e = some_of (option_and_then (λ (c : KeptChip flash.FaultState). stage_event c.stage) (slice_get (map kept_slot before) k)) some in
-      let x = and_then_some (λ (c : KeptChip flash.FaultState). stage_event c.stage) (slice_get (map kept_slot before) k) e.0 e.1 in
-      let flipped = flipped_at flash.fault_model flips event (map kept_slot before) k x.0 x.1 in
-      let there : slice_get (map kept_slot now) k ≡ Some flipped.0 = ap (λ cs. slice_get cs k) made ∙ flipped.1 in
-      let within = slice_get_within (map kept_slot before) k x.0 x.1 in
-      let within_now = slice_get_within (map kept_slot now) k flipped.0 there in (
+      let e = some_of (option_and_then (λ (c : SlotState flash.FaultState). stage_event c.stage) (slice_get (map slot_state before) k)) some in
+      let x = and_then_some (λ (c : SlotState flash.FaultState). stage_event c.stage) (slice_get (map slot_state before) k) e.0 e.1 in
+      let flipped = flipped_at flash.fault_model flips event (map slot_state before) k x.0 x.1 in
+      let there : slice_get (map slot_state now) k ≡ Some flipped.0 = ap (λ cs. slice_get cs k) made ∙ flipped.1 in
+      let within = slice_get_within (map slot_state before) k x.0 x.1 in
+      let within_now = slice_get_within (map slot_state now) k flipped.0 there in (
         flipped.0,
         e.0,
         there,
         ap stage_event flipped.2.stage ∙ x.2,
-        omega (arith, within, mapped_length kept_slot before),
-        omega (arith, within_now, mapped_length kept_slot now),
+        omega (arith, within, mapped_length slot_state before),
+        omega (arith, within_now, mapped_length slot_state now),
       )

@@ -14,7 +14,7 @@ use Rattle.command_model.specs.Boot.{Boot, change_at}
 use Rattle.run_model.specs.Course.{Course, with_flip, with_flips_before, session_run, pending_chip, unattached, is_idle, with_answer, finish, event_or_answer, chip_step, began, begin_on, begin_at, begin_step, session_step, turn_unless, turn_step}
 use Rattle.command_model.specs.Session.{next_op}
 use Rattle.run_laws.proofs.Places.{position_none}
-use Rattle.ctl_core.specs.Flips.{due_flips}
+use Rattle.nand_model.specs.Flips.{due_flips}
 use Rattle.ctl_core.proofs.Positions.{nowhere}
 use Rattle.ctl_core.proofs.Places.{changed_at}
 use Rattle.ctl_core.proofs.CourseSteps.{event_is}

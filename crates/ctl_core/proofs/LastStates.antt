@@ -22,13 +22,15 @@ use Rattle.command_model.specs.Session.{SessionRun, is_finished, next_op_of}
 use Rattle.run_model.specs.Course.{end_states, is_over}
 use Rattle.session_steps.specs.declared.session.Session.{Session}
 use Rattle.session_steps.specs.Standing.{standing, end_of}
+use Rattle.chip_paths.proofs.Tables.{one_table}
 use Rattle.chip_paths.specs.Stage.{stage_by, stage_statistics, stage_table}
-use Rattle.ctl_core.specs.declared.bench.Bench.{Bench}
-use Rattle.ctl_core.specs.KeptChip.{KeptChip, kept_as, all_kept}
+use Rattle.ctl_core.specs.declared.board.Board.{Board}
+use Rattle.ctl_core.specs.SlotState.{SlotState, slot_as, slots_as}
 use Rattle.ctl_core.specs.Past.{Past, starts_of, sizes_in, course_of}
 use Rattle.run_model.specs.Start.{IsOnChip}
-use Rattle.ctl_core.specs.Ended.{end_of_run, statistics_known, statistics_on, statistics_at, device_numbers, device_statistics, all_bad_blocks, kept_state, kept_statistics_on, kept_statistics_at, kept_statistics, kept_bad_blocks}
-use Rattle.ctl_core.specs.Bench.{kept_chips, IsOnCourse}
+use Rattle.ctl_core.specs.Ended.{end_of_run, all_bad_blocks, slot_flash, slot_statistics_on, slot_statistics_at, slot_statistics, slot_bad_blocks}
+use Rattle.run_model.specs.Statistics.{statistics_known, statistics_on, statistics_at, device_numbers, device_statistics}
+use Rattle.ctl_core.specs.Board.{slot_states, IsOnCourse}
 use Rattle.ctl_core.proofs.Places.{item_at}
 use Rattle.ctl_core.proofs.Sessions.{one_number_each}
 use Rattle.ctl_core.proofs.Devices.{all_at, chip_stays}
@@ -74,7 +76,7 @@ same_sums f g h (x ∷ xs) same =
 pub few_blocks_of : (g : Geometry) → g.blocks ≤ 4096
 few_blocks_of g = (bounds_of g.page g.spare g.pages_per_block g.blocks g.t g.bbt g.threshold g.in_bounds).blocks_high
 
-states_kept : {W : Type 0} (partitions : Partitions) (chips : List (ChipRun W)) → map kept_state (all_kept partitions chips) ≡ map (λ c. c.chip) chips
+states_kept : {W : Type 0} (partitions : Partitions) (chips : List (ChipRun W)) → map slot_flash (slots_as partitions chips) ≡ map (λ c. c.chip) chips
 states_kept partitions [] = refl
 states_kept partitions (c ∷ chips) = ap (λ zs. c.chip ∷ zs) (states_kept partitions chips)
 
@@ -85,18 +87,13 @@ statistics_by partitions c (Some known) None dev = refl
 statistics_by partitions c (Some known) (Some pending) dev = refl
 
 statistics_kept : {W : Type 0} (partitions : Partitions) (chips : List (ChipRun W)) (k dev : ℕ)
-    → kept_statistics_on (slice_get (all_kept partitions chips) k) dev ≡ statistics_on (slice_get chips k) dev
-statistics_kept {W} partitions chips k dev = ap (λ (o : Option (KeptChip W)). kept_statistics_on o dev) (slice_get-map (kept_as partitions) chips k)
+    → slot_statistics_on (slice_get (slots_as partitions chips) k) dev ≡ statistics_on (slice_get chips k) dev
+statistics_kept {W} partitions chips k dev = ap (λ (o : Option (SlotState W)). slot_statistics_on o dev) (slice_get-map (slot_as partitions) chips k)
     ∙ by_place (slice_get chips k)
   where
-    by_place : (o : Option (ChipRun W)) → kept_statistics_on (option_map (kept_as partitions) o) dev ≡ statistics_on o dev
+    by_place : (o : Option (ChipRun W)) → slot_statistics_on (option_map (slot_as partitions) o) dev ≡ statistics_on o dev
     by_place None = refl
     by_place (Some c) = statistics_by partitions c c.known c.pending dev
-
-bad_by : {W : Type 0} (partitions : Partitions) (c : ChipRun W) (known : Option Known) → is_some known ≡ true
-    → bad_blocks_in (stage_table (stage_by partitions c known None)) ≡ bad_blocks partitions (record c { known = known; pending = None })
-bad_by partitions c None h = cc
-bad_by partitions c (Some known) h = refl
 
 over_parts : (dark known done : Bool) → dark ≡ false → (dark || (known && done)) ≡ true → (known ≡ true) × (done ≡ true)
 over_parts true known done d h = cc
@@ -113,48 +110,48 @@ found_passes test is_it (y ∷ ys) x h g = by_test (is_it y) g (found_passes tes
     by_test true e later = let same : y ≡ x = cc in ap test (sym same) ∙ (and_parts _ _ h).0
     by_test false e later = later e
 
-module _ {F C : Type 0} {flash : Ghosts F} (past : Past F) (bench : Bench F C flash) (on : IsOnCourse past bench) where
+module _ {F C : Type 0} {flash : Ghosts F} (past : Past F) (board : Board F C flash) (on : IsOnCourse past board) where
   -- the parts lie on chips that are there
-  pub parts_there : All (λ (part : Part). part.chip < length bench.slots.items) past.boot.partitions.parts
+  pub parts_there : All (λ (part : Part). part.chip < length board.slots.items) past.boot.partitions.parts
   parts_there k d h =
       let part : Part = get_or past.boot.partitions.parts k d in
       let chip = all_at (IsOnChip (starts_of flash.state past)) past.boot.partitions.parts k part on.conditions.parts
       (slice_get-get_or past.boot.partitions.parts k d h) in
-      let stays = chip_stays flash.fault_model past.boot (starts_of flash.state past) (course_of flash.fault_model flash.state past) (holds past bench on)
+      let stays = chip_stays flash.fault_model past.boot (starts_of flash.state past) (course_of flash.fault_model flash.state past) (holds past board on)
       part.chip chip.0 chip.1 in
-      (slot_there past bench on part.chip stays.0 stays.1).1
+      (slot_there past board on part.chip stays.0 stays.1).1
 
-  pub last_states : map kept_state (kept_chips bench) ≡ end_states (course_of flash.fault_model flash.state past)
-  last_states = ap (map kept_state) on.stands.keeps.of_chips ∙ states_kept past.boot.partitions (course_of flash.fault_model flash.state past).chips
+  pub last_states : map slot_flash (slot_states board) ≡ end_states (course_of flash.fault_model flash.state past)
+  last_states = ap (map slot_flash) on.stands.keeps.of_chips ∙ states_kept past.boot.partitions (course_of flash.fault_model flash.state past).chips
 
-  pub last_outcomes : map (λ (s : Session). end_of false (standing bench.notes.notes s)) bench.sessions.items
+  pub last_outcomes : map (λ (s : Session). end_of false (standing board.notes.notes s)) board.sessions.items
       ≡ map end_of_run (course_of flash.fault_model flash.state past).sessions
-  last_outcomes = same_mapped (λ (s : Session). end_of false (standing bench.notes.notes s)) end_of_run bench.sessions.items
+  last_outcomes = same_mapped (λ (s : Session). end_of false (standing board.notes.notes s)) end_of_run board.sessions.items
       (course_of flash.fault_model flash.state past).sessions
       (on.stands.mirrors.many ∙ sym on.stands.mirrors.runs_many) same_end
     where
-      same_end : (i : ℕ) (s : Session) (run : SessionRun) → slice_get bench.sessions.items i ≡ Some s
+      same_end : (i : ℕ) (s : Session) (run : SessionRun) → slice_get board.sessions.items i ≡ Some s
           → slice_get (course_of flash.fault_model flash.state past).sessions i ≡ Some run
-          → end_of false (standing bench.notes.notes s) ≡ end_of_run run
+          → end_of false (standing board.notes.notes s) ≡ end_of_run run
       same_end i s run at there =
-          let within = slice_get_within bench.sessions.items i s at in
+          let within = slice_get_within board.sessions.items i s at in
           let b = item_at past.boot.sessions i (omega (arith, within, on.stands.mirrors.many)) in
           let m = (on.stands.mirrors.each i b.0 s run b.1 at there).1 in
           λ d. record { session = sym m.shows.number d; cut = false; outcomes = sym m.shows.outcomes d }
 
-  pub last_statistics : kept_statistics past.boot.partitions (kept_chips bench) (device_numbers past.boot.partitions)
+  pub last_statistics : slot_statistics past.boot.partitions (slot_states board) (device_numbers past.boot.partitions)
       ≡ device_statistics past.boot.partitions (course_of flash.fault_model flash.state past)
   last_statistics =
-      ap (λ cs. kept_statistics past.boot.partitions cs (device_numbers past.boot.partitions)) on.stands.keeps.of_chips
+      ap (λ cs. slot_statistics past.boot.partitions cs (device_numbers past.boot.partitions)) on.stands.keeps.of_chips
       ∙ same_mapped (λ dev. (
         dev,
-        kept_statistics_at (all_kept past.boot.partitions (course_of flash.fault_model flash.state past).chips)
+        slot_statistics_at (slots_as past.boot.partitions (course_of flash.fault_model flash.state past).chips)
             (chip_of past.boot.partitions dev) dev,
       ))
       (λ dev. (dev, statistics_at (course_of flash.fault_model flash.state past) (chip_of past.boot.partitions dev) dev))
       (device_numbers past.boot.partitions) (device_numbers past.boot.partitions) refl same_device
     where
-      by_chip : (o : Option ℕ) (dev : ℕ) → kept_statistics_at (all_kept past.boot.partitions (course_of flash.fault_model flash.state past).chips) o dev
+      by_chip : (o : Option ℕ) (dev : ℕ) → slot_statistics_at (slots_as past.boot.partitions (course_of flash.fault_model flash.state past).chips) o dev
           ≡ statistics_at (course_of flash.fault_model flash.state past) o dev
       by_chip None dev = refl
       by_chip (Some k) dev = statistics_kept past.boot.partitions (course_of flash.fault_model flash.state past).chips k dev
@@ -162,7 +159,7 @@ module _ {F C : Type 0} {flash : Ghosts F} (past : Past F) (bench : Bench F C fl
       same_device : (i : ℕ) (x y : ℕ) → slice_get (device_numbers past.boot.partitions) i ≡ Some x → slice_get (device_numbers past.boot.partitions) i ≡ Some y
           → ◌≡◌ {A = ℕ × Stats} (
             x,
-            kept_statistics_at (all_kept past.boot.partitions (course_of flash.fault_model flash.state past).chips)
+            slot_statistics_at (slots_as past.boot.partitions (course_of flash.fault_model flash.state past).chips)
                 (chip_of past.boot.partitions x) x,
           )
           (y, statistics_at (course_of flash.fault_model flash.state past) (chip_of past.boot.partitions y) y)
@@ -196,22 +193,19 @@ module _ {F C : Type 0} {flash : Ghosts F} (past : Past F) (bench : Bench F C fl
       by_pending done None h = h
       by_pending done (Some pending) h =
           let n = pending_is_next flash.fault_model past.boot (starts_of flash.state past) (course_of flash.fault_model flash.state past) on.stands.keeps.lit
-          (holds past bench on)
+          (holds past board on)
           (one_number_each past.boot.sessions on.conditions.ascending) k pending.session c pending at h refl in
           absurd (no_op n.0.replies pending.op n.0.commands
           (found_passes (λ (s : SessionRun). is_finished s.commands) (λ (s : SessionRun). s.number == pending.session)
           (course_of flash.fault_model flash.state past).sessions n.0 done n.1) n.2)
 
-  pub last_bad : is_over (course_of flash.fault_model flash.state past) ≡ true → sum_by kept_bad_blocks (kept_chips bench)
+  pub last_bad : is_over (course_of flash.fault_model flash.state past) ≡ true → sum_by slot_bad_blocks (slot_states board)
       ≡ all_bad_blocks past.boot.partitions (course_of flash.fault_model flash.state past)
   last_bad over =
-      ap (sum_by kept_bad_blocks) on.stands.keeps.of_chips
-      ∙ same_sums (kept_as past.boot.partitions) kept_bad_blocks (λ (c : ChipRun flash.FaultState). bad_blocks past.boot.partitions c)
+      ap (sum_by slot_bad_blocks) on.stands.keeps.of_chips
+      ∙ same_sums (slot_as past.boot.partitions) slot_bad_blocks (λ (c : ChipRun flash.FaultState). bad_blocks past.boot.partitions c)
       (course_of flash.fault_model flash.state past).chips same_bad
     where
       same_bad : (i : ℕ) (c : ChipRun flash.FaultState) → slice_get (course_of flash.fault_model flash.state past).chips i ≡ Some c
-          → kept_bad_blocks (kept_as past.boot.partitions c) ≡ bad_blocks past.boot.partitions c
-      same_bad i c at =
-          let n = none_pending over i c at in
-          ap (λ p. bad_blocks_in (stage_table (stage_by past.boot.partitions c c.known p))) n.1 ∙ bad_by past.boot.partitions c c.known n.0
-          ∙ ap (λ p. bad_blocks past.boot.partitions (record c { pending = p })) (sym n.1)
+          → slot_bad_blocks (slot_as past.boot.partitions c) ≡ bad_blocks past.boot.partitions c
+      same_bad i c at = ap bad_blocks_in (one_table past.boot.partitions c c.known c.pending)

@@ -10,7 +10,7 @@ pub mod FlipSteps
 pub mod Slots
 pub mod Devices
 pub mod OnCourse
-pub mod BenchSteps
+pub mod BoardSteps
 pub mod Known
 pub mod PastSteps
 pub mod Limits

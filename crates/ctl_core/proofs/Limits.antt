@@ -19,19 +19,18 @@ use Rattle.run_laws.specs.Turns.{busy_turns}
 use Rattle.run_laws.proofs.Courses.{EndOf, by_log, Holds, place_start}
 use Rattle.run_laws.proofs.Faithful.{log_of}
 use Rattle.run_laws.proofs.Places.{position_is, position_none}
-use Rattle.run_model.specs.Start.{boot_cost}
 use Rattle.turn_laws.specs.Laws.{blocks_of}
 use Rattle.turn_laws.proofs.Bounds.{busy_few, events_few}
 use Rattle.turn_laws.proofs.Attaches.{attaches_few}
 use Rattle.session_steps.specs.declared.session.Session.{Session}
 use Rattle.session_steps.specs.Standing.{number_of}
 use Rattle.chip_paths.specs.Stage.{is_working, stage_by}
-use Rattle.ctl_core.specs.declared.bench.Bench.{Bench}
-use Rattle.ctl_core.specs.declared.bench.Slot.{Slot}
-use Rattle.ctl_core.specs.KeptChip.{KeptChip, kept_as, holder_by, first_attaching, first_held_by, is_held_by}
-use Rattle.ctl_core.specs.Past.{Past, starts_of, course_of}
+use Rattle.ctl_core.specs.declared.board.Board.{Board}
+use Rattle.ctl_core.specs.declared.board.Slot.{Slot}
+use Rattle.ctl_core.specs.SlotState.{SlotState, slot_as, holder_by, first_attaching, first_held_by, is_held_by}
+use Rattle.ctl_core.specs.Past.{turn_limit, Past, starts_of, course_of}
 use Rattle.ctl_core.specs.Start.{HasSession}
-use Rattle.ctl_core.specs.Bench.{kept_slot, kept_chips, IsOnCourse, IsAtTurn}
+use Rattle.ctl_core.specs.Board.{slot_state, slot_states, IsOnCourse, IsAtTurn}
 use Rattle.ctl_core.proofs.Places.{item_at}
 use Rattle.ctl_core.proofs.Positions.{mapped_length, position_kept}
 use Rattle.ctl_core.proofs.Sessions.{one_number_each}
@@ -72,25 +71,24 @@ working_by partitions c None p by h = cc
 working_by partitions c (Some known) None by h = cc
 working_by partitions c (Some known) (Some pending) by h = refl
 
-module _ {F C : Type 0} {flash : Ghosts F} (past : Past F) (bench : Bench F C flash) (on : IsOnCourse past bench) where
-  pub few_slots : length bench.slots.items ≤ 8
+module _ {F C : Type 0} {flash : Ghosts F} (past : Past F) (board : Board F C flash) (on : IsOnCourse past board) where
+  pub few_slots : length board.slots.items ≤ 8
   few_slots =
-      let kept : length (kept_chips bench) ≡ length (course_of flash.fault_model flash.state past).chips = ap length on.stands.keeps.of_chips
-      ∙ mapped_length (kept_as past.boot.partitions) (course_of flash.fault_model flash.state past).chips in
-      let all : length (kept_chips bench) ≡ length bench.slots.items = mapped_length kept_slot bench.slots.items in
-      let chips = no_more_chips flash.fault_model past.boot (starts_of flash.state past) (course_of flash.fault_model flash.state past) (holds past bench on) in
+      let kept : length (slot_states board) ≡ length (course_of flash.fault_model flash.state past).chips = ap length on.stands.keeps.of_chips
+      ∙ mapped_length (slot_as past.boot.partitions) (course_of flash.fault_model flash.state past).chips in
+      let all : length (slot_states board) ≡ length board.slots.items = mapped_length slot_state board.slots.items in
+      let chips = no_more_chips flash.fault_model past.boot (starts_of flash.state past) (course_of flash.fault_model flash.state past) (holds past board on) in
       omega (arith, kept, all, chips, on.conditions.few)
 
   -- the turns of the list
-  pub few_turns : length past.turns ≤ 8 * boot_cost past.boot (starts_of flash.state past) + 7 * length past.started
+  pub few_turns : length past.turns ≤ turn_limit flash.state past
   few_turns =
       let busy = busy_few flash.fault_model past.boot (starts_of flash.state past) past.attaches past.turns on.conditions.runnable
       (one_number_each past.boot.sessions on.conditions.ascending) in
       let same : length (busy_turns flash.fault_model past.boot (starts_of flash.state past) past.turns
       (course_after flash.fault_model past.boot (starts_of flash.state past) past.attaches [])) ≡ length past.turns =
       ap length on.all_busy in
-      let starts : length (starts_of flash.state past) ≡ length past.started = mapped_length flash.state past.started in
-      omega (arith, busy, same, starts)
+      omega (arith, busy, same)
 
   -- the attach steps
   pub few_attaches : past.attaches ≤ blocks_of (starts_of flash.state past)
@@ -101,19 +99,17 @@ module _ {F C : Type 0} {flash : Ghosts F} (past : Past F) (bench : Bench F C fl
   few_blocks = let blocks = blocks_few (starts_of flash.state past) in omega (arith, blocks, on.conditions.few)
 
   -- the events
-  pub few_events : bench.events < 2 ^ 32 - 1
+  pub few_events : board.events < 2 ^ 32 - 1
   few_events =
       let events = events_few flash.fault_model past.boot (starts_of flash.state past) past.turns
       (course_after flash.fault_model past.boot (starts_of flash.state past) past.attaches []) in
       let same : length (busy_turns flash.fault_model past.boot (starts_of flash.state past) past.turns
       (course_after flash.fault_model past.boot (starts_of flash.state past) past.attaches [])) ≡ length past.turns =
       ap length on.all_busy in
-      let starts : length (starts_of flash.state past) ≡ length past.started = mapped_length flash.state past.started in
       omega (
         arith,
         events,
         same,
-        starts,
         on.attach_events,
         few_attaches,
         few_blocks,
@@ -123,28 +119,28 @@ module _ {F C : Type 0} {flash : Ghosts F} (past : Past F) (bench : Bench F C fl
         on.stands.keeps.of_events,
       )
 
-  pub attached_there : unattached (course_of flash.fault_model flash.state past) ≡ first_attaching (kept_chips bench)
+  pub attached_there : unattached (course_of flash.fault_model flash.state past) ≡ first_attaching (slot_states board)
   attached_there = unattached_there flash.fault_model past.boot on.conditions.uncut (starts_of flash.state past)
-      (course_of flash.fault_model flash.state past) (kept_chips bench) bench.events bench.notes.notes bench.sessions.items on.stands
+      (course_of flash.fault_model flash.state past) (slot_states board) board.events board.notes.notes board.sessions.items on.stands
 
   -- a session of the boot is found
-  pub place_there : (session : ℕ) → HasSession past.boot session → position (λ (s : Session). number_of s == session) bench.sessions.items ≡ None → ⊥
+  pub place_there : (session : ℕ) → HasSession past.boot session → position (λ (s : Session). number_of s == session) board.sessions.items ≡ None → ⊥
   place_there session has none =
       let b = mapped_some (λ (x : ℕ × List Command). x.0) (slice_get past.boot.sessions has.0) session has.1 in
       let within = slice_get_within past.boot.sessions has.0 b.0 b.1 in
-      let s = item_at bench.sessions.items has.0 (omega (arith, within, on.stands.mirrors.many)) in
+      let s = item_at board.sessions.items has.0 (omega (arith, within, on.stands.mirrors.many)) in
       let r = item_at (course_of flash.fault_model flash.state past).sessions has.0 (omega (arith, within, on.stands.mirrors.runs_many)) in
       let each = on.stands.mirrors.each has.0 b.0 s.0 r.0 b.1 s.1 r.1 in
       let yes : (number_of s.0 == session) ≡ true = eq-eqb _ _ (each.0 ∙ b.2) in
-      let no : (number_of s.0 == session) ≡ false = position_none (λ (x : Session). number_of x == session) bench.sessions.items none has.0 s.0 s.1 in
+      let no : (number_of s.0 == session) ≡ false = position_none (λ (x : Session). number_of x == session) board.sessions.items none has.0 s.0 s.1 in
       cc (yes, no)
 
   pub at_turn : (session place : ℕ) → unattached (course_of flash.fault_model flash.state past) ≡ None
-      → position (λ (s : Session). number_of s == session) bench.sessions.items ≡ Some place → (place < length bench.sessions.items)
-      × IsAtTurn past session place bench
+      → position (λ (s : Session). number_of s == session) board.sessions.items ≡ Some place → (place < length board.sessions.items)
+      × IsAtTurn past session place board
   at_turn session place attached here =
-      let s = position_is (λ (x : Session). number_of x == session) bench.sessions.items place here in (
-        slice_get_within bench.sessions.items place s.0 s.1,
+      let s = position_is (λ (x : Session). number_of x == session) board.sessions.items place here in (
+        slice_get_within board.sessions.items place s.0 s.1,
         record {
           on_course = on;
           attached = sym attached_there ∙ attached;
@@ -153,28 +149,28 @@ module _ {F C : Type 0} {flash : Ghosts F} (past : Past F) (bench : Bench F C fl
       )
 
   -- the chip that a session holds is at work
-  pub held_works : (session k : ℕ) → first_held_by session (kept_chips bench) ≡ Some k
-      → option_map (λ (c : KeptChip flash.FaultState). is_working c.stage) (slice_get (kept_chips bench) k) ≡ Some true
+  pub held_works : (session k : ℕ) → first_held_by session (slot_states board) ≡ Some k
+      → option_map (λ (c : SlotState flash.FaultState). is_working c.stage) (slice_get (slot_states board) k) ≡ Some true
   held_works session k h =
-      let x = position_is (λ (y : KeptChip flash.FaultState). is_held_by session y.holder) (kept_chips bench) k h in
+      let x = position_is (λ (y : SlotState flash.FaultState). is_held_by session y.holder) (slot_states board) k h in
       let holder = found_held flash.fault_model past.boot on.conditions.uncut (starts_of flash.state past) (course_of flash.fault_model flash.state past)
-      (kept_chips bench) bench.events bench.notes.notes bench.sessions.items on.stands
-      on.conditions.ascending (holds past bench on) session k x.0 h x.1 in
+      (slot_states board) board.events board.notes.notes board.sessions.items on.stands
+      on.conditions.ascending (holds past board on) session k x.0 h x.1 in
       let c = chip_there flash.fault_model past.boot on.conditions.uncut (starts_of flash.state past) (course_of flash.fault_model flash.state past)
-      (kept_chips bench) bench.events bench.notes.notes bench.sessions.items on.stands k x.0 x.1 in
-      ap (option_map (λ (y : KeptChip flash.FaultState). is_working y.stage)) x.1
-      ∙ ap Some (ap (λ (y : KeptChip flash.FaultState). is_working y.stage) (sym c.2)
-      ∙ working_by past.boot.partitions c.0 c.0.known c.0.pending session (ap (λ (y : KeptChip flash.FaultState). y.holder) c.2 ∙ holder))
+      (slot_states board) board.events board.notes.notes board.sessions.items on.stands k x.0 x.1 in
+      ap (option_map (λ (y : SlotState flash.FaultState). is_working y.stage)) x.1
+      ∙ ap Some (ap (λ (y : SlotState flash.FaultState). is_working y.stage) (sym c.2)
+      ∙ working_by past.boot.partitions c.0 c.0.known c.0.pending session (ap (λ (y : SlotState flash.FaultState). y.holder) c.2 ∙ holder))
 
   -- in its slot
-  pub held_slot : (session k : ℕ) (slot : Slot F C flash) → first_held_by session (kept_chips bench) ≡ Some k → slot ≡ get_or bench.slots.items k slot
-      → (x : KeptChip flash.FaultState) × (slice_get (kept_chips bench) k ≡ Some x) × (kept_slot slot ≡ x) × (is_working x.stage ≡ true)
+  pub held_slot : (session k : ℕ) (slot : Slot F C flash) → first_held_by session (slot_states board) ≡ Some k → slot ≡ get_or board.slots.items k slot
+      → (x : SlotState flash.FaultState) × (slice_get (slot_states board) k ≡ Some x) × (slot_state slot ≡ x) × (is_working x.stage ≡ true)
   held_slot session k slot h is =
-      let x = mapped_some (λ (y : KeptChip flash.FaultState). is_working y.stage) (slice_get (kept_chips bench) k) true (held_works session k h) in
-      let here = kept_at kept_slot bench.slots.items k slot x.0 is x.1 in
+      let x = mapped_some (λ (y : SlotState flash.FaultState). is_working y.stage) (slice_get (slot_states board) k) true (held_works session k h) in
+      let here = kept_at slot_state board.slots.items k slot x.0 is x.1 in
       (x.0, x.1, here.1, x.2)
 
 -- a search in the slots is one in what is kept of them
-pub held_in_slots : {F C : Type 0} {flash : Ghosts F} (bench : Bench F C flash) (session : ℕ)
-    → position (λ slot. is_held_by session slot.holder) bench.slots.items ≡ first_held_by session (kept_chips bench)
-held_in_slots bench session = position_kept _ _ kept_slot bench.slots.items (λ k slot h. refl)
+pub held_in_slots : {F C : Type 0} {flash : Ghosts F} (board : Board F C flash) (session : ℕ)
+    → position (λ slot. is_held_by session slot.holder) board.slots.items ≡ first_held_by session (slot_states board)
+held_in_slots board session = position_kept _ _ slot_state board.slots.items (λ k slot h. refl)

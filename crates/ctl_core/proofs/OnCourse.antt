@@ -1,4 +1,4 @@
--- What a bench that stands on its course knows, and what a step makes of it.
+-- What a board that stands on its course knows, and what a step makes of it.
 use Rattle.std.proofs.Common.{◌≡◌, ◌<◌, ◌+◌, arith, ℕ, zero, suc, true, false, List, [], ◌∷◌, ◌++◌, length, Option, Some, None, Result, Ok, Err, OnErr, Bor, refl, ap, sym, ◌∙◌, subst, get_or}
 use Rattle.std.specs.Prelude.{slice_get, option_copied, All, map, option_map, option_and_then, IsSome, is_none}
 use Rattle.std.proofs.Math.ListN.{set}
@@ -12,10 +12,9 @@ use Rattle.nand_model.specs.declared.words.Flip.{Flip}
 use Rattle.nand_model.specs.declared.words.Reply.{Reply}
 use Rattle.nand_model.specs.Chip.{PageEvent}
 use Rattle.nand_model.specs.Path.{Path, Over, Then, first_event, result_of}
-use Rattle.nand_model.specs.Partitions.{Partitions, part_of, device_of, chip_of, chip_of_part}
+use Rattle.nand_model.specs.Partitions.{Partitions, part_of, device_of, chip_of, chip_of_part, command_device}
 use Rattle.chip_paths.specs.Operation.{Finished}
 use Rattle.chip_paths.specs.ChipRun.{ChipRun, Pending}
-use Rattle.command_model.specs.Command.{command_device}
 use Rattle.run_model.specs.Course.{Course, session_run, pending_chip, can_begin, is_free_at, is_free, is_idle}
 use Rattle.command_model.specs.Session.{SessionRun, next_op, next_op_of, is_finished}
 use Rattle.command_model.specs.Boot.{change_at}
@@ -31,13 +30,13 @@ use Rattle.command_model.specs.Taken.{IsTaken}
 use Rattle.chip_paths.specs.Stage.{Stage, Attaches, Rests, Works, failure_told, stage_event, finished_in, is_working, is_resting, stage_by}
 use Rattle.chip_core.specs.Chip.{chip_stage}
 use Rattle.ctl_core.specs.declared.turn.Turn.TheVariants.{Did, Held, Done}
-use Rattle.ctl_core.specs.declared.bench.Bench.{Bench}
-use Rattle.ctl_core.specs.declared.bench.Slot.{Slot}
-use Rattle.ctl_core.specs.KeptChip.{KeptChip, kept_as, first_attaching, first_held_by, is_held_by, after_event, with_news_told, failure_notes, news_notes}
+use Rattle.ctl_core.specs.declared.board.Board.{Board}
+use Rattle.ctl_core.specs.declared.board.Slot.{Slot}
+use Rattle.ctl_core.specs.SlotState.{SlotState, slot_as, first_attaching, first_held_by, is_held_by, after_event, with_note_written, failure_notes, pending_notes}
 use Rattle.ctl_core.specs.Past.{Past, starts_of, sizes_in, course_of, next_course, is_done, has_no_command, session_of, session_on, session_at}
 use Rattle.ctl_core.specs.Answer.{next_chip, held_unless_pending, held_by, held_or_did, done_or, turn_answer}
-use Rattle.ctl_core.specs.Bench.{kept_slot, kept_chips, StandsAt, StandsAlike, IsOnCourse, IsAtTurn, DidEvent}
-use Rattle.ctl_core.specs.Flips.{CanFlip, kept_flips_before}
+use Rattle.ctl_core.specs.Board.{slot_state, slot_states, StandsAt, StandsAlike, IsOnCourse, IsAtTurn, DidEvent}
+use Rattle.ctl_core.specs.Flips.{CanFlip, slot_flips_before}
 use Rattle.ctl_core.proofs.Places.{item_at}
 use Rattle.ctl_core.proofs.Positions.{mapped_length, at_mapped}
 use Rattle.ctl_core.proofs.CourseSteps.{resting, holding, idle_else, turn_is_idle, busy_where_pending, busy_where_begins}
@@ -88,7 +87,7 @@ pub where_err : {T E : Type 0} (result : Result T E) (P : Type 0) → P → OnEr
 where_err (Ok x) P h = tt
 where_err (Err e) P h = h
 
--- a list of kept chips in which one chip stays as it is kept
+-- a list of chips in slots in which one chip stays as it is kept
 pub kept_same : {A B : Type 0} (f : A → B) (xs : List A) (k : ℕ) (x new : A) → slice_get xs k ≡ Some x → f new ≡ f x → map f (set xs k new) ≡ map f xs
 kept_same f [] k x new h e = refl
 kept_same f (y ∷ ys) zero x new h e = let same : y ≡ x = cc in ap (λ z. z ∷ map f ys) (e ∙ ap f (sym same))
@@ -102,82 +101,82 @@ over_or_event (Then event rest) h = cc
 pub works_on : (stage : Stage) → is_working stage ≡ true → stage_event stage ≡ None → (finished : Finished) × (finished_in stage ≡ Some finished)
 works_on (Attaches left quiet) h i = cc
 works_on (Rests known) h i = cc
-works_on (Works known left) h i = over_or_event left i
+works_on (Works known progress left) h i = over_or_event left i
 
-module _ {F C : Type 0} {flash : Ghosts F} (past : Past F) (bench : Bench F C flash) (on : IsOnCourse past bench) where
+module _ {F C : Type 0} {flash : Ghosts F} (past : Past F) (board : Board F C flash) (on : IsOnCourse past board) where
   pub holds : Holds flash.fault_model past.boot (starts_of flash.state past) (course_of flash.fault_model flash.state past)
   holds = course_holds flash.fault_model past.boot (starts_of flash.state past) past.attaches past.turns
 
   -- a chip of the course is in a slot
   pub slot_there : (k : ℕ) (c : ChipRun flash.FaultState) → slice_get (course_of flash.fault_model flash.state past).chips k ≡ Some c
-      → (slice_get (kept_chips bench) k ≡ Some (kept_as past.boot.partitions c)) × (k < length bench.slots.items)
+      → (slice_get (slot_states board) k ≡ Some (slot_as past.boot.partitions c)) × (k < length board.slots.items)
   slot_there k c h =
-      let there : slice_get (kept_chips bench) k ≡ Some (kept_as past.boot.partitions c) =
-      ap (λ xs. slice_get xs k) on.stands.keeps.of_chips ∙ at_mapped (kept_as past.boot.partitions) (course_of flash.fault_model flash.state past).chips k c h
+      let there : slice_get (slot_states board) k ≡ Some (slot_as past.boot.partitions c) =
+      ap (λ xs. slice_get xs k) on.stands.keeps.of_chips ∙ at_mapped (slot_as past.boot.partitions) (course_of flash.fault_model flash.state past).chips k c h
       in (
         there,
-        (let within : k < length (kept_chips bench) = slice_get_within (kept_chips bench) k (kept_as past.boot.partitions c) there in omega
-            (arith, mapped_length kept_slot bench.slots.items)),
+        (let within : k < length (slot_states board) = slice_get_within (slot_states board) k (slot_as past.boot.partitions c) there in omega
+            (arith, mapped_length slot_state board.slots.items)),
       )
 
   -- a flip of the boot is one of a chip in a slot
-  pub can_flip : All (CanFlip (kept_chips bench)) past.boot.flips
+  pub can_flip : All (CanFlip (slot_states board)) past.boot.flips
   can_flip k d h =
       let flip : Flip = get_or past.boot.flips k d in
       let start = on.conditions.flips k d h in
       let stays = chip_stays flash.fault_model past.boot (starts_of flash.state past) (course_of flash.fault_model flash.state past) holds flip.chip start.0
       start.1 in
       let there = slot_there flip.chip stays.0 stays.1 in
-      (kept_as past.boot.partitions stays.0, there.0, subst (λ g. FitsBits g flip.page flip.bits) (sym stays.2) start.2)
+      (slot_as past.boot.partitions stays.0, there.0, subst (λ g. FitsBits g flip.page flip.bits) (sym stays.2) start.2)
 
   -- a step that does an event
-  stands_event : (session k : ℕ) (x y : KeptChip flash.FaultState) (e : PageEvent) (new : Bench F C flash) → first_attaching (kept_chips bench) ≡ None
-      → first_held_by session (kept_chips bench) ≡ Some k → slice_get (kept_chips bench) k ≡ Some x → stage_event x.stage ≡ Some e
-      → slice_get (kept_flips_before flash.fault_model past.boot.flips (bench.events + 1) (kept_chips bench)) k ≡ Some y
-      → DidEvent past.boot.flips k y e bench new
+  stands_event : (session k : ℕ) (x y : SlotState flash.FaultState) (e : PageEvent) (new : Board F C flash) → first_attaching (slot_states board) ≡ None
+      → first_held_by session (slot_states board) ≡ Some k → slice_get (slot_states board) k ≡ Some x → stage_event x.stage ≡ Some e
+      → slice_get (slot_flips_before flash.fault_model past.boot.flips (board.events + 1) (slot_states board)) k ≡ Some y
+      → DidEvent past.boot.flips k y e board new
       → StandsAt past (next_course flash.fault_model flash.state past session) new
   stands_event session k x y e new attached held at has flipped did =
       follows_as past.boot (starts_of flash.state past) (next_course flash.fault_model flash.state past session)
-      (change_at (kept_flips_before flash.fault_model past.boot.flips (bench.events + 1) (kept_chips bench)) k
-      (λ z. with_news_told (after_event flash.fault_model e z))) (kept_chips new) (bench.events + 1) new.events
-      (bench.notes.notes ++ failure_notes k (bench.events + 1) e (failure_told flash.fault_model y.state e) ++ news_notes k
-      (after_event flash.fault_model e y).news) new.notes.notes
-      bench.sessions.items new.sessions.items did.chips did.events did.notes did.sessions
+      (change_at (slot_flips_before flash.fault_model past.boot.flips (board.events + 1) (slot_states board)) k
+      (λ z. with_note_written (after_event flash.fault_model e z))) (slot_states new) (board.events + 1) new.events
+      (board.notes.notes ++ failure_notes k (board.events + 1) e (failure_told flash.fault_model y.state e) ++ pending_notes k
+      (after_event flash.fault_model e y).pending_note) new.notes.notes
+      board.sessions.items new.sessions.items did.chips did.events did.notes did.sessions
       (follows_turn_event flash.fault_model past.boot on.conditions.uncut (starts_of flash.state past) (course_of flash.fault_model flash.state past)
-      (kept_chips bench) bench.events bench.notes.notes bench.sessions.items
+      (slot_states board) board.events board.notes.notes board.sessions.items
       on.stands session k x y e attached held at has flipped)
 
-  pub stands_now : (session k : ℕ) (x : KeptChip flash.FaultState) (e : PageEvent) (new : Bench F C flash) → first_attaching (kept_chips bench) ≡ None
-      → first_held_by session (kept_chips bench) ≡ Some k → slice_get (kept_chips bench) k ≡ Some x → stage_event x.stage ≡ Some e → (flips : List Flip)
+  pub stands_now : (session k : ℕ) (x : SlotState flash.FaultState) (e : PageEvent) (new : Board F C flash) → first_attaching (slot_states board) ≡ None
+      → first_held_by session (slot_states board) ≡ Some k → slice_get (slot_states board) k ≡ Some x → stage_event x.stage ≡ Some e → (flips : List Flip)
       → flips ≡ past.boot.flips
-      → ((y : KeptChip flash.FaultState) (e : PageEvent) → slice_get (kept_flips_before flash.fault_model flips (bench.events + 1) (kept_chips bench)) k
+      → ((y : SlotState flash.FaultState) (e : PageEvent) → slice_get (slot_flips_before flash.fault_model flips (board.events + 1) (slot_states board)) k
       ≡ Some y → stage_event y.stage ≡ Some e
-      → DidEvent flips k y e bench new)
+      → DidEvent flips k y e board new)
       → StandsAt past (next_course flash.fault_model flash.state past session) new
   stands_now session k x e new attached held at has flips same did =
-      let flipped = flipped_at flash.fault_model past.boot.flips (bench.events + 1) (kept_chips bench) k x at in
-      let now = subst (λ fs. (y : KeptChip flash.FaultState) (e : PageEvent) → slice_get
-      (kept_flips_before flash.fault_model fs (bench.events + 1) (kept_chips bench)) k ≡ Some y
-      → stage_event y.stage ≡ Some e → DidEvent fs k y e bench new) same did in
+      let flipped = flipped_at flash.fault_model past.boot.flips (board.events + 1) (slot_states board) k x at in
+      let now = subst (λ fs. (y : SlotState flash.FaultState) (e : PageEvent) → slice_get
+      (slot_flips_before flash.fault_model fs (board.events + 1) (slot_states board)) k ≡ Some y
+      → stage_event y.stage ≡ Some e → DidEvent fs k y e board new) same did in
       stands_event session k x flipped.0 e new attached held at has flipped.1 (now flipped.0 e flipped.1 (ap stage_event flipped.2.stage ∙ has))
 
-  -- a bench that differs in its room stands where it stood
-  pub stands_alike : (course : Course flash.FaultState) (new : Bench F C flash) → StandsAt past course bench → StandsAlike bench new → StandsAt past course new
+  -- a board that differs in its room stands where it stood
+  pub stands_alike : (course : Course flash.FaultState) (new : Board F C flash) → StandsAt past course board → StandsAlike board new → StandsAt past course new
   stands_alike course new stands alike =
-      follows_as past.boot (starts_of flash.state past) course (kept_chips bench) (kept_chips new) bench.events new.events bench.notes.notes new.notes.notes
-      bench.sessions.items new.sessions.items
+      follows_as past.boot (starts_of flash.state past) course (slot_states board) (slot_states new) board.events new.events board.notes.notes new.notes.notes
+      board.sessions.items new.sessions.items
       alike.chips alike.events alike.notes alike.sessions stands
 
   -- a session that holds a chip has commands left
-  pub held_not_done : (session k : ℕ) → first_held_by session (kept_chips bench) ≡ Some k → is_done (course_of flash.fault_model flash.state past) session
+  pub held_not_done : (session k : ℕ) → first_held_by session (slot_states board) ≡ Some k → is_done (course_of flash.fault_model flash.state past) session
       ≡ false
   held_not_done session k h =
-      let x = position_is (λ (y : KeptChip flash.FaultState). is_held_by session y.holder) (kept_chips bench) k h in
+      let x = position_is (λ (y : SlotState flash.FaultState). is_held_by session y.holder) (slot_states board) k h in
       let holder = found_held flash.fault_model past.boot on.conditions.uncut (starts_of flash.state past) (course_of flash.fault_model flash.state past)
-      (kept_chips bench) bench.events bench.notes.notes bench.sessions.items on.stands
+      (slot_states board) board.events board.notes.notes board.sessions.items on.stands
       on.conditions.ascending holds session k x.0 h x.1 in
       let n = held_next flash.fault_model past.boot on.conditions.uncut (starts_of flash.state past) (course_of flash.fault_model flash.state past)
-      (kept_chips bench) bench.events bench.notes.notes bench.sessions.items on.stands
+      (slot_states board) board.events board.notes.notes board.sessions.items on.stands
       on.conditions.ascending holds k session x.0 x.1 holder in
       ap has_no_command n.2 ∙ asks_on n.0.replies n.1 n.0.commands n.3
     where
@@ -185,23 +184,23 @@ module _ {F C : Type 0} {flash : Ghosts F} (past : Past F) (bench : Bench F C fl
       asks_on replies op [] e = cc
       asks_on replies op (command ∷ rest) e = refl
 
-module _ {F C : Type 0} {flash : Ghosts F} (past : Past F) (bench : Bench F C flash) (session place : ℕ) (turn : IsAtTurn past session place bench) where
+module _ {F C : Type 0} {flash : Ghosts F} (past : Past F) (board : Board F C flash) (session place : ℕ) (turn : IsAtTurn past session place board) where
   -- the session whose turn it is
-  pub own_session : (s : Session) → s ≡ get_or bench.sessions.items place s → (slice_get bench.sessions.items place ≡ Some s) × (number_of s ≡ session)
+  pub own_session : (s : Session) → s ≡ get_or board.sessions.items place s → (slice_get board.sessions.items place ≡ Some s) × (number_of s ≡ session)
   own_session s is =
-      let m = mapped_some number_of (slice_get bench.sessions.items place) session turn.own in
-      let at = lent_at bench.sessions.items place m.0 s m.1 is in
+      let m = mapped_some number_of (slice_get board.sessions.items place) session turn.own in
+      let at = lent_at board.sessions.items place m.0 s m.1 is in
       let same : m.0 ≡ s = cc (m.1, at) in
       (at, ap number_of (sym same) ∙ m.2)
 
-  module _ (s : Session) (at : slice_get bench.sessions.items place ≡ Some s) (number : number_of s ≡ session) where
-    pub own_place : Placed (sizes_in flash.state past) past.boot.sessions bench.notes.notes (course_of flash.fault_model flash.state past).sessions place s
-    own_place = placed (sizes_in flash.state past) past.boot.sessions bench.notes.notes bench.sessions.items
+  module _ (s : Session) (at : slice_get board.sessions.items place ≡ Some s) (number : number_of s ≡ session) where
+    pub own_place : Placed (sizes_in flash.state past) past.boot.sessions board.notes.notes (course_of flash.fault_model flash.state past).sessions place s
+    own_place = placed (sizes_in flash.state past) past.boot.sessions board.notes.notes board.sessions.items
         (course_of flash.fault_model flash.state past).sessions turn.on_course.stands.mirrors place s at
 
     pub run_found : session_run (course_of flash.fault_model flash.state past) session ≡ Some own_place.run
     run_found = ap (session_run (course_of flash.fault_model flash.state past)) (sym number)
-        ∙ found (sizes_in flash.state past) past.boot.sessions bench.notes.notes bench.sessions.items (course_of flash.fault_model flash.state past).sessions
+        ∙ found (sizes_in flash.state past) past.boot.sessions board.notes.notes board.sessions.items (course_of flash.fault_model flash.state past).sessions
         turn.on_course.stands.mirrors
         turn.on_course.conditions.ascending place s own_place.run at own_place.run_at
 
@@ -211,15 +210,15 @@ module _ {F C : Type 0} {flash : Ghosts F} (past : Past F) (bench : Bench F C fl
         own_place.begun_at in cc (own, h)
 
     pub run_left : (commands : List Command) → commands_at past.boot place ≡ Some commands → own_place.run.commands
-        ≡ commands_by commands (standing bench.notes.notes s)
-    run_left commands h = own_place.mirrors.shows.left ∙ ap (λ cs. commands_by cs (standing bench.notes.notes s)) (own_commands commands h)
+        ≡ commands_by commands (standing board.notes.notes s)
+    run_left commands h = own_place.mirrors.shows.left ∙ ap (λ cs. commands_by cs (standing board.notes.notes s)) (own_commands commands h)
 
     -- the first command that is not finished
     pub record FirstLeft (command : Command) : Type 0 where
       pub rest : List Command
       pub left : own_place.run.commands ≡ command ∷ rest
       pub is_ready : Ready flash.fault_model past.boot (starts_of flash.state past) (course_of flash.fault_model flash.state past)
-          (holds past bench turn.on_course) command
+          (holds past board turn.on_course) command
       pub op : Op
       pub next : next_op (sizes_in flash.state past) (session_run (course_of flash.fault_model flash.state past) session) ≡ Some op
       pub device : device_of op ≡ command_device command
@@ -229,13 +228,13 @@ module _ {F C : Type 0} {flash : Ghosts F} (past : Past F) (bench : Bench F C fl
     pub first_left : (command : Command) → slice_get own_place.run.commands 0 ≡ Some command → FirstLeft command
     first_left command h =
         let f = first_of_list own_place.run.commands command h in
-        let own_at : slice_get own_place.own.1 (length (outcomes_by (standing bench.notes.notes s))) ≡ Some command =
-        first_at (length (outcomes_by (standing bench.notes.notes s))) own_place.own.1 command f.0 (sym own_place.mirrors.shows.left ∙ f.1) in
+        let own_at : slice_get own_place.own.1 (length (outcomes_by (standing board.notes.notes s))) ≡ Some command =
+        first_at (length (outcomes_by (standing board.notes.notes s))) own_place.own.1 command f.0 (sym own_place.mirrors.shows.left ∙ f.1) in
         let r = ready flash.fault_model past.boot (starts_of flash.state past) (course_of flash.fault_model flash.state past)
-        (holds past bench turn.on_course) turn.on_course.conditions
-        place (length (outcomes_by (standing bench.notes.notes s))) own_place.own command own_place.begun_at own_at in
-        let o = next_of (sizes_in flash.state past) own_place.own.1 bench.notes.notes s own_place.run own_place.mirrors command f.0 f.1 r.can in
-        let all = drop_all (λ c. CanRun (sizes_in flash.state past c) c) (length (outcomes_by (standing bench.notes.notes s))) own_place.own.1
+        (holds past board turn.on_course) turn.on_course.conditions
+        place (length (outcomes_by (standing board.notes.notes s))) own_place.own command own_place.begun_at own_at in
+        let o = next_of (sizes_in flash.state past) own_place.own.1 board.notes.notes s own_place.run own_place.mirrors command f.0 f.1 r.can in
+        let all = drop_all (λ c. CanRun (sizes_in flash.state past c) c) (length (outcomes_by (standing board.notes.notes s))) own_place.own.1
         own_place.mirrors.runnable in
         let taken = subst (First (λ c. (device_of o.0 ≡ command_device c) × IsTaken (sizes_in flash.state past c) o.0)) f.1
         (next_taken (sizes_in flash.state past) own_place.run o.0 (subst (All (λ c. CanRun (sizes_in flash.state past c) c))
@@ -281,7 +280,7 @@ module _ {F C : Type 0} {flash : Ghosts F} (past : Past F) (bench : Bench F C fl
 
     -- the next command, as it is lent
     pub none_next : (commands : List Command) (lent : Option (Bor Command)) → commands_at past.boot place ≡ Some commands
-        → option_copied lent ≡ slice_get (commands_by commands (standing bench.notes.notes s)) 0 → lent ≡ None
+        → option_copied lent ≡ slice_get (commands_by commands (standing board.notes.notes s)) 0 → lent ≡ None
         → (next_chip past.boot.partitions (sizes_in flash.state past) (course_of flash.fault_model flash.state past) session ≡ None)
         × (is_done (course_of flash.fault_model flash.state past) session ≡ true)
     none_next commands lent h copied none = done_where_none
@@ -289,7 +288,7 @@ module _ {F C : Type 0} {flash : Ghosts F} (past : Past F) (bench : Bench F C fl
         none))
 
     pub some_next : (commands : List Command) (lent : Option (Bor Command)) (command : Bor Command) → commands_at past.boot place ≡ Some commands
-        → option_copied lent ≡ slice_get (commands_by commands (standing bench.notes.notes s)) 0 → lent ≡ Some command → FirstLeft command.now
+        → option_copied lent ≡ slice_get (commands_by commands (standing board.notes.notes s)) 0 → lent ≡ Some command → FirstLeft command.now
     some_next commands lent command h copied some = first_left command.now
         (some_lent lent (slice_get own_place.run.commands 0) command (copied ∙ ap (λ cs. slice_get cs 0) (sym (run_left commands h))) some)
 
@@ -312,52 +311,52 @@ module _ {F C : Type 0} {flash : Ghosts F} (past : Past F) (bench : Bench F C fl
       ≡ turn_answer past.boot.partitions (sizes_in flash.state past) (course_of flash.fault_model flash.state past) session
   answers_else p k h i j = sym ((λ d. done_or (h d) (held_or_did (held_unless_pending (course_of flash.fault_model flash.state past) (i d) (j d)))))
 
-  pending_is_none : first_held_by session (kept_chips bench) ≡ None → pending_chip (course_of flash.fault_model flash.state past) session ≡ None
+  pending_is_none : first_held_by session (slot_states board) ≡ None → pending_chip (course_of flash.fault_model flash.state past) session ≡ None
   pending_is_none h = pending_there flash.fault_model past.boot turn.on_course.conditions.uncut (starts_of flash.state past)
-      (course_of flash.fault_model flash.state past) (kept_chips bench) bench.events bench.notes.notes bench.sessions.items
+      (course_of flash.fault_model flash.state past) (slot_states board) board.events board.notes.notes board.sessions.items
       turn.on_course.stands session turn.attached ∙ h
 
-  pub answers_did_pending : (k : ℕ) → is_done (course_of flash.fault_model flash.state past) session ≡ false → first_held_by session (kept_chips bench) ≡ Some k
+  pub answers_did_pending : (k : ℕ) → is_done (course_of flash.fault_model flash.state past) session ≡ false → first_held_by session (slot_states board) ≡ Some k
       → Did ≡ turn_answer past.boot.partitions (sizes_in flash.state past) (course_of flash.fault_model flash.state past) session
   answers_did_pending k h i = answers_else (Some k) (next_chip past.boot.partitions (sizes_in flash.state past) (course_of flash.fault_model flash.state past)
       session) h
       (pending_there flash.fault_model past.boot turn.on_course.conditions.uncut (starts_of flash.state past) (course_of flash.fault_model flash.state past)
-      (kept_chips bench) bench.events bench.notes.notes bench.sessions.items
+      (slot_states board) board.events board.notes.notes board.sessions.items
       turn.on_course.stands session turn.attached ∙ i) refl
 
   -- a chip in a slot, as the course has it
-  chip_of_slot : (k : ℕ) (slot : Slot F C flash) → slice_get bench.slots.items k ≡ Some slot
+  chip_of_slot : (k : ℕ) (slot : Slot F C flash) → slice_get board.slots.items k ≡ Some slot
       → (c : ChipRun flash.FaultState) × (slice_get (course_of flash.fault_model flash.state past).chips k ≡ Some c)
-      × (kept_as past.boot.partitions c ≡ kept_slot slot)
+      × (slot_as past.boot.partitions c ≡ slot_state slot)
   chip_of_slot k slot h = chip_there flash.fault_model past.boot turn.on_course.conditions.uncut (starts_of flash.state past)
-      (course_of flash.fault_model flash.state past) (kept_chips bench) bench.events bench.notes.notes bench.sessions.items
-      turn.on_course.stands k (kept_slot slot) (at_mapped kept_slot bench.slots.items k slot h)
+      (course_of flash.fault_model flash.state past) (slot_states board) board.events board.notes.notes board.sessions.items
+      turn.on_course.stands k (slot_state slot) (at_mapped slot_state board.slots.items k slot h)
 
-  idle_where_blocked : first_held_by session (kept_chips bench) ≡ None
+  idle_where_blocked : first_held_by session (slot_states board) ≡ None
       → can_begin past.boot.partitions (course_of flash.fault_model flash.state past) (next_op (sizes_in flash.state past)
       (session_run (course_of flash.fault_model flash.state past) session)) ≡ false
       → is_idle past.boot.partitions (sizes_in flash.state past) (course_of flash.fault_model flash.state past) session ≡ true
   idle_where_blocked i blocked =
       let attached = unattached_there flash.fault_model past.boot turn.on_course.conditions.uncut (starts_of flash.state past)
-      (course_of flash.fault_model flash.state past) (kept_chips bench) bench.events bench.notes.notes bench.sessions.items
+      (course_of flash.fault_model flash.state past) (slot_states board) board.events board.notes.notes board.sessions.items
       turn.on_course.stands ∙ turn.attached in
       idle_else flash.fault_model past.boot (sizes_in flash.state past) (course_of flash.fault_model flash.state past) session turn.on_course.stands.keeps.lit
       attached (pending_is_none i) blocked
 
-  pub busy_pending : (k : ℕ) → first_held_by session (kept_chips bench) ≡ Some k → is_idle past.boot.partitions (sizes_in flash.state past)
+  pub busy_pending : (k : ℕ) → first_held_by session (slot_states board) ≡ Some k → is_idle past.boot.partitions (sizes_in flash.state past)
       (course_of flash.fault_model flash.state past) session ≡ false
   busy_pending k h =
       let attached = unattached_there flash.fault_model past.boot turn.on_course.conditions.uncut (starts_of flash.state past)
-      (course_of flash.fault_model flash.state past) (kept_chips bench) bench.events bench.notes.notes bench.sessions.items
+      (course_of flash.fault_model flash.state past) (slot_states board) board.events board.notes.notes board.sessions.items
       turn.on_course.stands ∙ turn.attached in
       busy_where_pending flash.fault_model past.boot (sizes_in flash.state past) (course_of flash.fault_model flash.state past) session
       turn.on_course.stands.keeps.lit attached k
       (pending_there flash.fault_model past.boot turn.on_course.conditions.uncut (starts_of flash.state past) (course_of flash.fault_model flash.state past)
-      (kept_chips bench) bench.events bench.notes.notes bench.sessions.items
+      (slot_states board) board.events board.notes.notes board.sessions.items
       turn.on_course.stands session turn.attached ∙ h)
 
   -- nothing is done where the next operation cannot begin
-  stays_where_blocked : first_held_by session (kept_chips bench) ≡ None
+  stays_where_blocked : first_held_by session (slot_states board) ≡ None
       → can_begin past.boot.partitions (course_of flash.fault_model flash.state past) (next_op (sizes_in flash.state past)
       (session_run (course_of flash.fault_model flash.state past) session)) ≡ false
       → next_course flash.fault_model flash.state past session ≡ course_of flash.fault_model flash.state past
@@ -367,32 +366,32 @@ module _ {F C : Type 0} {flash : Ghosts F} (past : Past F) (bench : Bench F C fl
           → next_course flash.fault_model flash.state past session ≡ course_of flash.fault_model flash.state past
       turn_is_idle_by h =
           let attached = unattached_there flash.fault_model past.boot turn.on_course.conditions.uncut (starts_of flash.state past)
-          (course_of flash.fault_model flash.state past) (kept_chips bench) bench.events bench.notes.notes bench.sessions.items
+          (course_of flash.fault_model flash.state past) (slot_states board) board.events board.notes.notes board.sessions.items
           turn.on_course.stands ∙ turn.attached in
           turn_is_idle flash.fault_model past.boot (sizes_in flash.state past) (course_of flash.fault_model flash.state past) session
           turn.on_course.stands.keeps.lit attached h
 
   -- a chip that no session holds is at rest
-  pub rests_here : (k : ℕ) (slot : Slot F C flash) → slice_get bench.slots.items k ≡ Some slot → slot.holder ≡ None → is_resting (chip_stage slot.chip) ≡ true
+  pub rests_here : (k : ℕ) (slot : Slot F C flash) → slice_get board.slots.items k ≡ Some slot → slot.holder ≡ None → is_resting (chip_stage slot.chip) ≡ true
   rests_here k slot at holder =
       let c = chip_of_slot k slot at in
       let attached = unattached_there flash.fault_model past.boot turn.on_course.conditions.uncut (starts_of flash.state past)
-      (course_of flash.fault_model flash.state past) (kept_chips bench) bench.events bench.notes.notes bench.sessions.items
+      (course_of flash.fault_model flash.state past) (slot_states board) board.events board.notes.notes board.sessions.items
       turn.on_course.stands ∙ turn.attached in
       let known = position_none (λ (d : ChipRun flash.FaultState). is_none d.known) (course_of flash.fault_model flash.state past).chips attached k c.0 c.1 in
-      let r = resting past.boot.partitions c.0 known (ap (λ (y : KeptChip flash.FaultState). y.holder) c.2 ∙ holder) in
-      ap (λ (y : KeptChip flash.FaultState). is_resting y.stage) (sym c.2) ∙ (λ d. is_resting (stage_by past.boot.partitions c.0 (r.1 d) (r.2 d)))
+      let r = resting past.boot.partitions c.0 known (ap (λ (y : SlotState flash.FaultState). y.holder) c.2 ∙ holder) in
+      ap (λ (y : SlotState flash.FaultState). is_resting y.stage) (sym c.2) ∙ (λ d. is_resting (stage_by past.boot.partitions c.0 (r.1 d) (r.2 d)))
 
   pub answers_held : (k by : ℕ) (slot : Slot F C flash) → is_done (course_of flash.fault_model flash.state past) session ≡ false
-      → first_held_by session (kept_chips bench) ≡ None
+      → first_held_by session (slot_states board) ≡ None
       → next_chip past.boot.partitions (sizes_in flash.state past) (course_of flash.fault_model flash.state past) session ≡ Some k
-      → slice_get bench.slots.items k ≡ Some slot → slot.holder ≡ Some by
+      → slice_get board.slots.items k ≡ Some slot → slot.holder ≡ Some by
       → (Held by ≡ turn_answer past.boot.partitions (sizes_in flash.state past) (course_of flash.fault_model flash.state past) session)
       × (next_course flash.fault_model flash.state past session ≡ course_of flash.fault_model flash.state past)
       × (is_idle past.boot.partitions (sizes_in flash.state past) (course_of flash.fault_model flash.state past) session ≡ true)
   answers_held k by slot h i j at holder =
       let c = chip_of_slot k slot at in
-      let p = holding past.boot.partitions c.0 by (ap (λ (y : KeptChip flash.FaultState). y.holder) c.2 ∙ holder) in
+      let p = holding past.boot.partitions c.0 by (ap (λ (y : SlotState flash.FaultState). y.holder) c.2 ∙ holder) in
       let found : session_at (course_of flash.fault_model flash.state past) (Some k) ≡ Some by = ap session_on c.1 ∙ ap session_of p.1 ∙ ap Some p.2 in
       let op = and_then_some (λ (op : Op). chip_of past.boot.partitions (device_of op))
       (next_op (sizes_in flash.state past) (session_run (course_of flash.fault_model flash.state past) session)) k j in
@@ -404,18 +403,18 @@ module _ {F C : Type 0} {flash : Ghosts F} (past : Past F) (bench : Bench F C fl
 
   -- a session that holds no chip begins on a free chip
   pub answers_did_begin : (k : ℕ) (slot : Slot F C flash) → is_done (course_of flash.fault_model flash.state past) session ≡ false
-      → first_held_by session (kept_chips bench) ≡ None
+      → first_held_by session (slot_states board) ≡ None
       → next_chip past.boot.partitions (sizes_in flash.state past) (course_of flash.fault_model flash.state past) session ≡ Some k
-      → slice_get bench.slots.items k ≡ Some slot → slot.holder ≡ None
+      → slice_get board.slots.items k ≡ Some slot → slot.holder ≡ None
       → (Did ≡ turn_answer past.boot.partitions (sizes_in flash.state past) (course_of flash.fault_model flash.state past) session)
       × (is_idle past.boot.partitions (sizes_in flash.state past) (course_of flash.fault_model flash.state past) session ≡ false)
   answers_did_begin k slot h i j at holder =
       let c = chip_of_slot k slot at in
       let attached = unattached_there flash.fault_model past.boot turn.on_course.conditions.uncut (starts_of flash.state past)
-      (course_of flash.fault_model flash.state past) (kept_chips bench) bench.events bench.notes.notes bench.sessions.items
+      (course_of flash.fault_model flash.state past) (slot_states board) board.events board.notes.notes board.sessions.items
       turn.on_course.stands ∙ turn.attached in
       let known = position_none (λ (d : ChipRun flash.FaultState). is_none d.known) (course_of flash.fault_model flash.state past).chips attached k c.0 c.1 in
-      let r = resting past.boot.partitions c.0 known (ap (λ (y : KeptChip flash.FaultState). y.holder) c.2 ∙ holder) in
+      let r = resting past.boot.partitions c.0 known (ap (λ (y : SlotState flash.FaultState). y.holder) c.2 ∙ holder) in
       let found : session_at (course_of flash.fault_model flash.state past) (Some k) ≡ None = ap session_on c.1 ∙ ap session_of r.2 in
       let op = and_then_some (λ (op : Op). chip_of past.boot.partitions (device_of op))
       (next_op (sizes_in flash.state past) (session_run (course_of flash.fault_model flash.state past) session)) k j in
@@ -429,7 +428,7 @@ module _ {F C : Type 0} {flash : Ghosts F} (past : Past F) (bench : Bench F C fl
       )
 
   -- nothing is done where no command is left
-  pub stays_where_done : first_held_by session (kept_chips bench) ≡ None → is_done (course_of flash.fault_model flash.state past) session ≡ true
+  pub stays_where_done : first_held_by session (slot_states board) ≡ None → is_done (course_of flash.fault_model flash.state past) session ≡ true
       → (next_course flash.fault_model flash.state past session ≡ course_of flash.fault_model flash.state past)
       × (is_idle past.boot.partitions (sizes_in flash.state past) (course_of flash.fault_model flash.state past) session ≡ true)
   stays_where_done i h =

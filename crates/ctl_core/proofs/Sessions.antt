@@ -16,7 +16,7 @@ use Rattle.session_steps.specs.Standing.{number_of, IsWaiting}
 use Rattle.session_steps.specs.Mirrors.{Mirrors}
 use Rattle.session_steps.proofs.Mirrors.{mirrors_later}
 use Rattle.run_laws.proofs.Sessions.{number_stays}
-use Rattle.ctl_core.specs.KeptChip.{KeptChip}
+use Rattle.ctl_core.specs.SlotState.{SlotState}
 use Rattle.ctl_core.specs.Sessions.{SessionsMirror, HoldersWait}
 use Rattle.ctl_core.proofs.Places.{OneChanged, found_only, item_at, changed_at}
 
@@ -161,18 +161,18 @@ module _ (sizes : Command → Geometry) (begun : List (ℕ × List Command)) (no
           by_case (inr n) = all.each j b t r at (sym (o.elsewhere j n) ∙ there) is
 
 -- sessions that hold chips
-module _ {W : Type 0} (chips : List (KeptChip W)) (sessions : List Session) (wait : HoldersWait chips sessions) where
+module _ {W : Type 0} (chips : List (SlotState W)) (sessions : List Session) (wait : HoldersWait chips sessions) where
   -- a chip changes and stays with its holder
-  pub wait_on : (k : ℕ) (f : KeptChip W → KeptChip W) → ((c : KeptChip W) → (f c).holder ≡ c.holder) → HoldersWait (change_at chips k f) sessions
+  pub wait_on : (k : ℕ) (f : SlotState W → SlotState W) → ((c : SlotState W) → (f c).holder ≡ c.holder) → HoldersWait (change_at chips k f) sessions
   wait_on k f keeps j i c s at there holds = by_case (changed_at chips k j f c at)
     where
-      by_case : ((x : KeptChip W) × (k ≡ j) × (slice_get chips k ≡ Some x) × (c ≡ f x)) ⊎ ((k ≡ j → ⊥) × (slice_get chips j ≡ Some c)) → IsWaiting s
-      by_case (inl (x, e, old, is)) = wait k i x s old there (sym (keeps x) ∙ ap (λ (y : KeptChip W). y.holder) (sym is) ∙ holds)
+      by_case : ((x : SlotState W) × (k ≡ j) × (slice_get chips k ≡ Some x) × (c ≡ f x)) ⊎ ((k ≡ j → ⊥) × (slice_get chips j ≡ Some c)) → IsWaiting s
+      by_case (inl (x, e, old, is)) = wait k i x s old there (sym (keeps x) ∙ ap (λ (y : SlotState W). y.holder) (sym is) ∙ holds)
       by_case (inr (n, old)) = wait j i c s old there holds
 
   -- a session that holds no chip changes
   pub wait_beside : (i : ℕ) (new : Session) (changed : List Session) → OneChanged sessions i new changed
-      → ((j : ℕ) (c : KeptChip W) → slice_get chips j ≡ Some c → c.holder ≡ Some (number_of new) → ⊥) → HoldersWait chips changed
+      → ((j : ℕ) (c : SlotState W) → slice_get chips j ≡ Some c → c.holder ≡ Some (number_of new) → ⊥) → HoldersWait chips changed
   wait_beside i new changed o free j m c s at there holds = by_case (cases_eq i m)
     where
       by_case : (i ≡ m) ⊎ (i ≡ m → ⊥) → IsWaiting s
@@ -181,16 +181,16 @@ module _ {W : Type 0} (chips : List (KeptChip W)) (sessions : List Session) (wai
       by_case (inr n) = wait j m c s at (sym (o.elsewhere m n) ∙ there) holds
 
   -- a session that waits takes a chip
-  pub wait_begun : (i k : ℕ) (new : Session) (changed : List Session) (f : KeptChip W → KeptChip W) → OneChanged sessions i new changed → IsWaiting new
-      → ((c : KeptChip W) → (f c).holder ≡ Some (number_of new))
+  pub wait_begun : (i k : ℕ) (new : Session) (changed : List Session) (f : SlotState W → SlotState W) → OneChanged sessions i new changed → IsWaiting new
+      → ((c : SlotState W) → (f c).holder ≡ Some (number_of new))
       → ((j : ℕ) (s : Session) → slice_get changed j ≡ Some s → number_of s ≡ number_of new → i ≡ j)
       → HoldersWait (change_at chips k f) changed
   wait_begun i k new changed f o waits holder one j m c s at there holds = by_session (cases_eq i m)
     where
-      by_chip : (i ≡ m → ⊥) → ((x : KeptChip W) × (k ≡ j) × (slice_get chips k ≡ Some x) × (c ≡ f x)) ⊎ ((k ≡ j → ⊥) × (slice_get chips j ≡ Some c))
+      by_chip : (i ≡ m → ⊥) → ((x : SlotState W) × (k ≡ j) × (slice_get chips k ≡ Some x) × (c ≡ f x)) ⊎ ((k ≡ j → ⊥) × (slice_get chips j ≡ Some c))
           → IsWaiting s
       by_chip n (inl (x, e, old, is)) =
-          let both : Some (number_of s) ≡ Some (number_of new) = sym holds ∙ ap (λ (y : KeptChip W). y.holder) is ∙ holder x in
+          let both : Some (number_of s) ≡ Some (number_of new) = sym holds ∙ ap (λ (y : SlotState W). y.holder) is ∙ holder x in
           let same : number_of s ≡ number_of new = cc in absurd (n (one m s there same))
       by_chip n (inr (d, old)) = wait j m c s old (sym (o.elsewhere m n) ∙ there) holds
 
@@ -199,8 +199,8 @@ module _ {W : Type 0} (chips : List (KeptChip W)) (sessions : List Session) (wai
       by_session (inr n) = by_chip n (changed_at chips k j f c at)
 
   -- a session gives its chip back
-  pub wait_answered : (i k : ℕ) (new : Session) (changed : List Session) (f : KeptChip W → KeptChip W) → OneChanged sessions i new changed
-      → ((c : KeptChip W) → (f c).holder ≡ None) → ((j : ℕ) (c : KeptChip W) → slice_get chips j ≡ Some c → c.holder ≡ Some (number_of new) → k ≡ j)
+  pub wait_answered : (i k : ℕ) (new : Session) (changed : List Session) (f : SlotState W → SlotState W) → OneChanged sessions i new changed
+      → ((c : SlotState W) → (f c).holder ≡ None) → ((j : ℕ) (c : SlotState W) → slice_get chips j ≡ Some c → c.holder ≡ Some (number_of new) → k ≡ j)
       → HoldersWait (change_at chips k f) changed
   wait_answered i k new changed f o free only j m c s at there holds = by_chip (changed_at chips k j f c at)
     where
@@ -209,6 +209,6 @@ module _ {W : Type 0} (chips : List (KeptChip W)) (sessions : List Session) (wai
           absurd (d (only j c old (holds ∙ ap (λ x. Some (number_of x)) (sym same))))
       by_session d old (inr n) = wait j m c s old (sym (o.elsewhere m n) ∙ there) holds
 
-      by_chip : ((x : KeptChip W) × (k ≡ j) × (slice_get chips k ≡ Some x) × (c ≡ f x)) ⊎ ((k ≡ j → ⊥) × (slice_get chips j ≡ Some c)) → IsWaiting s
-      by_chip (inl (x, e, old, is)) = let both : None ≡ Some (number_of s) = sym (free x) ∙ ap (λ (y : KeptChip W). y.holder) (sym is) ∙ holds in cc
+      by_chip : ((x : SlotState W) × (k ≡ j) × (slice_get chips k ≡ Some x) × (c ≡ f x)) ⊎ ((k ≡ j → ⊥) × (slice_get chips j ≡ Some c)) → IsWaiting s
+      by_chip (inl (x, e, old, is)) = let both : None ≡ Some (number_of s) = sym (free x) ∙ ap (λ (y : SlotState W). y.holder) (sym is) ∙ holds in cc
       by_chip (inr (d, old)) = by_session d old (cases_eq i m)

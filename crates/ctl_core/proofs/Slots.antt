@@ -8,8 +8,8 @@ use Rattle.chip_paths.specs.ChipRun.{name_of}
 use Rattle.nand_model.specs.declared.words.Event.{Event}
 use Rattle.nand_model.specs.declared.words.Fairness.{Fairness}
 use Rattle.nand_model.specs.declared.words.Note.{Note}
-use Rattle.chip_paths.specs.Stage.{note_of_news}
-use Rattle.ctl_core.specs.KeptChip.{failure_notes, news_notes, noted}
+use Rattle.chip_paths.specs.Stage.{note_of_attach}
+use Rattle.ctl_core.specs.SlotState.{failure_notes, pending_notes, noted}
 use Rattle.ctl_core.proofs.Positions.{mapped_at}
 
 -- what holds of an item that is there
@@ -17,22 +17,22 @@ pub at_some : {A : Type 0} (P : A → Type 0) (o : Option A) (x : A) → IfSome 
 at_some P None x h e = cc
 at_some P (Some y) x h e = let same : y ≡ x = cc in subst P same h
 
-noted_news : (k : ℕ) (news : Option (Bool × Attaching)) → noted (option_map (note_of_news k) news) ≡ news_notes k news
-noted_news k None = refl
-noted_news k (Some news) = refl
+noted_pending_note : (k : ℕ) (pending_note : Option (Bool × Attaching)) → noted (option_map (note_of_attach k) pending_note) ≡ pending_notes k pending_note
+noted_pending_note k None = refl
+noted_pending_note k (Some pending_note) = refl
 
 -- the notes of an event
 pub notes_of_event : (o : Option PageEvent) (event : Option Event) (told : PageEvent → Option Fairness) (got : Option Fairness)
-    (news : PageEvent → Option (Bool × Attaching)) (now : Option (Bool × Attaching))
+    (pending_note : PageEvent → Option (Bool × Attaching)) (now : Option (Bool × Attaching))
     (k n : ℕ) (first second : Option Note) (before middle after : List Note)
-    → event ≡ option_map name_of o → IfSome o (λ e. got ≡ told e) → IfSome o (λ e. now ≡ news e)
+    → event ≡ option_map name_of o → IfSome o (λ e. got ≡ told e) → IfSome o (λ e. now ≡ pending_note e)
     → ((e : PageEvent) → event ≡ Some (name_of e) → noted first ≡ failure_notes k n e got) → middle ≡ before ++ noted first
-    → second ≡ option_map (note_of_news k) now → after ≡ middle ++ noted second
-    → IfSome o (λ e. after ≡ before ++ failure_notes k n e (told e) ++ news_notes k (news e))
-notes_of_event None event told got news now k n first second before middle after h i j f m s a = tt
-notes_of_event (Some e) event told got news now k n first second before middle after h i j f m s a =
+    → second ≡ option_map (note_of_attach k) now → after ≡ middle ++ noted second
+    → IfSome o (λ e. after ≡ before ++ failure_notes k n e (told e) ++ pending_notes k (pending_note e))
+notes_of_event None event told got pending_note now k n first second before middle after h i j f m s a = tt
+notes_of_event (Some e) event told got pending_note now k n first second before middle after h i j f m s a =
     let one : noted first ≡ failure_notes k n e (told e) = f e h ∙ ap (failure_notes k n e) i in
-    let two : noted second ≡ news_notes k (news e) = ap noted s ∙ noted_news k now ∙ ap (news_notes k) j in
+    let two : noted second ≡ pending_notes k (pending_note e) = ap noted s ∙ noted_pending_note k now ∙ ap (pending_notes k) j in
     a ∙ (λ d. (m ∙ ap (λ zs. before ++ zs) one) d ++ two d)
 
 -- the item at a place of a list, by what is kept of it

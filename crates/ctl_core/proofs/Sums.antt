@@ -10,11 +10,11 @@ use Rattle.statistics_laws.proofs.Courses.{counts_small}
 use Rattle.chip_paths.specs.Stage.{stage_statistics}
 use Rattle.chip_core.specs.Begin.{read_device}
 use Rattle.chip_core.specs.Sums.{AreSmall}
-use Rattle.ctl_core.specs.declared.bench.Bench.{Bench}
-use Rattle.ctl_core.specs.declared.bench.Slot.{Slot}
-use Rattle.ctl_core.specs.Bench.{kept_slot, kept_chips, IsOnCourse}
-use Rattle.ctl_core.specs.Ended.{statistics_known}
-use Rattle.ctl_core.specs.KeptChip.{KeptChip}
+use Rattle.ctl_core.specs.declared.board.Board.{Board}
+use Rattle.ctl_core.specs.declared.board.Slot.{Slot}
+use Rattle.ctl_core.specs.Board.{slot_state, slot_states, IsOnCourse}
+use Rattle.run_model.specs.Statistics.{statistics_known}
+use Rattle.ctl_core.specs.SlotState.{SlotState}
 use Rattle.ctl_core.specs.Past.{Past, course_of, starts_of}
 use Rattle.ctl_core.proofs.LastStates.{statistics_by}
 use Rattle.ctl_core.proofs.Limits.{few_turns}
@@ -31,7 +31,7 @@ for_some : {A : Type 0} (P : A → Type 0) (o : Option A) → ((x : A) → P x) 
 for_some P None h = tt
 for_some P (Some x) h = h x
 
-module _ {F C : Type 0} {flash : Ghosts F} (past : Past F) (bench : Bench F C flash) (on : IsOnCourse past bench) where
+module _ {F C : Type 0} {flash : Ghosts F} (past : Past F) (board : Board F C flash) (on : IsOnCourse past board) where
   counted_by : (k : ℕ) (c : ChipRun flash.FaultState) (dev : ℕ) → slice_get (course_of flash.fault_model flash.state past).chips k ≡ Some c
       → (o : Option Known) → c.known ≡ o
       → HasAtMost (128 * length past.turns) (statistics_known o dev)
@@ -42,22 +42,22 @@ module _ {F C : Type 0} {flash : Ghosts F} (past : Past F) (bench : Bench F C fl
 
   few_counts : 128 * length past.turns < 2 ^ 63
   few_counts =
-      let turns = few_turns past bench on in
+      let turns = few_turns past board on in
       let started : length (starts_of flash.state past) ≡ length past.started = mapped_length flash.state past.started in
       omega (arith, turns, started, on.conditions.cheap, on.conditions.few)
 
   -- the statistics of each device of a chip in a slot are small
-  sums_small : (k : ℕ) (slot : Slot F C flash) → slice_get bench.slots.items k ≡ Some slot → (dev : ℕ) → AreSmall (stage_statistics (kept_slot slot).stage dev)
+  sums_small : (k : ℕ) (slot : Slot F C flash) → slice_get board.slots.items k ≡ Some slot → (dev : ℕ) → AreSmall (stage_statistics (slot_state slot).stage dev)
   sums_small k slot at dev =
       let c = chip_there flash.fault_model past.boot on.conditions.uncut (starts_of flash.state past) (course_of flash.fault_model flash.state past)
-      (kept_chips bench) bench.events bench.notes.notes bench.sessions.items
-      on.stands k (kept_slot slot) (at_mapped kept_slot bench.slots.items k slot at) in
-      let same : statistics_known c.0.known dev ≡ stage_statistics (kept_slot slot).stage dev =
-      sym (statistics_by past.boot.partitions c.0 c.0.known c.0.pending dev) ∙ ap (λ (x : KeptChip flash.FaultState). stage_statistics x.stage dev) c.2 in
+      (slot_states board) board.events board.notes.notes board.sessions.items
+      on.stands k (slot_state slot) (at_mapped slot_state board.slots.items k slot at) in
+      let same : statistics_known c.0.known dev ≡ stage_statistics (slot_state slot).stage dev =
+      sym (statistics_by past.boot.partitions c.0 c.0.known c.0.pending dev) ∙ ap (λ (x : SlotState flash.FaultState). stage_statistics x.stage dev) c.2 in
       let most = subst (HasAtMost (128 * length past.turns)) same (counted_by k c.0 dev c.1 c.0.known refl) in
       record { corrected = omega (arith, most.corrected, few_counts); failed = omega (arith, most.failed, few_counts) }
 
   -- so a read can begin
-  pub read_fits : (k : ℕ) (slot : Slot F C flash) (op : Op) → slice_get bench.slots.items k ≡ Some slot
-      → IfSome (read_device op) (λ dev. AreSmall (stage_statistics (kept_slot slot).stage dev))
-  read_fits k slot op at = for_some (λ dev. AreSmall (stage_statistics (kept_slot slot).stage dev)) (read_device op) (sums_small k slot at)
+  pub read_fits : (k : ℕ) (slot : Slot F C flash) (op : Op) → slice_get board.slots.items k ≡ Some slot
+      → IfSome (read_device op) (λ dev. AreSmall (stage_statistics (slot_state slot).stage dev))
+  read_fits k slot op at = for_some (λ dev. AreSmall (stage_statistics (slot_state slot).stage dev)) (read_device op) (sums_small k slot at)

@@ -21,8 +21,8 @@ use Rattle.run_laws.proofs.Places.{position_is, position_none}
 use Rattle.session_steps.specs.declared.session.Session.{Session}
 use Rattle.session_steps.specs.Standing.{number_of, IsWaiting}
 use Rattle.session_steps.specs.Mirrors.{Mirrors}
-use Rattle.ctl_core.specs.KeptChip.{KeptChip, kept_as, all_kept, is_held_by, first_attaching, first_held_by, after_event, after_begin, after_answer, with_news_told, failure_notes, news_notes}
-use Rattle.ctl_core.specs.Flips.{kept_flips_before}
+use Rattle.ctl_core.specs.SlotState.{SlotState, slot_as, slots_as, is_held_by, first_attaching, first_held_by, after_event, after_begin, after_answer, with_note_written, failure_notes, pending_notes}
+use Rattle.ctl_core.specs.Flips.{slot_flips_before}
 use Rattle.ctl_core.specs.Keeps.{Keeps}
 use Rattle.ctl_core.specs.Follows.{Follows}
 use Rattle.ctl_core.proofs.Positions.{mapped_at}
@@ -41,10 +41,10 @@ finished_path (Then event rest) finished h = cc
 finished_stage : (stage : Stage) (finished : Finished) → finished_in stage ≡ Some finished → stage_event stage ≡ None
 finished_stage (Attaches left quiet) finished h = cc
 finished_stage (Rests known) finished h = cc
-finished_stage (Works known left) finished h = finished_path left finished h
+finished_stage (Works known progress left) finished h = finished_path left finished h
 
 -- the same controller
-pub follows_as : {W : Type 0} (boot : Boot) (starts : List (ChipState W)) (course : Course W) (chips now_chips : List (KeptChip W)) (events now_events : ℕ)
+pub follows_as : {W : Type 0} (boot : Boot) (starts : List (ChipState W)) (course : Course W) (chips now_chips : List (SlotState W)) (events now_events : ℕ)
     (notes now_notes : List Note) (sessions now_sessions : List Session)
     → now_chips ≡ chips → now_events ≡ events → now_notes ≡ notes → now_sessions ≡ sessions → Follows boot starts course chips events notes sessions
     → Follows boot starts course now_chips now_events now_notes now_sessions
@@ -55,12 +55,12 @@ follows_as boot starts course chips now_chips events now_events notes now_notes 
     (subst (λ z. Follows boot starts course chips events notes z) (sym s) f)))
 
 module _ {W : Type 0} (model : FaultModel W) (boot : Boot) (uncut : boot.cut ≡ None) (starts : List (ChipState W)) (course : Course W)
-    (chips : List (KeptChip W)) (events : ℕ) (notes : List Note) (sessions : List Session) (follows : Follows boot starts course chips events notes sessions)
+    (chips : List (SlotState W)) (events : ℕ) (notes : List Note) (sessions : List Session) (follows : Follows boot starts course chips events notes sessions)
   where
-    -- a kept chip is one of the course
-    pub chip_there : (k : ℕ) (x : KeptChip W) → slice_get chips k ≡ Some x → (c : ChipRun W) × (slice_get course.chips k ≡ Some c)
-        × (kept_as boot.partitions c ≡ x)
-    chip_there k x h = mapped_at (kept_as boot.partitions) course.chips k x (ap (λ xs. slice_get xs k) (sym follows.keeps.of_chips) ∙ h)
+    -- a chip in a slot is one of the course
+    pub chip_there : (k : ℕ) (x : SlotState W) → slice_get chips k ≡ Some x → (c : ChipRun W) × (slice_get course.chips k ≡ Some c)
+        × (slot_as boot.partitions c ≡ x)
+    chip_there k x h = mapped_at (slot_as boot.partitions) course.chips k x (ap (λ xs. slice_get xs k) (sym follows.keeps.of_chips) ∙ h)
 
     pub unattached_there : unattached course ≡ first_attaching chips
     unattached_there = unattached_is boot.partitions course ∙ ap first_attaching (sym follows.keeps.of_chips)
@@ -68,31 +68,31 @@ module _ {W : Type 0} (model : FaultModel W) (boot : Boot) (uncut : boot.cut ≡
     pub pending_there : (session : ℕ) → first_attaching chips ≡ None → pending_chip course session ≡ first_held_by session chips
     pending_there session h = pending_is boot.partitions course session (unattached_there ∙ h) ∙ ap (first_held_by session) (sym follows.keeps.of_chips)
 
-    next_there : (c : ChipRun W) (x : KeptChip W) → kept_as boot.partitions c ≡ x → next_chip_event boot.partitions c ≡ stage_event x.stage
-    next_there c x e = next_is boot.partitions c ∙ ap (λ (y : KeptChip W). stage_event y.stage) e
+    next_there : (c : ChipRun W) (x : SlotState W) → slot_as boot.partitions c ≡ x → next_chip_event boot.partitions c ≡ stage_event x.stage
+    next_there c x e = next_is boot.partitions c ∙ ap (λ (y : SlotState W). stage_event y.stage) e
 
     -- the chips after the flips that are due before the next event
-    abbrev pub chips_flipped : List (KeptChip W)
-    chips_flipped = kept_flips_before model boot.flips (events + 1) chips
+    abbrev pub chips_flipped : List (SlotState W)
+    chips_flipped = slot_flips_before model boot.flips (events + 1) chips
 
-    -- a kept chip after the flips is one of the course after them
-    flipped_there : (k : ℕ) (x : KeptChip W) → slice_get chips_flipped k ≡ Some x
-        → (c : ChipRun W) × (slice_get (with_flips_before model boot (course.events + 1) course.chips) k ≡ Some c) × (kept_as boot.partitions c ≡ x)
+    -- a chip in a slot after the flips is one of the course after them
+    flipped_there : (k : ℕ) (x : SlotState W) → slice_get chips_flipped k ≡ Some x
+        → (c : ChipRun W) × (slice_get (with_flips_before model boot (course.events + 1) course.chips) k ≡ Some c) × (slot_as boot.partitions c ≡ x)
     flipped_there k x h =
-        let flipped : all_kept boot.partitions (with_flips_before model boot (course.events + 1) course.chips) ≡ chips_flipped =
-        flips_kept model boot.partitions boot (course.events + 1) course.chips ∙ (λ j. kept_flips_before model boot.flips (sym follows.keeps.of_events j + 1)
+        let flipped : slots_as boot.partitions (with_flips_before model boot (course.events + 1) course.chips) ≡ chips_flipped =
+        flips_kept model boot.partitions boot (course.events + 1) course.chips ∙ (λ j. slot_flips_before model boot.flips (sym follows.keeps.of_events j + 1)
         (sym follows.keeps.of_chips j)) in
-        mapped_at (kept_as boot.partitions) (with_flips_before model boot (course.events + 1) course.chips) k x (ap (λ xs. slice_get xs k) flipped ∙ h)
+        mapped_at (slot_as boot.partitions) (with_flips_before model boot (course.events + 1) course.chips) k x (ap (λ xs. slice_get xs k) flipped ∙ h)
 
     -- the chips and the notes after an event of chip k, which stood so after the flips
-    abbrev pub chips_with : ℕ → PageEvent → List (KeptChip W)
-    chips_with k e = change_at chips_flipped k (λ y. with_news_told (after_event model e y))
+    abbrev pub chips_with : ℕ → PageEvent → List (SlotState W)
+    chips_with k e = change_at chips_flipped k (λ y. with_note_written (after_event model e y))
 
-    abbrev pub notes_with : ℕ → KeptChip W → PageEvent → List Note
-    notes_with k x e = notes ++ failure_notes k (events + 1) e (failure_told model x.state e) ++ news_notes k (after_event model e x).news
+    abbrev pub notes_with : ℕ → SlotState W → PageEvent → List Note
+    notes_with k x e = notes ++ failure_notes k (events + 1) e (failure_told model x.state e) ++ pending_notes k (after_event model e x).pending_note
 
-    follows_event : (next : Course W) (k : ℕ) (c : ChipRun W) (x : KeptChip W) (e : PageEvent)
-        → slice_get (with_flips_before model boot (course.events + 1) course.chips) k ≡ Some c → kept_as boot.partitions c ≡ x
+    follows_event : (next : Course W) (k : ℕ) (c : ChipRun W) (x : SlotState W) (e : PageEvent)
+        → slice_get (with_flips_before model boot (course.events + 1) course.chips) k ≡ Some c → slot_as boot.partitions c ≡ x
         → next ≡ after_chip_event model boot uncut (sizes_of boot starts) course k c e
         → Follows boot starts next (chips_with k e) (events + 1) (notes_with k x e) sessions
     follows_event next k c x e at same is = subst (λ d. Follows boot starts d (chips_with k e) (events + 1) (notes_with k x e) sessions) (sym is) (record {
@@ -102,13 +102,13 @@ module _ {W : Type 0} (model : FaultModel W) (boot : Boot) (uncut : boot.cut ≡
       mirrors = all_later (sizes_of boot starts) boot.sessions (notes ++ failure_notes k (events + 1) e (failure_told model x.state e)) sessions course.sessions
           (all_later (sizes_of boot starts) boot.sessions notes sessions course.sessions follows.mirrors
           (failure_notes k (events + 1) e (failure_told model x.state e)))
-          (news_notes k (after_event model e x).news);
+          (pending_notes k (after_event model e x).pending_note);
       wait = wait_on chips_flipped sessions (wait_flipped model boot.flips (events + 1) chips sessions follows.wait) k
-          (λ y. with_news_told (after_event model e y)) (λ y. refl);
+          (λ y. with_note_written (after_event model e y)) (λ y. refl);
     })
 
     -- an attach step
-    pub follows_attach : (k : ℕ) (x y : KeptChip W) (e : PageEvent) → first_attaching chips ≡ Some k → slice_get chips k ≡ Some x → stage_event x.stage ≡ Some e
+    pub follows_attach : (k : ℕ) (x y : SlotState W) (e : PageEvent) → first_attaching chips ≡ Some k → slice_get chips k ≡ Some x → stage_event x.stage ≡ Some e
         → slice_get chips_flipped k ≡ Some y
         → Follows boot starts (attach_step model boot (sizes_of boot starts) course) (chips_with k e) (events + 1) (notes_with k y e) sessions
     follows_attach k x y e first at has flipped =
@@ -119,7 +119,7 @@ module _ {W : Type 0} (model : FaultModel W) (boot : Boot) (uncut : boot.cut ≡
         d.1)
 
     -- a turn that does an event
-    pub follows_turn_event : (session k : ℕ) (x y : KeptChip W) (e : PageEvent) → first_attaching chips ≡ None → first_held_by session chips ≡ Some k
+    pub follows_turn_event : (session k : ℕ) (x y : SlotState W) (e : PageEvent) → first_attaching chips ≡ None → first_held_by session chips ≡ Some k
         → slice_get chips k ≡ Some x
         → stage_event x.stage ≡ Some e → slice_get chips_flipped k ≡ Some y
         → Follows boot starts (turn_step model boot (sizes_of boot starts) course session) (chips_with k e) (events + 1) (notes_with k y e) sessions
@@ -133,15 +133,15 @@ module _ {W : Type 0} (model : FaultModel W) (boot : Boot) (uncut : boot.cut ≡
 
     module _ (up : AreAscending boot.sessions) (holds : Holds model boot starts course) where
       -- a chip that a session holds has a pending operation of it
-      held_here : (k session : ℕ) (x : KeptChip W) → slice_get chips k ≡ Some x → x.holder ≡ Some session → (c : ChipRun W) × (pending : Pending)
+      held_here : (k session : ℕ) (x : SlotState W) → slice_get chips k ≡ Some x → x.holder ≡ Some session → (c : ChipRun W) × (pending : Pending)
           × (slice_get course.chips k ≡ Some c) × (c.pending ≡ Some pending) × (pending.session ≡ session)
       held_here k session x at h =
           let c = chip_there k x at in
-          let p = holding boot.partitions c.0 session (ap (λ (y : KeptChip W). y.holder) c.2 ∙ h) in
+          let p = holding boot.partitions c.0 session (ap (λ (y : SlotState W). y.holder) c.2 ∙ h) in
           (c.0, p.0, c.1, p.1, p.2)
 
       -- a session holds one chip alone
-      pub held_once : (j k session : ℕ) (x y : KeptChip W) → slice_get chips j ≡ Some x → x.holder ≡ Some session → slice_get chips k ≡ Some y → y.holder
+      pub held_once : (j k session : ℕ) (x y : SlotState W) → slice_get chips j ≡ Some x → x.holder ≡ Some session → slice_get chips k ≡ Some y → y.holder
           ≡ Some session → j ≡ k
       held_once j k session x y at h there g =
           let c = held_here j session x at h in
@@ -149,7 +149,7 @@ module _ {W : Type 0} (model : FaultModel W) (boot : Boot) (uncut : boot.cut ≡
           pending_once model boot starts course follows.keeps.lit holds j k session c.0 d.0 c.1 d.1 c.2 c.3 c.4 d.2 d.3 d.4
 
       -- the operation of a session that holds a chip is its next one
-      pub held_next : (k session : ℕ) (x : KeptChip W) → slice_get chips k ≡ Some x → x.holder ≡ Some session
+      pub held_next : (k session : ℕ) (x : SlotState W) → slice_get chips k ≡ Some x → x.holder ≡ Some session
           → (run : SessionRun) × (op : Op) × (session_run course session ≡ Some run) × (next_op_of (sizes_of boot starts) run.commands run.replies ≡ Some op)
       held_next k session x at h =
           let c = held_here k session x at h in
@@ -157,25 +157,25 @@ module _ {W : Type 0} (model : FaultModel W) (boot : Boot) (uncut : boot.cut ≡
           (n.0, c.1.op, n.1, n.2)
 
       -- the chip that is found is held
-      pub found_held : (session k : ℕ) (x : KeptChip W) → first_held_by session chips ≡ Some k → slice_get chips k ≡ Some x → x.holder ≡ Some session
+      pub found_held : (session k : ℕ) (x : SlotState W) → first_held_by session chips ≡ Some k → slice_get chips k ≡ Some x → x.holder ≡ Some session
       found_held session k x h at =
-          let p = position_is (λ (y : KeptChip W). is_held_by session y.holder) chips k h in
+          let p = position_is (λ (y : SlotState W). is_held_by session y.holder) chips k h in
           let same : p.0 ≡ x = cc (p.1) in
-          by_holder x.holder (ap (λ (y : KeptChip W). is_held_by session y.holder) (sym same) ∙ p.2)
+          by_holder x.holder (ap (λ (y : SlotState W). is_held_by session y.holder) (sym same) ∙ p.2)
         where
           by_holder : (o : Option ℕ) → is_held_by session o ≡ true → o ≡ Some session
           by_holder None e = cc
           by_holder (Some by) e = ap Some (eqb-true _ _ e)
 
       -- no chip is held by a session where none is found
-      pub none_held : (session : ℕ) → first_held_by session chips ≡ None → (j : ℕ) (x : KeptChip W) → slice_get chips j ≡ Some x → x.holder ≡ Some session → ⊥
+      pub none_held : (session : ℕ) → first_held_by session chips ≡ None → (j : ℕ) (x : SlotState W) → slice_get chips j ≡ Some x → x.holder ≡ Some session → ⊥
       none_held session h j x at holds_it =
-          let no : is_held_by session x.holder ≡ false = position_none (λ (y : KeptChip W). is_held_by session y.holder) chips h j x at in
+          let no : is_held_by session x.holder ≡ false = position_none (λ (y : SlotState W). is_held_by session y.holder) chips h j x at in
           let yes : is_held_by session x.holder ≡ true = ap (is_held_by session) holds_it ∙ eq-eqb session session refl in
           cc
 
       -- a turn that answers
-      pub follows_answer : (i k : ℕ) (s new : Session) (changed : List Session) (x : KeptChip W) (finished : Finished) → first_attaching chips ≡ None
+      pub follows_answer : (i k : ℕ) (s new : Session) (changed : List Session) (x : SlotState W) (finished : Finished) → first_attaching chips ≡ None
           → slice_get sessions i ≡ Some s
           → first_held_by (number_of s) chips ≡ Some k → slice_get chips k ≡ Some x → finished_in x.stage ≡ Some finished → OneChanged sessions i new changed
           → ((commands : List Command) (run : SessionRun) → Mirrors (sizes_of boot starts) commands notes s run → IsWaiting s
@@ -186,8 +186,8 @@ module _ {W : Type 0} (model : FaultModel W) (boot : Boot) (uncut : boot.cut ≡
       follows_answer i k s new changed x finished attached is_at held at over o replied_so =
           let c = chip_there k x at in
           let holder : x.holder ≡ Some (number_of s) = found_held (number_of s) k x held at in
-          let w = works boot.partitions c.0 finished (ap (λ (y : KeptChip W). finished_in y.stage) c.2 ∙ over) in
-          let p = holding boot.partitions c.0 (number_of s) (ap (λ (y : KeptChip W). y.holder) c.2 ∙ holder) in
+          let w = works boot.partitions c.0 finished (ap (λ (y : SlotState W). finished_in y.stage) c.2 ∙ over) in
+          let p = holding boot.partitions c.0 (number_of s) (ap (λ (y : SlotState W). y.holder) c.2 ∙ holder) in
           let both : Some w.1 ≡ Some p.0 = sym w.3 ∙ p.1 in
           let pendings : w.1 ≡ p.0 = cc in
           let session : w.1.session ≡ number_of s = ap (λ (q : Pending). q.session) pendings ∙ p.2 in
@@ -211,7 +211,7 @@ module _ {W : Type 0} (model : FaultModel W) (boot : Boot) (uncut : boot.cut ≡
           })
 
       -- a turn that begins
-      pub follows_begin : (i k : ℕ) (s new : Session) (changed : List Session) (x : KeptChip W) (op : Op) → first_attaching chips ≡ None → slice_get sessions i
+      pub follows_begin : (i k : ℕ) (s new : Session) (changed : List Session) (x : SlotState W) (op : Op) → first_attaching chips ≡ None → slice_get sessions i
           ≡ Some s
           → first_held_by (number_of s) chips ≡ None → slice_get chips k ≡ Some x → x.holder ≡ None → OneChanged sessions i new changed → IsWaiting new
           → next_op (sizes_of boot starts) (session_run course (number_of s)) ≡ Some op → chip_of boot.partitions (device_of op) ≡ Some k
@@ -224,7 +224,7 @@ module _ {W : Type 0} (model : FaultModel W) (boot : Boot) (uncut : boot.cut ≡
       follows_begin i k s new changed x op attached is_at held at free o waits next of_chip resumed =
           let c = chip_there k x at in
           let known = position_none (λ (d : ChipRun W). is_none d.known) course.chips (unattached_there ∙ attached) k c.0 c.1 in
-          let r = resting boot.partitions c.0 known (ap (λ (y : KeptChip W). y.holder) c.2 ∙ free) in
+          let r = resting boot.partitions c.0 known (ap (λ (y : SlotState W). y.holder) c.2 ∙ free) in
           let is = turn_begins model boot (sizes_of boot starts) course (number_of s) follows.keeps.lit (unattached_there ∙ attached) k c.0 op
           (pending_there (number_of s) attached ∙ held) next of_chip c.1 r.2 in
           let placed_s = placed (sizes_of boot starts) boot.sessions notes sessions course.sessions follows.mirrors i s is_at in

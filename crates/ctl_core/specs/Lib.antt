@@ -1,10 +1,10 @@
 pub mod Past
-pub mod KeptChip
+pub mod SlotState
 pub mod Keeps
 pub mod Sessions
 pub mod Follows
 pub mod Start
 pub mod Answer
 pub mod Flips
-pub mod Bench
+pub mod Board
 pub mod Ended

@@ -5,6 +5,7 @@ use Rattle.chip_paths.specs.ChipRun.{ChipRun, Pending}
 use Rattle.nand_model.specs.declared.geometry.Geometry.{Geometry}
 use Rattle.nand_model.specs.declared.words.Command.{Command}
 use Rattle.command_model.specs.Boot.{Boot}
+use Rattle.turn_laws.specs.Laws.{most_turns}
 use Rattle.run_model.specs.Course.{Course, session_run, course_after, turn_step, sizes_of}
 use Rattle.command_model.specs.Session.{SessionRun, is_finished}
 
@@ -30,6 +31,10 @@ with_turn past session = record past { turns = past.turns ++ session ∷ [] }
 -- the states in which the chips were at the start
 abbrev pub starts_of : {F W : Type 0} → (F → ChipState W) → Past F → List (ChipState W)
 starts_of state past = map state past.started
+
+-- the most turns that do anything
+abbrev pub turn_limit : {F W : Type 0} → (F → ChipState W) → Past F → ℕ
+turn_limit state past = most_turns past.boot (starts_of state past)
 
 -- the sizes of the chips of a controller's commands
 abbrev pub sizes_in : {F W : Type 0} → (F → ChipState W) → Past F → Command → Geometry

@@ -3,7 +3,7 @@ use Rattle.std.specs.Prelude.{◌≡◌, ℕ, List, length, slice_get, Some, [],
 use Rattle.command_model.specs.Session.{SessionRun, without_finished, is_finished}
 use Rattle.session_steps.specs.Standing.{number_of, IsWaiting, standing, commands_by}
 use Rattle.session_steps.specs.Mirrors.{Mirrors, CanAllRun}
-use Rattle.ctl_core.specs.KeptChip.{KeptChip}
+use Rattle.ctl_core.specs.SlotState.{SlotState}
 use Rattle.nand_model.specs.declared.geometry.Geometry.{Geometry}
 use Rattle.nand_model.specs.declared.words.Command.{Command}
 use Rattle.nand_model.specs.declared.words.Note.{Note}
@@ -19,9 +19,9 @@ pub record SessionsMirror (sizes : Command → Geometry) (begun : List (ℕ × L
       → (number_of s ≡ b.0) × Mirrors sizes b.1 notes s run
 
 -- each session that holds a chip waits for a reply
-abbrev pub HoldersWait : {W : Type 0} → List (KeptChip W) → List Session → Type 0
+abbrev pub HoldersWait : {W : Type 0} → List (SlotState W) → List Session → Type 0
 HoldersWait {W} chips sessions =
-    (k i : ℕ) (c : KeptChip W) (s : Session) → slice_get chips k ≡ Some c → slice_get sessions i ≡ Some s → c.holder ≡ Some (number_of s) → IsWaiting s
+    (k i : ℕ) (c : SlotState W) (s : Session) → slice_get chips k ≡ Some c → slice_get sessions i ≡ Some s → c.holder ≡ Some (number_of s) → IsWaiting s
 
 -- a session that has begun nothing
 abbrev pub IsFresh : ℕ → Session → Type 0

@@ -3,15 +3,16 @@ ghost use Rattle.std.specs.Prelude.{◌≡◌, ◌≤◌, ◌+◌, ◌*◌, ◌�
 ghost use Rattle.run_model.specs.Course.{attach_step, end_states, is_idle, is_over, unattached};
 ghost use Rattle.run_model.specs.Run.{AreInOrder, CoursesAreFaithful};
 ghost use Rattle.tool_steps.specs.Boot.{session_number};
-ghost use Rattle.run_model.specs.Start.{boot_cost, CanStart};
+ghost use Rattle.run_model.specs.Start.{CanStart};
 ghost use Rattle.turn_laws.specs.Laws.{blocks_of};
 ghost use Rattle.ctl_core.specs.Answer.{is_did, turn_answer, attach_answer, after_turn, after_attach_turn};
-ghost use Rattle.ctl_core.specs.Ended.{all_bad_blocks, device_statistics, end_of_run, ends_by_notes};
-ghost use Rattle.ctl_core.specs.Past.{at_start, starts_of, sizes_in, course_of, next_course};
+ghost use Rattle.ctl_core.specs.Ended.{all_bad_blocks, end_of_run, ends_by_notes};
+ghost use Rattle.run_model.specs.Statistics.{device_statistics};
+ghost use Rattle.ctl_core.specs.Past.{turn_limit, at_start, starts_of, sizes_in, course_of, next_course};
 ghost use Rattle.ctl_core.specs.Start.{HasSession};
 
 use crate::Turn;
-use crate::bench::Bench;
+use crate::board::Board;
 use crate::ending::{Ended, all_bad, all_statistics, end_all, stop_all};
 use crate::journal::Journal;
 use crate::starting::{first_sessions, first_slots};
@@ -28,7 +29,7 @@ use tool_steps::{ControllerBoot, FlashList};
 #[derive(Drop)]
 pub struct Core<F: Flash, C: PageCode> {
     journal: Journal<F>,
-    bench: Bench<F, C>,
+    board: Board<F, C>,
 }
 
 impl<F: Flash, C: PageCode> Model for Core<F, C> {
@@ -36,11 +37,11 @@ impl<F: Flash, C: PageCode> Model for Core<F, C> {
 
     ghost Value = { Past F };
 
-    ghost use Rattle.ctl_core.specs.Bench.{past_of, IsOnCourse};
+    ghost use Rattle.ctl_core.specs.Board.{past_of, IsOnCourse};
 
     ghost view = { λ c. past_of c.journal };
 
-    ghost invariant = { λ c. IsOnCourse (past_of c.journal) c.bench };
+    ghost invariant = { λ c. IsOnCourse (past_of c.journal) c.board };
 }
 
 impl<F: Flash, C: PageCode> Core<F, C> {
@@ -67,7 +68,7 @@ impl<F: Flash, C: PageCode> Core<F, C> {
                 attaches: 0,
                 turns: Vec::new(alloc),
             },
-            bench: Bench {
+            board: Board {
                 slots,
                 events: 0,
                 notes: History::new(alloc),
@@ -86,11 +87,11 @@ impl<F: Flash, C: PageCode> Core<F, C> {
             ≡ attach_step F.fault_model self.old.boot (sizes_in F.state self.old) (course_of F.fault_model F.state self.old)) }
         ensures few { self.new.attaches ≤ blocks_of (starts_of F.state self.new) }
     {
-        self.bench.notes.reserve(2)?;
-        let Some(k) = self.bench.first_attaching() else {
+        self.board.notes.reserve(2)?;
+        let Some(k) = self.board.first_attaching() else {
             return Ok(Turn::Done);
         };
-        self.bench.do_event(self.journal.boot.faults(), k)?;
+        self.board.do_event(self.journal.boot.faults(), k)?;
         self.journal.attaches += 1;
         Ok(Turn::Did)
     }
@@ -108,11 +109,11 @@ impl<F: Flash, C: PageCode> Core<F, C> {
         ensures past { self.new ≡ after_turn result session self.old }
         ensures step { OnOk result (course_of F.fault_model F.state self.new ≡ next_course F.fault_model F.state self.old session) }
         ensures attached { unattached (course_of F.fault_model F.state self.new) ≡ None }
-        ensures few { length self.new.turns ≤ 8 * boot_cost self.new.boot (starts_of F.state self.new) + 7 * length self.new.started }
+        ensures few { length self.new.turns ≤ turn_limit F.state self.new }
     {
         self.journal.turns.reserve(1)?;
-        self.bench.notes.reserve(2)?;
-        let turn = self.bench.step(&self.journal, session)?;
+        self.board.notes.reserve(2)?;
+        let turn = self.board.step(&self.journal, session)?;
         if let Turn::Did = turn {
             self.journal.turns.push_reserved(session);
         }
@@ -123,7 +124,7 @@ impl<F: Flash, C: PageCode> Core<F, C> {
     pub fn has(&self, session: u32) -> bool
         ensures { IsTrue result ↔ HasSession self.now.boot session }
     {
-        self.bench.place_of(session).is_some()
+        self.board.place_of(session).is_some()
     }
 
     /// The number of the session at place `k`, counted from 0. None comes exactly where there is none.
@@ -139,27 +140,27 @@ impl<F: Flash, C: PageCode> Core<F, C> {
         ensures one_thread { CoursesAreFaithful F.fault_model self.now.boot (starts_of F.state self.now) self.now.attaches self.now.turns }
         ensures in_order { AreInOrder self.now.boot (starts_of F.state self.now) result.now.notes }
     {
-        &self.bench.notes
+        &self.board.notes
     }
 
     /// Whether all chips are attached and the commands of all sessions are over.
     pub fn over(&self) -> bool
         ensures { result ≡ is_over (course_of F.fault_model F.state self.now) }
     {
-        self.bench.is_over(&self.journal)
+        self.board.is_over(&self.journal)
     }
 
     /// The number of sessions.
     pub fn session_count(&self) -> usize
         ensures { result ≡ length self.now.boot.sessions }
     {
-        self.bench.sessions.len()
+        self.board.sessions.len()
     }
 
     /// The number of turns that did something.
     pub fn turn_count(&self) -> usize
         ensures count { result ≡ length self.now.turns }
-        ensures few { result ≤ 8 * boot_cost self.now.boot (starts_of F.state self.now) + 7 * length self.now.started }
+        ensures few { result ≤ turn_limit F.state self.now }
     {
         self.journal.turns.len()
     }
@@ -176,16 +177,16 @@ impl<F: Flash, C: PageCode> Core<F, C> {
         ensures stats { IfOk result (λ ended. ended.stats ≡ device_statistics self.boot.partitions (course_of F.fault_model F.state self)) }
         ensures bad { IfOk result (λ ended. ended.bad ≡ all_bad_blocks self.boot.partitions (course_of F.fault_model F.state self)) }
     {
-        let Core { journal, bench } = self;
+        let Core { journal, board } = self;
         let alloc = *journal.turns.allocator();
-        let stats = all_statistics(alloc, &bench.slots, journal.boot.parts())?;
-        let bad = all_bad(&bench.slots);
-        let Bench {
+        let stats = all_statistics(alloc, &board.slots, journal.boot.parts())?;
+        let bad = all_bad(&board.slots);
+        let Board {
             slots,
             notes,
             sessions,
             ..
-        } = bench;
+        } = board;
         let outcomes = end_all(alloc, sessions, &notes)?;
         let flashes = stop_all(alloc, slots)?;
         Ok(Ended {

@@ -3,10 +3,11 @@ ghost use Rattle.std.specs.Prelude.{◌≡◌, ◌≤◌, ◌<◌, All, length, 
 ghost use Rattle.nand_model.specs.declared.words.Part.{Part as Partition};
 ghost use Rattle.session_steps.specs.Standing.{standing, end_of};
 ghost use Rattle.nand_model.specs.Partitions.{chip_of};
-ghost use Rattle.ctl_core.specs.Ended.{kept_state, kept_bad_blocks, kept_statistics, kept_statistics_at, device_numbers};
-ghost use Rattle.ctl_core.specs.Bench.{kept_slot};
+ghost use Rattle.ctl_core.specs.Ended.{slot_flash, slot_bad_blocks, slot_statistics, slot_statistics_at};
+ghost use Rattle.run_model.specs.Statistics.{device_numbers};
+ghost use Rattle.ctl_core.specs.Board.{slot_state};
 
-use crate::bench::Slot;
+use crate::board::Slot;
 use mtd_part::Parts;
 use nand_iface::{Flash, History, PageCode, Stats};
 use session_steps::{OutcomeList, Session, StatsList};
@@ -33,7 +34,7 @@ pub fn stop_all<F: Flash, C: PageCode>(
     alloc: Global,
     slots: Vec<Slot<F, C>>,
 ) -> Result<FlashList<F>, AllocError>
-    ensures { IfOk result (λ flashes. map F.state flashes ≡ map kept_state (map kept_slot slots.items)) }
+    ensures { IfOk result (λ flashes. map F.state flashes ≡ map slot_flash (map slot_state slots.items)) }
 {
     let mut flashes = FlashList::new(alloc);
     for slot in slots {
@@ -70,7 +71,7 @@ pub fn all_statistics<F: Flash, C: PageCode>(
     parts: &Parts,
 ) -> Result<StatsList, AllocError>
     requires { All (λ (part : Partition). part.chip < length slots.now) parts.now.parts }
-    ensures { IfOk result (λ stats. stats ≡ kept_statistics parts.now (map kept_slot slots.now) (device_numbers parts.now)) }
+    ensures { IfOk result (λ stats. stats ≡ slot_statistics parts.now (map slot_state slots.now) (device_numbers parts.now)) }
 {
     let mut stats = StatsList::new(alloc);
     for n in 0..parts.len() {
@@ -85,7 +86,7 @@ pub fn all_statistics<F: Flash, C: PageCode>(
 // The statistics of a device.
 fn statistics<F: Flash, C: PageCode>(slots: &[Slot<F, C>], parts: &Parts, dev: u32) -> Stats
     requires { All (λ (part : Partition). part.chip < length slots.now) parts.now.parts }
-    ensures { result ≡ kept_statistics_at (map kept_slot slots.now) (chip_of parts.now dev) dev }
+    ensures { result ≡ slot_statistics_at (map slot_state slots.now) (chip_of parts.now dev) dev }
 {
     match parts.get(dev) {
         Some(part) => slots[part.chip as usize].chip.stats(dev),
@@ -99,7 +100,7 @@ fn statistics<F: Flash, C: PageCode>(slots: &[Slot<F, C>], parts: &Parts, dev: u
 // The number of bad blocks of all chips.
 pub fn all_bad<F: Flash, C: PageCode>(slots: &[Slot<F, C>]) -> u32
     requires { length slots.now ≤ 8 }
-    ensures { result ≡ sum_by kept_bad_blocks (map kept_slot slots.now) }
+    ensures { result ≡ sum_by slot_bad_blocks (map slot_state slots.now) }
 {
     let mut bad = 0;
     for slot in slots {

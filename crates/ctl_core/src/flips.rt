@@ -1,9 +1,10 @@
 // The flips that are due before an event.
 ghost use Rattle.std.specs.Prelude.{◌≡◌, ◌+◌, ℕ, All, length, map, OnOk, OnErr, IfSome};
-ghost use Rattle.ctl_core.specs.Bench.{HasRoom, kept_slot};
-ghost use Rattle.ctl_core.specs.Flips.{CanFlip, bit_count, due_flips, kept_flip, kept_flips_before};
+ghost use Rattle.ctl_core.specs.Board.{HasRoom, slot_state};
+ghost use Rattle.ctl_core.specs.Flips.{CanFlip, bit_count, slot_flip, slot_flips_before};
+ghost use Rattle.nand_model.specs.Flips.{due_flips};
 
-use crate::bench::Slot;
+use crate::board::Slot;
 use fault_plan::{Faults, Flip};
 use nand_iface::{Flash, PageCode};
 use std::alloc::AllocError;
@@ -14,9 +15,9 @@ pub fn make_due_flips<F: Flash, C: PageCode>(
     faults: &Faults,
     event: u32,
 ) -> Result<(), AllocError>
-    requires { All (CanFlip (map kept_slot slots.old.items)) faults.now }
-    ensures made { OnOk result (map kept_slot slots.new.items ≡ kept_flips_before F.fault_model faults.now event (map kept_slot slots.old.items)) }
-    ensures no_memory { OnErr result (map kept_slot slots.new.items ≡ map kept_slot slots.old.items) }
+    requires { All (CanFlip (map slot_state slots.old.items)) faults.now }
+    ensures made { OnOk result (map slot_state slots.new.items ≡ slot_flips_before F.fault_model faults.now event (map slot_state slots.old.items)) }
+    ensures no_memory { OnErr result (map slot_state slots.new.items ≡ map slot_state slots.old.items) }
 {
     reserve_for(slots, faults, event)?;
     make_flips(slots, faults, event);
@@ -30,7 +31,7 @@ fn reserve_for<F: Flash, C: PageCode>(
     event: u32,
 ) -> Result<(), AllocError>
     ensures room { OnOk result (All (HasRoom (length (due_flips faults.now event)) (bit_count (due_flips faults.now event))) slots.new.items) }
-    ensures same { map kept_slot slots.new.items ≡ map kept_slot slots.old.items }
+    ensures same { map slot_state slots.new.items ≡ map slot_state slots.old.items }
 {
     let (pages, bits) = due_counts(faults, event).ok_or(AllocError)?;
     for k in 0..slots.len() {
@@ -57,9 +58,9 @@ fn due_counts(faults: &Faults, event: u32) -> Option<(u32, u32)>
 
 // Makes the flips that are due before an event, in the order of their lines.
 fn make_flips<F: Flash, C: PageCode>(slots: &mut Vec<Slot<F, C>>, faults: &Faults, event: u32)
-    requires there { All (CanFlip (map kept_slot slots.old.items)) faults.now }
+    requires there { All (CanFlip (map slot_state slots.old.items)) faults.now }
     requires room { All (HasRoom (length (due_flips faults.now event)) (bit_count (due_flips faults.now event))) slots.old.items }
-    ensures { map kept_slot slots.new.items ≡ kept_flips_before F.fault_model faults.now event (map kept_slot slots.old.items) }
+    ensures { map slot_state slots.new.items ≡ slot_flips_before F.fault_model faults.now event (map slot_state slots.old.items) }
 {
     for n in 0..faults.len() {
         let flip = faults.flip(n);
@@ -71,9 +72,9 @@ fn make_flips<F: Flash, C: PageCode>(slots: &mut Vec<Slot<F, C>>, faults: &Fault
 
 // Makes a flip.
 fn make_flip<F: Flash, C: PageCode>(slots: &mut Vec<Slot<F, C>>, flip: &Flip)
-    requires there { CanFlip (map kept_slot slots.old.items) flip.now }
+    requires there { CanFlip (map slot_state slots.old.items) flip.now }
     requires room { All (HasRoom 1 (length flip.now.bits)) slots.old.items }
-    ensures chips { map kept_slot slots.new.items ≡ kept_flip F.fault_model (map kept_slot slots.old.items) flip.now }
+    ensures chips { map slot_state slots.new.items ≡ slot_flip F.fault_model (map slot_state slots.old.items) flip.now }
     ensures room { (pages bits : ℕ) → All (HasRoom (1 + pages) (length flip.now.bits + bits)) slots.old.items → All (HasRoom pages bits) slots.new.items }
 {
     slots[flip.chip as usize].chip.flip(flip.page, &flip.bits);

@@ -1,7 +1,7 @@
 //! One controller of a boot: its chips, its sessions and its notes, one step a turn.
 #![tactic(auto)]
 
-mod bench;
+mod board;
 mod controller;
 mod ending;
 mod flips;

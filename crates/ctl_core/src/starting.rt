@@ -1,11 +1,11 @@
 // Chips and sessions at the start of a boot.
 ghost use Rattle.std.specs.Prelude.{◌≡◌, All, map, IfOk};
 ghost use Rattle.run_model.specs.Start.{IsPlain};
-ghost use Rattle.ctl_core.specs.KeptChip.{kept_first};
-ghost use Rattle.ctl_core.specs.Bench.{kept_slot};
+ghost use Rattle.ctl_core.specs.SlotState.{slot_first};
+ghost use Rattle.ctl_core.specs.Board.{slot_state};
 ghost use Rattle.ctl_core.specs.Sessions.{AreFresh};
 
-use crate::bench::Slot;
+use crate::board::Slot;
 use chip_core::Chip;
 use nand_iface::{Flash, PageCode};
 use session_steps::Session;
@@ -19,7 +19,7 @@ pub fn first_slots<F: Flash, C: PageCode>(
     code: C,
 ) -> Result<Vec<Slot<F, C>>, AllocError>
     requires { All IsPlain (map F.state flashes) }
-    ensures { IfOk result (λ slots. map kept_slot slots.items ≡ map kept_first (map F.state flashes)) }
+    ensures { IfOk result (λ slots. map slot_state slots.items ≡ map slot_first (map F.state flashes)) }
 {
     let mut rest = flashes;
     let mut slots = Vec::new(alloc);
@@ -36,7 +36,7 @@ fn first_slot<F: Flash, C: PageCode>(
     code: C,
 ) -> Result<Slot<F, C>, AllocError>
     requires { IsPlain (F.state flash) }
-    ensures { IfOk result (λ slot. kept_slot slot ≡ kept_first (F.state flash)) }
+    ensures { IfOk result (λ slot. slot_state slot ≡ slot_first (F.state flash)) }
 {
     Ok(Slot {
         chip: Chip::attach_start(alloc, flash, code)?,

@@ -1,23 +1,23 @@
 // One step of a session.
 ghost use Rattle.std.specs.Prelude.{◌≡◌, ◌≤◌, ◌<◌, ◌-◌, ◌^◌, ◌↔◌, IsTrue, true, not, None, IsSome, is_none, length, slice_get, option_map, OnOk, OnErr, IfOk, IfSome};
-ghost use Rattle.command_model.specs.Command.{command_device};
+ghost use Rattle.nand_model.specs.Partitions.{command_device};
 ghost use Rattle.run_model.specs.Course.{is_idle, is_over, unattached};
 ghost use Rattle.ctl_core.specs.Answer.{is_did, next_chip, turn_answer};
 ghost use Rattle.ctl_core.specs.Sessions.{AreAllDone};
-ghost use Rattle.ctl_core.specs.KeptChip.{KeptChip, first_held_by};
+ghost use Rattle.ctl_core.specs.SlotState.{SlotState, first_held_by};
 ghost use Rattle.ctl_core.specs.Start.{HasSession};
 ghost use Rattle.ctl_core.specs.Past.{Past, course_of, next_course, sizes_in, is_done};
 
 use crate::Turn;
-use crate::bench::Bench;
+use crate::board::Board;
 use crate::journal::Journal;
 use nand_iface::{Flash, Note, PageCode};
 use nand_model::Command;
 use std::alloc::AllocError;
 use tool_steps::ControllerBoot;
 
-impl<F: Flash, C: PageCode> Bench<F, C> {
-    ghost use Rattle.ctl_core.specs.Bench.{kept_chips, finished_at, past_of, IsOnCourse, IsAtTurn, StandsAt};
+impl<F: Flash, C: PageCode> Board<F, C> {
+    ghost use Rattle.ctl_core.specs.Board.{slot_states, finished_at, past_of, IsOnCourse, IsAtTurn, StandsAt};
 
     // One step of a session of the boot, where all chips are attached. Where memory runs out, chips, sessions and notes stand where they stood.
     pub fn step(&mut self, journal: &Journal<F>, session: u32) -> Result<Turn, AllocError>
@@ -73,7 +73,7 @@ impl<F: Flash, C: PageCode> Bench<F, C> {
         session: u32,
     ) -> Result<(), AllocError>
         requires turn { IsAtTurn (past_of journal.now) session place self.old }
-        requires held { first_held_by session (kept_chips self.old) ≡ Some k }
+        requires held { first_held_by session (slot_states self.old) ≡ Some k }
         requires room { 2 ≤ self.old.notes.room }
         ensures stands { OnOk result (StandsAt (past_of journal.now) (next_course F.fault_model F.state (past_of journal.now) session) self.new) }
         ensures no_memory { OnErr result (StandsAt (past_of journal.now) (course_of F.fault_model F.state (past_of journal.now)) self.new) }
@@ -91,7 +91,7 @@ impl<F: Flash, C: PageCode> Bench<F, C> {
         requires finished { IsSome (finished_at self.old k) }
         requires place { place < length self.old.sessions.items }
         requires room { 0 < self.old.notes.room }
-        ensures { (past : Past F) → IsAtTurn past session place self.old → first_held_by session (kept_chips self.old) ≡ Some k → StandsAt past (next_course F.fault_model F.state past session) self.new }
+        ensures { (past : Past F) → IsAtTurn past session place self.old → first_held_by session (slot_states self.old) ≡ Some k → StandsAt past (next_course F.fault_model F.state past session) self.new }
     {
         let reply = self.slots[k].answer();
         let at = self.notes.len();
@@ -108,7 +108,7 @@ impl<F: Flash, C: PageCode> Bench<F, C> {
         session: u32,
     ) -> Result<Turn, AllocError>
         requires turn { IsAtTurn (past_of journal.now) session place self.old }
-        requires free { first_held_by session (kept_chips self.old) ≡ None }
+        requires free { first_held_by session (slot_states self.old) ≡ None }
         requires room { 0 < self.old.notes.room }
         ensures answer { IfOk result (λ turn. turn ≡ turn_answer journal.now.boot.partitions (sizes_in F.state (past_of journal.now)) (course_of F.fault_model F.state (past_of journal.now)) session) }
         ensures idle { IfOk result (λ turn. is_did turn ≡ not (is_idle journal.now.boot.partitions (sizes_in F.state (past_of journal.now)) (course_of F.fault_model F.state (past_of journal.now)) session)) }
@@ -135,7 +135,7 @@ impl<F: Flash, C: PageCode> Bench<F, C> {
         let _ = session;
         let commands = journal.boot.commands(place);
         let command = self.sessions[place].next_command(commands, &self.notes)?;
-        let part = journal.boot.parts().get(device_of(command))?;
+        let part = journal.boot.parts().get(command.device())?;
         Some(part.chip as usize)
     }
 
@@ -148,9 +148,9 @@ impl<F: Flash, C: PageCode> Bench<F, C> {
         session: u32,
     ) -> Result<(), AllocError>
         requires turn { IsAtTurn (past_of journal.now) session place self.old }
-        requires none { first_held_by session (kept_chips self.old) ≡ None }
+        requires none { first_held_by session (slot_states self.old) ≡ None }
         requires chip { next_chip journal.now.boot.partitions (sizes_in F.state (past_of journal.now)) (course_of F.fault_model F.state (past_of journal.now)) session ≡ Some k }
-        requires free { option_map (λ (c : KeptChip F.FaultState). c.holder) (slice_get (kept_chips self.old) k) ≡ Some None }
+        requires free { option_map (λ (c : SlotState F.FaultState). c.holder) (slice_get (slot_states self.old) k) ≡ Some None }
         requires room { 0 < self.old.notes.room }
         ensures stands { OnOk result (StandsAt (past_of journal.now) (next_course F.fault_model F.state (past_of journal.now) session) self.new) }
         ensures no_memory { OnErr result (StandsAt (past_of journal.now) (course_of F.fault_model F.state (past_of journal.now)) self.new) }
@@ -161,20 +161,5 @@ impl<F: Flash, C: PageCode> Bench<F, C> {
         self.slots[k].begin(session, journal.boot.parts(), &op)?;
         self.notes.push(Note::Began { session, op });
         Ok(())
-    }
-}
-
-// The device of a command.
-fn device_of(command: &Command) -> u32
-    ensures { result ≡ command_device command.now }
-{
-    match command {
-        Command::FlashErase { dev, .. } => *dev,
-        Command::NandWrite { dev, .. } => *dev,
-        Command::NandDump { dev, .. } => *dev,
-        Command::NandTest { dev, .. } => *dev,
-        Command::MarkBad { dev, .. } => *dev,
-        Command::IsBad { dev, .. } => *dev,
-        Command::Stats { dev, .. } => *dev,
     }
 }

@@ -5,10 +5,9 @@ use Rattle.nand_model.specs.Flips.{FitsBits}
 use Rattle.nand_model.specs.Chip.{ChipState}
 use Rattle.nand_model.specs.declared.words.Command.{Command}
 use Rattle.nand_model.specs.declared.words.Flip.{Flip}
-use Rattle.nand_model.specs.Partitions.{part_of}
+use Rattle.nand_model.specs.Partitions.{part_of, command_device}
 use Rattle.command_model.specs.Runnable.{CanRun, ErasesAll, DumpsOnePage}
 use Rattle.command_model.specs.Command.{command_blocks}
-use Rattle.command_model.specs.Command.{command_device}
 use Rattle.command_model.specs.Boot.{Boot, AreAscending}
 use Rattle.run_model.specs.Course.{sizes_of}
 use Rattle.run_model.specs.Start.{boot_cost, CanRunBoot, CanStart, IsPlain, IsOnChip, IsOfDevice, IsOnFlash}

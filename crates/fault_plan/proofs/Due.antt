@@ -5,7 +5,8 @@ use Rattle.std.specs.List.{position_from}
 use Rattle.std.proofs.lemmas.List.{length-drop}
 use Rattle.std.proofs.Math.Seq.{drop-nil}
 use Rattle.nand_model.specs.declared.words.Flip.{Flip}
-use Rattle.fault_plan.specs.Due.{is_due, first_due}
+use Rattle.nand_model.specs.Flips.{is_due}
+use Rattle.fault_plan.specs.Due.{first_due}
 
 none_after : (flips : List Flip) (event start : ℕ) → position_from (is_due event) start flips ≡ None → filter (is_due event) flips ≡ []
 none_after [] event start none = refl

@@ -1,11 +1,8 @@
 -- Which flips are due before a page event.
-use Rattle.std.specs.Prelude.{ℕ, Bool, ◌==◌, List, drop, Option}
+use Rattle.std.specs.Prelude.{ℕ, List, drop, Option}
 use Rattle.std.specs.List.{position_from}
+use Rattle.nand_model.specs.Flips.{is_due}
 use Rattle.nand_model.specs.declared.words.Flip.{Flip}
-
--- the flip's bits turn over before this event
-abbrev pub is_due : ℕ → Flip → Bool
-is_due event flip = flip.before == event
 
 -- the first place at or after `from` of a flip that is due
 abbrev pub first_due : List Flip → (event from : ℕ) → Option ℕ

@@ -1,7 +1,8 @@
 -- Flips of bits of a page. Bit k of a page is in byte k / 8, and k mod 8 = 0 is its highest bit.
-use Rattle.std.specs.Prelude.{ℕ, ◌-◌, ◌/◌, ◌%◌, ◌^◌, ◌&&◌, nat_le, nat_lt, List, count_by, slice_index, slice_set, bit_xor, fold, ◌*◌, ◌<◌, All}
+use Rattle.std.specs.Prelude.{ℕ, ◌-◌, ◌/◌, ◌%◌, ◌^◌, ◌&&◌, nat_le, nat_lt, List, count_by, slice_index, slice_set, bit_xor, fold, ◌*◌, ◌<◌, All, Bool, ◌==◌, filter}
 use Rattle.nand_model.specs.Sizes.{page_count, raw_len}
 use Rattle.nand_model.specs.declared.geometry.Geometry.{Geometry}
+use Rattle.nand_model.specs.declared.words.Flip.{Flip}
 
 -- the page with bit k turned
 abbrev pub with_bit_turned : List ℕ → ℕ → List ℕ
@@ -19,3 +20,11 @@ with_bits_turned cells bits = fold with_bit_turned cells bits
 pub record FitsBits (g : Geometry) (page : ℕ) (bits : List ℕ) : Type 0 where
   pub page_there : page < page_count g
   pub bits_there : All (λ bit. bit < 8 * raw_len g) bits
+
+-- the flip's bits turn over before this event
+abbrev pub is_due : ℕ → Flip → Bool
+is_due event flip = flip.before == event
+
+-- the flips that are due before an event, in the order of their lines
+abbrev pub due_flips : List Flip → ℕ → List Flip
+due_flips flips event = filter (is_due event) flips

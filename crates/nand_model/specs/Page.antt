@@ -102,9 +102,8 @@ pub record FillsPlaces (g : Geometry) (body free : List ℕ) : Type 0 where
   pub body_length : length body ≡ g.page
   pub free_length : 2 + length free ≡ parity_start g
 
--- body and free bytes that fill their places in a page
+-- bytes that fill their places in a page
 pub record FillsPage (g : Geometry) (body free : List ℕ) : Type 0 where
-  pub body_length : length body ≡ g.page
-  pub free_length : length free ≡ parity_start g - 2
+  pub places : FillsPlaces g body free
   pub body_bytes : All (λ byte. byte < 256) body
   pub free_bytes : All (λ byte. byte < 256) free

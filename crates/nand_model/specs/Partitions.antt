@@ -3,6 +3,8 @@ use Rattle.std.specs.Prelude.{ℕ, List, ◌-◌, nat_lt, if◌then◌else◌, s
 use Rattle.nand_model.specs.declared.words.Part.{Part}
 use Rattle.nand_model.specs.declared.words.Op.{Op}
 use Rattle.nand_model.specs.declared.words.Op.TheVariants.{Read, Write, RawRead, RawWrite, Erase, IsBad, Mark, Stats}
+use Rattle.nand_model.specs.declared.words.Command.{Command}
+use Rattle.nand_model.specs.declared.words.Command.TheVariants.{FlashErase, NandWrite, NandDump, NandTest, MarkBad, IsBad as AskBad, Stats as AskStats}
 
 -- the partitions of one controller by device number, from a first number on
 pub record Partitions : Type 0 where
@@ -34,3 +36,13 @@ chip_of partitions dev = chip_of_part (part_of partitions dev)
 -- a partition has at least one block, and all of its blocks are among so many of its chip
 abbrev pub LiesWithin : ℕ → Part → Type 0
 LiesWithin blocks part = (0 < part.count) × (part.start + part.count ≤ blocks)
+
+-- the device that a command names
+abbrev pub command_device : Command → ℕ
+command_device (FlashErase dev blocks no_scan start count) = dev
+command_device (NandWrite dev blocks mark raw oob pad off bytes) = dev
+command_device (NandDump dev blocks off len raw oob bad) = dev
+command_device (NandTest dev blocks keep mark seed passes off len) = dev
+command_device (MarkBad dev blocks block) = dev
+command_device (AskBad dev blocks block) = dev
+command_device (AskStats dev blocks) = dev

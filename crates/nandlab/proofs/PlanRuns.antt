@@ -36,7 +36,8 @@ use Rattle.several_chip_plan.specs.declared.lines.PlanLines.{PlanLines}
 use Rattle.chips_boot.specs.Ready.{the_boot, the_chips}
 use Rattle.chips_boot.proofs.Devices.{length-parts_by}
 use Rattle.session_steps.specs.Ended.{EndOfSession}
-use Rattle.ctl_core.specs.Ended.{end_by_notes, ends_by_notes, statistics_at}
+use Rattle.ctl_core.specs.Ended.{end_by_notes, ends_by_notes}
+use Rattle.run_model.specs.Statistics.{statistics_at}
 use Rattle.run_model.specs.Start.{CanStart}
 use Rattle.ctl_core.specs.Start.{HasSession}
 use Rattle.ctl_core.proofs.LastStates.{mapped_push}

@@ -5,7 +5,8 @@ use Rattle.nand_model.specs.declared.words.Note.{Note}
 use Rattle.nand_model.specs.declared.words.Stats.{Stats}
 use Rattle.run_model.specs.Course.{Course}
 use Rattle.session_steps.specs.Ended.{EndOfSession}
-use Rattle.ctl_core.specs.Ended.{device_statistics, ends_by_notes}
+use Rattle.run_model.specs.Statistics.{device_statistics}
+use Rattle.ctl_core.specs.Ended.{ends_by_notes}
 use Rattle.session_run.specs.Replay.{IsReplayed}
 use Rattle.several_chip_plan.specs.declared.lines.PlanLines.{PlanLines}
 use Rattle.chips_boot.specs.Ready.{the_boot, the_chips}

@@ -1,7 +1,7 @@
 // The lines of finished commands, of sessions and of devices, appended to a text.
 ghost use Rattle.std.specs.Prelude.{◌≡◌, ◌≤◌, ◌∷◌, ◌++◌, ◌^◌, ℕ, [], length, map, All, flat_map, take, OnOk, IfOk, string_bytes, codes, decimal};
 ghost use Rattle.report_model.specs.Report.{block_text, device_name, ending_text, line, outcome_lines, outcome_text, reply_text};
-ghost use Rattle.command_model.specs.Command.{command_device};
+ghost use Rattle.nand_model.specs.Partitions.{command_device};
 ghost use Rattle.several_chip_plan.specs.SeveralChips.{IsCommand, command_of};
 ghost use Rattle.nandlab.specs.Ends.{ended_text, device_text};
 
@@ -20,21 +20,6 @@ fn ending_words(ending: Ending) -> &'static str
         Ending::Whole => "",
         Ending::NoSpace => ", no space",
         Ending::MarkerByte => ", marker byte",
-    }
-}
-
-// The device of a command.
-fn device_of(command: &Command) -> u32
-    ensures { result ≡ command_device command.now }
-{
-    match command {
-        Command::FlashErase { dev, .. } => *dev,
-        Command::NandWrite { dev, .. } => *dev,
-        Command::NandDump { dev, .. } => *dev,
-        Command::NandTest { dev, .. } => *dev,
-        Command::MarkBad { dev, .. } => *dev,
-        Command::IsBad { dev, .. } => *dev,
-        Command::Stats { dev, .. } => *dev,
     }
 }
 
@@ -153,7 +138,7 @@ fn put_replied(
     ensures { OnOk result (out.new ≡ out.old ++ line (name.now ++ codes " " ++ device_name (command_device command.now)
         ++ 32 ∷ block_text command.now ++ codes ": " ++ reply_text reply.now)) }
 {
-    let dev = device_of(command);
+    let dev = command.device();
     let block = block_words(alloc, command)?;
     let text = format!(in alloc; "{name} mtd{dev} {block}: ")?;
     put_text(out, text.as_str())?;
@@ -188,7 +173,7 @@ pub fn put_outcome(
 ) -> Result<(), AllocError>
     ensures { OnOk result (out.new ≡ out.old ++ outcome_text command.now outcome.now) }
 {
-    let dev = device_of(command);
+    let dev = command.device();
     match outcome {
         Outcome::FlashErase {
             erased,

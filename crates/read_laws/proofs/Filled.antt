@@ -70,8 +70,8 @@ page_image-long g body free fills =
     let marks : List ℕ = 0xff ∷ 0xff ∷ [] in
     let parities = flat_map-long stored (parity_bytes g) 0 (step_count g) (λ s. length-parity_stored g.t (step_body g body s)) in
     let room = parities-room g in
-    let lb = fills.body_length in
-    let lf = fills.free_length in
+    let lb = fills.places.body_length in
+    let lf = fills.places.free_length in
     let all = length-append ((body ++ marks) ++ free) (flat_map stored (numbers_from 0 (step_count g))) in
     let front = length-append (body ++ marks) free in
     let head = length-append body marks in
@@ -114,10 +114,10 @@ module _ {W : Type 0} (model : FaultModel W) (s : ChipState W) where
       let image = page_image g body free in
       let now : PageState = (after_trace model s trace).pages page in
       let room = (parities-room g).0 in
-      let lf = fills.free_length in
+      let lf = fills.places.free_length in
       let near : IsNearImage g image now.cells = (λ step below.
       let wrong = few_wrong trace page image fresh (page_image-long g body free fills) filled step below in
       let flips = few step below in
       omega arith) in
       from_decoding g image now.cells
-      (gives_back g body free now.cells fills.body_length (omega arith) (close trace page image fresh filled).whole fills.body_bytes near)
+      (gives_back g body free now.cells fills.places.body_length (omega arith) (close trace page image fresh filled).whole fills.body_bytes near)

@@ -8,13 +8,12 @@
 use Rattle.std.specs.Prelude.{ℕ, List, [], ◌∷◌, ◌++◌, codes, decimal, zero, suc, take, drop, ◌+◌, ◌/◌, length, if◌then◌else◌, bytes_eq, ◌*◌, flat_map, ◌==◌, Bool, true, false, sum_by, slice_index_or, map, ◌≡◌, replicate, refl}
 use Rattle.std.specs.Int.{to_be_bytes, w32}
 use Rattle.hex.specs.Hex.{encode_lower}
-use Rattle.command_model.specs.Command.{command_device}
+use Rattle.nand_model.specs.Partitions.{command_device, Partitions}
 use Rattle.command_model.specs.Session.{SessionRun, without_finished, exchanges_of, session_after}
 use Rattle.command_model.specs.Reads.{corrected_of, failed_of, reads_of}
 use Rattle.plan_model.specs.Plan.{PlanData, ChipPlan, devices_of, SessionPlan, BootPlan}
 use Rattle.command_model.specs.Boot.{geometry_for}
 use Rattle.nand_model.specs.Sizes.{numbers_from}
-use Rattle.nand_model.specs.Partitions.{Partitions}
 use Rattle.nand_model.specs.declared.words.Op.{Op}
 use Rattle.nand_model.specs.declared.words.Op.TheVariants.{Read, Write, RawRead, RawWrite, Erase, IsBad, Mark, Stats}
 use Rattle.nand_model.specs.declared.words.Which.{Which}

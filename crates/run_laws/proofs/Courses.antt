@@ -18,7 +18,7 @@ use Rattle.chip_paths.specs.ChipRun.{ChipRun, Pending, next_event_by, next_chip_
 use Rattle.command_model.specs.Boot.{Boot, change_at}
 use Rattle.run_model.specs.Course.{Course, sizes_of, with_flip, with_flips_before}
 use Rattle.command_model.specs.Session.{SessionRun}
-use Rattle.run_model.specs.Log.{Log, flips_of, due_flips, befalls}
+use Rattle.run_model.specs.Log.{Log, flips_of, due_events, befalls}
 use Rattle.run_model.specs.History.{notes_of_chip, AreOfChips}
 use Rattle.run_laws.proofs.Traces.{geometry_after}
 use Rattle.run_laws.proofs.ChipNotes.{lasts, AreOf, chip_notes-append}
@@ -133,7 +133,7 @@ module _ {W : Type 0} (model : FaultModel W) (boot : Boot) (starts : List (ChipS
   by_log log k s = befalls boot k (raw_len s.geometry) 1 log
 
   abbrev pub with_due : ℕ → Befallen → Befallen
-  with_due n w k s = w k s ++ due_flips boot k n
+  with_due n w k s = w k s ++ due_events boot k n
 
   -- a log of a course so far
   pub record IsLog (course : Course W) (log : Log) : Type 0 where

@@ -19,7 +19,7 @@ use Rattle.command_model.specs.Boot.{Boot, change_at}
 use Rattle.run_model.specs.Course.{Course, with_flips_before, tear_at, event_done, event_on, sizes_of}
 use Rattle.command_model.specs.Session.{SessionRun, exchanges_of}
 use Rattle.run_model.specs.History.{LastChips, AreOfChips, notes_of_chip, notes_of_event, events_in}
-use Rattle.run_model.specs.Log.{Log, due_flips, torn_by_cut, befalls}
+use Rattle.run_model.specs.Log.{Log, due_events, torn_by_cut, befalls}
 use Rattle.run_laws.proofs.Traces.{geometry_after, geometry_happens}
 use Rattle.run_laws.proofs.ChipNotes.{of_chips-append, lasts, lasts-append, AreOf, nothing_is_of, torn_are_of, torn_last, torn_exchanges, one_is_of, both_are_of, exchanges-append}
 use Rattle.run_laws.proofs.Life.{IsAttaching, IsPerforming, ChipLaw, ChipLawAt, ChipEnd}
@@ -55,11 +55,11 @@ attach_notes_exchanges session k c (Some before) = refl
 
 -- what befell whom, by a log with one more event
 module _ (boot : Boot) where
-  after_own : (k raw : ℕ) (log : Log) (e : PageEvent) → befalls boot k raw 1 (log ++ (k, e) ∷ []) ≡ befalls boot k raw 1 log ++ due_flips boot k (1 + length log) ++ (1 + length log, torn_by_cut raw e (tear_at boot.cut (1 + length log))) ∷ []
-  after_own k raw log e = befalls-more boot k raw 1 log (k, e) ∙ ap (λ zs. befalls boot k raw 1 log ++ due_flips boot k (1 + length log) ++ zs) (own_here boot k raw (1 + length log) e)
+  after_own : (k raw : ℕ) (log : Log) (e : PageEvent) → befalls boot k raw 1 (log ++ (k, e) ∷ []) ≡ befalls boot k raw 1 log ++ due_events boot k (1 + length log) ++ (1 + length log, torn_by_cut raw e (tear_at boot.cut (1 + length log))) ∷ []
+  after_own k raw log e = befalls-more boot k raw 1 log (k, e) ∙ ap (λ zs. befalls boot k raw 1 log ++ due_events boot k (1 + length log) ++ zs) (own_here boot k raw (1 + length log) e)
 
-  after_other : (j k raw : ℕ) (log : Log) (e : PageEvent) → (k ≡ j → ⊥) → befalls boot j raw 1 (log ++ (k, e) ∷ []) ≡ befalls boot j raw 1 log ++ due_flips boot j (1 + length log)
-  after_other j k raw log e d = befalls-more boot j raw 1 log (k, e) ∙ ap (λ zs. befalls boot j raw 1 log ++ due_flips boot j (1 + length log) ++ zs) (own_elsewhere boot j k raw (1 + length log) e d) ∙ append-nil _
+  after_other : (j k raw : ℕ) (log : Log) (e : PageEvent) → (k ≡ j → ⊥) → befalls boot j raw 1 (log ++ (k, e) ∷ []) ≡ befalls boot j raw 1 log ++ due_events boot j (1 + length log)
+  after_other j k raw log e d = befalls-more boot j raw 1 log (k, e) ∙ ap (λ zs. befalls boot j raw 1 log ++ due_events boot j (1 + length log) ++ zs) (own_elsewhere boot j k raw (1 + length log) e d) ∙ append-nil _
 
 module _ {W : Type 0} (model : FaultModel W) (partitions : Partitions) where
   -- one more event of a chip in good order
@@ -152,13 +152,13 @@ module _ {W : Type 0} (model : FaultModel W) (boot : Boot) (starts : List (ChipS
   own_whole : (course : Course W) (log : Log) (k : ℕ) (e : PageEvent) → IsLog model boot starts course log → (s : ChipState W) (o : Option Tear) → tear_at boot.cut (course.events + 1) ≡ o
       → by_log model boot starts (log ++ (k, e) ∷ []) k s ≡ with_due model boot starts (course.events + 1) (by_log model boot starts log) k s ++ (course.events + 1, torn_by_cut (raw_len s.geometry) e o) ∷ []
   own_whole course log k e is_log s o t = after_own boot k (raw_len s.geometry) log e
-      ∙ ap (λ m. befalls boot k (raw_len s.geometry) 1 log ++ due_flips boot k m ++ (m, torn_by_cut (raw_len s.geometry) e (tear_at boot.cut m)) ∷ []) (number_is course log is_log)
-      ∙ ap (λ z. befalls boot k (raw_len s.geometry) 1 log ++ due_flips boot k (course.events + 1) ++ (course.events + 1, torn_by_cut (raw_len s.geometry) e z) ∷ []) t
+      ∙ ap (λ m. befalls boot k (raw_len s.geometry) 1 log ++ due_events boot k m ++ (m, torn_by_cut (raw_len s.geometry) e (tear_at boot.cut m)) ∷ []) (number_is course log is_log)
+      ∙ ap (λ z. befalls boot k (raw_len s.geometry) 1 log ++ due_events boot k (course.events + 1) ++ (course.events + 1, torn_by_cut (raw_len s.geometry) e z) ∷ []) t
 
   other_whole : (course : Course W) (log : Log) (k j : ℕ) (e : PageEvent) → IsLog model boot starts course log → (k ≡ j → ⊥) → (s : ChipState W)
       → by_log model boot starts (log ++ (k, e) ∷ []) j s ≡ with_due model boot starts (course.events + 1) (by_log model boot starts log) j s
   other_whole course log k j e is_log d s = after_other boot j k (raw_len s.geometry) log e d
-      ∙ ap (λ m. befalls boot j (raw_len s.geometry) 1 log ++ due_flips boot j m) (number_is course log is_log)
+      ∙ ap (λ m. befalls boot j (raw_len s.geometry) 1 log ++ due_events boot j m) (number_is course log is_log)
 
   -- a chip of the course is one of the start
   pub chip_is_there : (P : ℕ → ChipState W → ChipRun W → List Note → Type 0) (chips : List (ChipRun W)) (notes : List Note) (k : ℕ) (c : ChipRun W)

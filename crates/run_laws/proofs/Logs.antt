@@ -5,21 +5,21 @@ use Rattle.std.proofs.lemmas.Bool.{eq-eqb, ne_eqb}
 use Rattle.nand_model.specs.Chip.{ChipEvent, PageEvent}
 use Rattle.command_model.specs.Boot.{Boot}
 use Rattle.run_model.specs.Course.{tear_at}
-use Rattle.run_model.specs.Log.{Log, due_flips, torn_by_cut, befalls}
+use Rattle.run_model.specs.Log.{Log, due_events, torn_by_cut, befalls}
 
 -- the event itself, on its own chip
 abbrev pub own_event : Boot → ℕ → ℕ → ℕ → ℕ × PageEvent → List (ℕ × ChipEvent)
 own_event boot k raw n x = if x.0 == k then (n, torn_by_cut raw x.1 (tear_at boot.cut n)) ∷ [] else []
 
 pub befalls-more : (boot : Boot) (k raw n : ℕ) (log : Log) (x : ℕ × PageEvent)
-    → befalls boot k raw n (log ++ x ∷ []) ≡ befalls boot k raw n log ++ due_flips boot k (n + length log) ++ own_event boot k raw (n + length log) x
+    → befalls boot k raw n (log ++ x ∷ []) ≡ befalls boot k raw n log ++ due_events boot k (n + length log) ++ own_event boot k raw (n + length log) x
 befalls-more boot k raw n [] x =
-    append-nil _ ∙ ap (λ m. due_flips boot k m ++ own_event boot k raw m x) (omega arith)
+    append-nil _ ∙ ap (λ m. due_events boot k m ++ own_event boot k raw m x) (omega arith)
 befalls-more boot k raw n (y ∷ log) x =
-    ap (λ zs. due_flips boot k n ++ own_event boot k raw n y ++ zs) (befalls-more boot k raw (n + 1) log x)
-    ∙ sym (append_assoc (due_flips boot k n ++ own_event boot k raw n y) _ _)
-    ∙ ap (λ zs. zs ++ own_event boot k raw (n + 1 + length log) x) (sym (append_assoc (due_flips boot k n ++ own_event boot k raw n y) _ _))
-    ∙ ap (λ m. befalls boot k raw n (y ∷ log) ++ due_flips boot k m ++ own_event boot k raw m x) same
+    ap (λ zs. due_events boot k n ++ own_event boot k raw n y ++ zs) (befalls-more boot k raw (n + 1) log x)
+    ∙ sym (append_assoc (due_events boot k n ++ own_event boot k raw n y) _ _)
+    ∙ ap (λ zs. zs ++ own_event boot k raw (n + 1 + length log) x) (sym (append_assoc (due_events boot k n ++ own_event boot k raw n y) _ _))
+    ∙ ap (λ m. befalls boot k raw n (y ∷ log) ++ due_events boot k m ++ own_event boot k raw m x) same
   where
     same : n + 1 + length log ≡ n + suc (length log)
     same = omega arith

@@ -3,8 +3,7 @@ use Rattle.std.specs.Prelude.{◌≡◌, ℕ, ◌+◌, List, [], ◌∷◌, ◌+
 use Rattle.run_model.specs.Course.{Course, is_idle, turn_step, unattached, attach_step, sizes_of, turns_taken, is_over}
 use Rattle.nand_model.specs.Chip.{FaultModel, ChipState}
 use Rattle.command_model.specs.Boot.{Boot}
-use Rattle.command_model.specs.Command.{command_device}
-use Rattle.nand_model.specs.Partitions.{chip_of}
+use Rattle.nand_model.specs.Partitions.{command_device, chip_of}
 use Rattle.run_model.specs.History.{IsThere}
 use Rattle.nand_model.specs.declared.words.Note.{Note}
 use Rattle.nand_model.specs.declared.words.Note.TheVariants.{Began, Answered}

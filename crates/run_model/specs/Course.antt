@@ -1,5 +1,5 @@
 -- The course of a controller in a boot: first its chips are attached, one page event a step, and then each turn of a session does one step.
-use Rattle.std.specs.Prelude.{ℕ, Bool, List, ◌==◌, if◌then◌else◌, Option, Some, None, find, false, position, is_none, [], ◌∷◌, ◌++◌, slice_get, not, ◌&&◌, ◌||◌, is_some, ◌+◌, true, filter, fold, map, zero, suc, ◌≡◌}
+use Rattle.std.specs.Prelude.{ℕ, Bool, List, ◌==◌, if◌then◌else◌, Option, Some, None, find, false, position, is_none, [], ◌∷◌, ◌++◌, slice_get, not, ◌&&◌, ◌||◌, is_some, ◌+◌, true, fold, map, zero, suc, ◌≡◌}
 use Rattle.std.specs.List.{list_all}
 use Rattle.chip_paths.specs.ChipRun.{ChipRun, Pending, with_pending, with_finished, finished_by, next_chip_event, attach_notes, with_flips, advanced, torn_at, notes_of_advance, notes_of_cut, chip_at_start}
 use Rattle.command_model.specs.Session.{SessionRun, replied, next_op, without_finished, is_finished}
@@ -7,6 +7,7 @@ use Rattle.command_model.specs.Boot.{change_at, Boot, geometry_for}
 use Rattle.chip_paths.specs.Operation.{Finished, Known}
 use Rattle.nand_model.specs.Partitions.{Partitions, device_of, chip_of}
 use Rattle.nand_model.specs.Sizes.{raw_len}
+use Rattle.nand_model.specs.Flips.{due_flips}
 use Rattle.nand_model.specs.Chip.{FaultModel, PageEvent, done_bits, ChipState}
 use Rattle.nand_model.specs.declared.words.Note.{Note}
 use Rattle.nand_model.specs.declared.tear.Tear.{Tear}
@@ -93,7 +94,7 @@ module _ {W : Type 0} (model : FaultModel W) (boot : Boot) where
   with_flip chips flip = change_at chips flip.chip (λ c. with_flips model c flip.page flip.bits)
 
   abbrev pub with_flips_before : ℕ → List (ChipRun W) → List (ChipRun W)
-  with_flips_before n chips = fold with_flip chips (filter (λ (flip : Flip). flip.before == n) boot.flips)
+  with_flips_before n chips = fold with_flip chips (due_flips boot.flips n)
 
   -- event n, on chip k: whole, or torn by the cut, after which the controller is dark
   abbrev pub event_done : Course W → List (ChipRun W) → ℕ → ℕ → ChipRun W → PageEvent → Option Tear → Course W

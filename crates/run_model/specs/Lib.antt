@@ -7,3 +7,4 @@ pub mod Run
 pub mod Laws
 pub mod Survival
 pub mod Start
+pub mod Statistics

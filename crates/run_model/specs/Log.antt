@@ -3,6 +3,7 @@ use Rattle.std.specs.Prelude.{◌≡◌, ℕ, ◌+◌, ◌<◌, ◌==◌, if◌t
 use Rattle.nand_model.specs.declared.tear.Tear.{Tear}
 use Rattle.nand_model.specs.declared.words.Flip.{Flip}
 use Rattle.nand_model.specs.Sizes.{raw_len}
+use Rattle.nand_model.specs.Flips.{due_flips}
 use Rattle.nand_model.specs.Chip.{ChipState, FaultModel, ChipEvent, Complete, PowerCut, Flipped, PageEvent, done_bits, after_trace}
 use Rattle.command_model.specs.Boot.{Boot}
 use Rattle.run_model.specs.Course.{Course, end_states, tear_at}
@@ -17,8 +18,8 @@ abbrev pub flips_of : ℕ → ℕ → List Flip → List (ℕ × ChipEvent)
 flips_of k n flips = flat_map (λ (flip : Flip). if flip.chip == k then map (λ bit. (n, Flipped flip.page bit)) flip.bits else []) flips
 
 -- the flips of chip k that are due before event n
-abbrev pub due_flips : Boot → ℕ → ℕ → List (ℕ × ChipEvent)
-due_flips boot k n = flips_of k n (filter (λ (flip : Flip). flip.before == n) boot.flips)
+abbrev pub due_events : Boot → ℕ → ℕ → List (ℕ × ChipEvent)
+due_events boot k n = flips_of k n (due_flips boot.flips n)
 
 -- a page event, torn where the cut names it
 abbrev pub torn_by_cut : ℕ → PageEvent → Option Tear → ChipEvent
@@ -29,7 +30,7 @@ torn_by_cut raw e (Some tear) = PowerCut e (done_bits raw tear)
 abbrev pub befalls : Boot → ℕ → ℕ → ℕ → Log → List (ℕ × ChipEvent)
 befalls boot k raw n [] = []
 befalls boot k raw n (x ∷ log) =
-    due_flips boot k n ++ (if x.0 == k then (n, torn_by_cut raw x.1 (tear_at boot.cut n)) ∷ [] else []) ++ befalls boot k raw (n + 1) log
+    due_events boot k n ++ (if x.0 == k then (n, torn_by_cut raw x.1 (tear_at boot.cut n)) ∷ [] else []) ++ befalls boot k raw (n + 1) log
 
 -- these lives are what befell the chips of a boot by this list, and they lead to these states
 pub record AreOfLog {W : Type 0} (model : FaultModel W) (boot : Boot) (starts : List (ChipState W)) (lives : List ChipBoot) (ends : List (ChipState W)) (log : Log) : Type 0 where

@@ -5,8 +5,7 @@ use Rattle.command_model.specs.Boot.{Boot, AreAscending}
 use Rattle.run_model.specs.Course.{sizes_of}
 use Rattle.command_model.specs.Cost.{sessions_cost}
 use Rattle.command_model.specs.Runnable.{CanRun}
-use Rattle.nand_model.specs.Partitions.{LiesWithin, Partitions, part_of}
-use Rattle.command_model.specs.Command.{command_device}
+use Rattle.nand_model.specs.Partitions.{LiesWithin, Partitions, part_of, command_device}
 use Rattle.command_model.specs.Command.{command_blocks}
 use Rattle.nand_model.specs.Flips.{FitsBits}
 use Rattle.nand_model.specs.declared.words.Command.{Command}

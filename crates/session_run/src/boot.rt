@@ -1,8 +1,8 @@
 // A controller's boot, replayed.
 ghost use Rattle.std.specs.Prelude.{◌≡◌, ◌<◌, ◌≤◌, ◌+◌, ◌*◌, [], None, false, All, length, IfOk, OnOk, OnErr};
 ghost use Rattle.run_model.specs.Course.{is_over, turns_taken, unattached};
-ghost use Rattle.run_model.specs.Start.{boot_cost, CanStart};
-ghost use Rattle.ctl_core.specs.Past.{starts_of, course_of};
+ghost use Rattle.run_model.specs.Start.{CanStart};
+ghost use Rattle.ctl_core.specs.Past.{turn_limit, starts_of, course_of};
 ghost use Rattle.ctl_core.specs.Start.{HasSession};
 ghost use Rattle.session_run.specs.Replay.{IsReplayed, IsOfTheSameStart, TakesTurn, session_numbers};
 
@@ -68,7 +68,7 @@ fn take_round<F: Flash, C: PageCode>(core: &mut Core<F, C>) -> Result<(), AllocE
     ensures same { IsOfTheSameStart core.old core.new }
     ensures attaches { core.new.attaches ≡ core.old.attaches }
     ensures more { OnOk result (length core.old.turns < length core.new.turns) }
-    ensures few { OnOk result (length core.new.turns ≤ 8 * boot_cost core.new.boot (starts_of F.state core.new) + 7 * length core.new.started) }
+    ensures few { OnOk result (length core.new.turns ≤ turn_limit F.state core.new) }
 {
     for k in 0..core.session_count() {
         take_turn_at(core, k)?;

@@ -9,8 +9,8 @@ use Rattle.nand_model.specs.declared.words.Op.{Op}
 use Rattle.nand_model.specs.declared.words.Reply.{Reply}
 use Rattle.nand_model.specs.declared.words.Reply.TheVariants.{Done, BadBlock, MarkerByte, ProgramFailed}
 use Rattle.nand_model.specs.Sizes.{parity_start}
-use Rattle.nand_model.specs.Partitions.{device_of}
-use Rattle.command_model.specs.Command.{Script, End, Ask, next_in, after_replies, script_of, command_device, erase_blocks, write_unit, write_blocks, after_write, says_bad, is_dump_bad}
+use Rattle.nand_model.specs.Partitions.{device_of, command_device}
+use Rattle.command_model.specs.Command.{Script, End, Ask, next_in, after_replies, script_of, erase_blocks, write_unit, write_blocks, after_write, says_bad, is_dump_bad}
 use Rattle.command_model.specs.Session.{SessionRun, next_op_of, op_of_next}
 use Rattle.command_model.specs.Laws.{AsksOnly}
 use Rattle.command_model.proofs.Devices.{own_device}

@@ -1,11 +1,10 @@
 // Laws of sessions.
 ghost use Rattle.std.specs.Prelude.{◌≡◌, ◌++◌, List, Some};
-ghost use Rattle.nand_model.specs.Partitions.{device_of};
+ghost use Rattle.nand_model.specs.Partitions.{device_of, command_device};
 ghost use Rattle.nand_model.specs.declared.geometry.Geometry.{Geometry};
 ghost use Rattle.nand_model.specs.declared.words.Command.{Command};
 ghost use Rattle.nand_model.specs.declared.words.Note.{Note};
 ghost use Rattle.nand_model.specs.declared.words.Op.{Op};
-ghost use Rattle.command_model.specs.Command.{command_device};
 ghost use Rattle.command_model.specs.Session.{SessionRun, next_op_of};
 ghost use Rattle.command_model.specs.Taken.{IsTaken};
 ghost use Rattle.session_steps.specs.Mirrors.{CanAllRun, Mirrors};

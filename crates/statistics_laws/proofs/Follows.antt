@@ -29,7 +29,8 @@ use Rattle.run_laws.proofs.Places.{change_elsewhere, change_here}
 use Rattle.run_laws.proofs.Sessions.{SessionLaw, asked}
 use Rattle.run_laws.proofs.Starts.{start_holds}
 use Rattle.run_laws.proofs.Steps.{attach_step_holds, turn_step_holds}
-use Rattle.statistics_laws.specs.Counts.{StandOnce, StatisticsFollow, no_statistics, page_read, reads_in, statistics_at, statistics_known, statistics_on}
+use Rattle.statistics_laws.specs.Counts.{StandOnce, StatisticsFollow, page_read, reads_in}
+use Rattle.run_model.specs.Statistics.{no_statistics, statistics_at, statistics_known, statistics_on}
 use Rattle.statistics_laws.proofs.Operations.{Ending, operation_ending}
 use Rattle.statistics_laws.proofs.ReadCounts.{total, total_answered, total_begun, total_silent}
 use Rattle.statistics_laws.proofs.Steps.{by_attach, by_turn, flipped_chips}

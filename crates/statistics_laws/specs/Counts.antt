@@ -1,19 +1,19 @@
 -- How large the ECC statistics of a boot become.
-use Rattle.std.specs.Prelude.{◌≡◌, ℕ, ◌*◌, ◌≤◌, ◌==◌, if◌then◌else◌, List, [], ◌∷◌, length, slice_get, count_by, sum_by, Contains, Option, Some, None}
+use Rattle.std.specs.Prelude.{List, [], ◌∷◌, ℕ, ◌==◌, if◌then◌else◌, ◌≤◌, ◌≡◌, ◌*◌, length, slice_get, Some, count_by, Contains, sum_by}
+use Rattle.chip_paths.specs.Operation.{Known}
 use Rattle.nand_model.specs.Chip.{ChipState, FaultModel}
 use Rattle.chip_paths.specs.ChipRun.{ChipRun}
-use Rattle.chip_paths.specs.Operation.{Known}
-use Rattle.nand_model.specs.declared.words.Command.{Command}
-use Rattle.nand_model.specs.declared.words.Op.{Op}
-use Rattle.nand_model.specs.declared.words.Op.TheVariants.{Read}
+use Rattle.command_model.specs.Boot.{Boot}
+use Rattle.run_model.specs.Course.{course_after}
+use Rattle.command_model.specs.Reads.{corrected_of, failed_of, reads_of}
+use Rattle.nand_model.specs.Partitions.{chip_of}
+use Rattle.run_model.specs.Statistics.{statistics_at}
 use Rattle.nand_model.specs.declared.words.PageRead.{PageRead}
 use Rattle.nand_model.specs.declared.words.Reply.{Reply}
 use Rattle.nand_model.specs.declared.words.Reply.TheVariants.{Page}
-use Rattle.nand_model.specs.declared.words.Stats.{Stats}
-use Rattle.command_model.specs.Reads.{corrected_of, failed_of, reads_of}
-use Rattle.command_model.specs.Boot.{Boot}
-use Rattle.run_model.specs.Course.{Course, course_after}
-use Rattle.nand_model.specs.Partitions.{chip_of}
+use Rattle.nand_model.specs.declared.words.Op.{Op}
+use Rattle.nand_model.specs.declared.words.Op.TheVariants.{Read}
+use Rattle.nand_model.specs.declared.words.Command.{Command}
 
 -- the counts of a page that was read, in a reply
 abbrev pub page_read : Reply → List PageRead
@@ -34,23 +34,6 @@ abbrev pub CountsAreSmall : {W : Type 0} → FaultModel W → Boot → List (Chi
 CountsAreSmall {W} model boot starts attaches turns =
     (k : ℕ) (c : ChipRun W) (known : Known) → slice_get (course_after model boot starts attaches turns).chips k ≡ Some c → c.known ≡ Some known
     → HasCounted (128 * length turns) known
-
--- no bit corrected, no step failed
-abbrev pub no_statistics : Stats
-no_statistics = record { corrected = 0; failed = 0 }
-
--- the statistics of a device, by what is known of its chip
-abbrev pub statistics_known : Option Known → ℕ → Stats
-statistics_known None dev = no_statistics
-statistics_known (Some known) dev = known.statistics dev
-
-abbrev pub statistics_on : {W : Type 0} → Option (ChipRun W) → ℕ → Stats
-statistics_on None dev = no_statistics
-statistics_on (Some c) dev = statistics_known c.known dev
-
-abbrev pub statistics_at : {W : Type 0} → Course W → Option ℕ → ℕ → Stats
-statistics_at course None dev = no_statistics
-statistics_at course (Some k) dev = statistics_on (slice_get course.chips k) dev
 
 -- each session of a boot stands once among these numbers
 abbrev pub StandOnce : Boot → List ℕ → Type 0

@@ -3,8 +3,8 @@ use Rattle.std.specs.Prelude.{is_some, option_map}
 use Rattle.chip_paths.specs.ChipRun.{name_of}
 use Rattle.nand_model.specs.Quiet.{is_quiet}
 use Rattle.chip_paths.specs.Stage.{stage_event}
-use Rattle.chip_core.specs.Chip.{chip_news, chip_stage, chip_state}
-use Rattle.chip_core.proofs.Performing.{Ends, ends_at_once, ends_after_one, is_finished, has_cause, has_performed, is_at_rest, news_kept}
+use Rattle.chip_core.specs.Chip.{chip_pending_note, chip_stage, chip_state}
+use Rattle.chip_core.proofs.Performing.{Ends, ends_at_once, ends_after_one, is_finished, has_cause, has_performed, is_at_rest, pending_note_kept}
 use Rattle.chip_core.proofs.whole.perform.Given.{Over}
 use Rattle.chip_core.proofs.whole.perform.Goals as goal
 
@@ -71,13 +71,13 @@ returns-clause-rests g c =
     is_at_rest g.F.Flash.fault_model c.args.parts.now c.args.op.now (chip_state c.args.chip.now) (chip_state c.advance.new.self)
     (chip_stage c.args.chip.now) (chip_stage c.advance.new.self) (after_one g c.before) (chip_stage c.answer-2.new.self) c.answer-2.ensures.stage
 
-pub returns-clause-news : goal.returns-clause-news
-returns-clause-news g c =
+pub returns-clause-pending_note : goal.returns-clause-pending_note
+returns-clause-pending_note g c =
     let now = chip_state c.begin.new.self in
     let begun = chip_stage c.begin.new.self in
     let event : is_some (option_map name_of (stage_event begun)) ≡ true = ap is_some (sym c.next_event.ensures) ∙ c.if-is_none.ensures in
-    c.answer-2.ensures.news
-    ∙ news_kept g.F.Flash.fault_model c.args.parts.now c.args.op.now (chip_state c.args.chip.now) (is_quiet now.geometry now.pages) now
-    (chip_stage c.args.chip.now) begun (chip_news c.begin.new.self) (chip_news c.advance.new.self) c.requires.rests c.in_ok-begin.ensures.begun
-    (stage_event begun) event c.advance.ensures.news
-    ∙ c.in_ok-begin.ensures.news
+    c.answer-2.ensures.pending_note
+    ∙ pending_note_kept g.F.Flash.fault_model c.args.parts.now c.args.op.now (chip_state c.args.chip.now) (is_quiet now.geometry now.pages) now
+    (chip_stage c.args.chip.now) begun (chip_pending_note c.begin.new.self) (chip_pending_note c.advance.new.self) c.requires.rests c.in_ok-begin.ensures.begun
+    (stage_event begun) event c.advance.ensures.pending_note
+    ∙ c.in_ok-begin.ensures.pending_note

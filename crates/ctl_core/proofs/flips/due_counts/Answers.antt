@@ -1,7 +1,8 @@
 use Rattle.std.proofs.Common.{◌≡◌, ◌+◌, ℕ, arith, length, drop, Some, Result, Ok, Err, ap, sym, ◌∙◌}
 use Rattle.std.specs.Result.{OkIff, result_ok}
 use Rattle.std.proofs.lemmas.Bool.{eq-eqb, ne_eqb}
-use Rattle.ctl_core.specs.Flips.{due_flips, bit_count}
+use Rattle.nand_model.specs.Flips.{due_flips}
+use Rattle.ctl_core.specs.Flips.{bit_count}
 use Rattle.ctl_core.proofs.FlipSteps.{counted_here, due_later}
 use Rattle.ctl_core.proofs.flips.due_counts.Goals as goal
 use Rattle.ctl_core.proofs.flips.due_counts.Goals.{then-one-event+in_ok-pages+in_ok-ok+in_ok-bits, else-one-event}

@@ -1,5 +1,6 @@
 use Rattle.std.proofs.Common.{◌≡◌, ◌+◌, length, drop}
-use Rattle.ctl_core.specs.Flips.{due_flips, bit_count}
+use Rattle.nand_model.specs.Flips.{due_flips}
+use Rattle.ctl_core.specs.Flips.{bit_count}
 use Rattle.ctl_core.proofs.flips.due_counts.Given as goal
 
 abbrev pub invariant-loop-n : goal.invariant-loop-n

@@ -1,6 +1,6 @@
 use Rattle.std.proofs.Common.{arith}
-use Rattle.ctl_core.specs.Bench.{kept_slot}
-use Rattle.ctl_core.specs.Flips.{with_bits_turned}
+use Rattle.ctl_core.specs.Board.{slot_state}
+use Rattle.ctl_core.specs.Flips.{slot_with_flip}
 use Rattle.ctl_core.proofs.Places.{mapped_set}
 use Rattle.ctl_core.proofs.Slots.{kept_at}
 use Rattle.ctl_core.proofs.FlipSteps.{room_left}
@@ -9,13 +9,13 @@ use Rattle.ctl_core.proofs.flips.make_flip.Goals as goal
 pub returns-clause-chips : goal.returns-clause-chips
 returns-clause-chips g c =
     let there = c.requires.there in
-    let slot = kept_at kept_slot c.args.slots.now.items c.args.flip.now.chip c.index_mut.result.now there.0 c.index_mut.ensures.value there.1 in
-    mapped_set kept_slot (with_bits_turned g.F.Flash.fault_model c.args.flip.now) c.args.slots.now.items c.args.flip.now.chip c.index_mut.result.now _ slot.0
-    (λ j. record { state = c.flip.ensures.state j; stage = c.flip.ensures.stage j; news = c.flip.ensures.news j; holder = c.index_mut.result.now.holder })
+    let slot = kept_at slot_state c.args.slots.now.items c.args.flip.now.chip c.index_mut.result.now there.0 c.index_mut.ensures.value there.1 in
+    mapped_set slot_state (slot_with_flip g.F.Flash.fault_model c.args.flip.now) c.args.slots.now.items c.args.flip.now.chip c.index_mut.result.now _ slot.0
+    (λ j. record { state = c.flip.ensures.state j; stage = c.flip.ensures.stage j; pending_note = c.flip.ensures.pending_note j; holder = c.index_mut.result.now.holder })
 
 pub returns-clause-room : goal.returns-clause-room
 returns-clause-room g c pages bits all =
     let there = c.requires.there in
-    let slot = kept_at kept_slot c.args.slots.now.items c.args.flip.now.chip c.index_mut.result.now there.0 c.index_mut.ensures.value there.1 in
+    let slot = kept_at slot_state c.args.slots.now.items c.args.flip.now.chip c.index_mut.result.now there.0 c.index_mut.ensures.value there.1 in
     room_left c.args.flip.now c.args.slots.now.items c.args.flip.now.chip c.index_mut.result.now _ pages bits slot.0
-    (λ r. record { spare = omega (arith, r.spare, c.flip.ensures.spare); bits_room = omega (arith, r.bits_room, c.flip.ensures.bits) }) all
+    (λ r. record { page_room = omega (arith, r.page_room, c.flip.ensures.page_room); bits_room = omega (arith, r.bits_room, c.flip.ensures.bits) }) all

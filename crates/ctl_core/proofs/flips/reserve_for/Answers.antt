@@ -1,5 +1,5 @@
 use Rattle.std.proofs.Common.{◌≡◌, ◌<◌, arith, length, ap, sym, ◌∙◌}
-use Rattle.ctl_core.specs.Bench.{kept_slot, HasRoom}
+use Rattle.ctl_core.specs.Board.{slot_state, HasRoom}
 use Rattle.ctl_core.proofs.FlipSteps.{first_set}
 use Rattle.ctl_core.proofs.OnCourse.{kept_same, lent_within}
 use Rattle.ctl_core.proofs.Positions.{mapped_length}
@@ -8,14 +8,14 @@ use Rattle.ctl_core.proofs.flips.reserve_for.Goals as goal
 pub returns-in_err-reserve-clause-same : goal.returns-in_err-reserve-clause-same
 returns-in_err-reserve-clause-same g c =
     let many : length c.loop-k.slots.items ≡ length c.args.slots.now.items =
-    sym (mapped_length kept_slot c.loop-k.slots.items) ∙ ap length c.loop-k.invariant.same ∙ mapped_length kept_slot c.args.slots.now.items in
+    sym (mapped_length slot_state c.loop-k.slots.items) ∙ ap length c.loop-k.invariant.same ∙ mapped_length slot_state c.args.slots.now.items in
     let within : c.loop-k.k < length c.loop-k.slots.items = omega (arith, many, c.loop-k-test.true, c.len-k-end.ensures, c.args.slots.now.ok.0) in
-    kept_same kept_slot c.loop-k.slots.items c.loop-k.k c.index_mut.result.now _ (lent_within c.loop-k.slots.items c.loop-k.k c.index_mut.result.now within
+    kept_same slot_state c.loop-k.slots.items c.loop-k.k c.index_mut.result.now _ (lent_within c.loop-k.slots.items c.loop-k.k c.index_mut.result.now within
     c.index_mut.ensures.value)
     (λ j. record {
       state = c.reserve.ensures.state j;
       stage = c.reserve.ensures.stage j;
-      news = c.reserve.ensures.news j;
+      pending_note = c.reserve.ensures.pending_note j;
       holder =
           c.index_mut.result.now.holder;
     })
@@ -24,17 +24,17 @@ returns-in_err-reserve-clause-same g c =
 pub loop-k-preserved : goal.loop-k-preserved
 loop-k-preserved g c =
     let many : length c.loop-k.slots.items ≡ length c.args.slots.now.items =
-    sym (mapped_length kept_slot c.loop-k.slots.items) ∙ ap length c.loop-k.invariant.same ∙ mapped_length kept_slot c.args.slots.now.items in
+    sym (mapped_length slot_state c.loop-k.slots.items) ∙ ap length c.loop-k.invariant.same ∙ mapped_length slot_state c.args.slots.now.items in
     let within : c.loop-k.k < length c.loop-k.slots.items = omega (arith, many, c.loop-k-test.true, c.len-k-end.ensures, c.args.slots.now.ok.0) in
     record {
       room = first_set (HasRoom c.in_ok-pages.pages c.in_ok-pages.bits) c.loop-k.slots.items c.loop-k.k _ within
-          (record { spare = c.in_ok-reserve.ensures.spare; bits_room = c.in_ok-reserve.ensures.bits }) c.loop-k.invariant.room;
-      same = kept_same kept_slot c.loop-k.slots.items c.loop-k.k c.index_mut.result.now _
+          (record { page_room = c.in_ok-reserve.ensures.page_room; bits_room = c.in_ok-reserve.ensures.bits }) c.loop-k.invariant.room;
+      same = kept_same slot_state c.loop-k.slots.items c.loop-k.k c.index_mut.result.now _
           (lent_within c.loop-k.slots.items c.loop-k.k c.index_mut.result.now within c.index_mut.ensures.value)
           (λ j. record {
             state = c.reserve.ensures.state j;
             stage = c.reserve.ensures.stage j;
-            news = c.reserve.ensures.news j;
+            pending_note = c.reserve.ensures.pending_note j;
             holder =
                 c.index_mut.result.now.holder;
           })

@@ -1,7 +1,7 @@
 use Rattle.std.proofs.Common.{◌≡◌, ◌<◌, ◌∷◌, ◌++◌, [], List, length, map, arith, refl, ap, sym, ◌∙◌, subst, append-nil}
 use Rattle.std.specs.Prelude.{All, IsSome}
-use Rattle.ctl_core.specs.Bench.{kept_slot}
-use Rattle.ctl_core.specs.KeptChip.{kept_first}
+use Rattle.ctl_core.specs.Board.{slot_state}
+use Rattle.ctl_core.specs.SlotState.{slot_first}
 use Rattle.run_model.specs.Start.{IsPlain}
 use Rattle.ctl_core.proofs.FirstAndLast.{all_first, all_later, moved_on}
 use Rattle.ctl_core.proofs.starting.first_slots.Goals as goal
@@ -15,10 +15,10 @@ pub loop-flash-preserved : goal.loop-flash-preserved
 loop-flash-preserved g c = record {
   plain = all_later IsPlain (g.F.Flash.state c.in-Some.flash) (map g.F.Flash.state c.take_first.new.self)
       (subst (λ fs. All IsPlain (map g.F.Flash.state fs)) c.in-Some.ensures.taken c.loop-flash.invariant.plain);
-  so_far = ap (λ ss. map kept_slot ss ++ map kept_first (map g.F.Flash.state c.take_first.new.self)) c.in_ok-push.ensures.items
-      ∙ moved_on kept_slot c.loop-flash.slots.items c.in_ok-first_slot.field-0 (kept_first (g.F.Flash.state c.in-Some.flash))
-      (map kept_first (map g.F.Flash.state c.take_first.new.self)) c.in_ok-first_slot.ensures
-      ∙ ap (λ fs. map kept_slot c.loop-flash.slots.items ++ map kept_first (map g.F.Flash.state fs)) (sym c.in-Some.ensures.taken)
+  so_far = ap (λ ss. map slot_state ss ++ map slot_first (map g.F.Flash.state c.take_first.new.self)) c.in_ok-push.ensures.items
+      ∙ moved_on slot_state c.loop-flash.slots.items c.in_ok-first_slot.field-0 (slot_first (g.F.Flash.state c.in-Some.flash))
+      (map slot_first (map g.F.Flash.state c.take_first.new.self)) c.in_ok-first_slot.ensures
+      ∙ ap (λ fs. map slot_state c.loop-flash.slots.items ++ map slot_first (map g.F.Flash.state fs)) (sym c.in-Some.ensures.taken)
       ∙ c.loop-flash.invariant.so_far;
 }
 
@@ -31,5 +31,5 @@ pub returns : goal.returns
 returns g c =
     let none : c.loop-flash.rest ≡ [] = emptied c.loop-flash.rest (λ h. let some = subst (λ o. IsSome o) c.in_default.is (c.take_first.ensures.some.1 h) in
     cc) in
-    sym (append-nil (map kept_slot c.loop-flash.slots.items))
-    ∙ ap (λ fs. map kept_slot c.loop-flash.slots.items ++ map kept_first (map g.F.Flash.state fs)) (sym none) ∙ c.loop-flash.invariant.so_far
+    sym (append-nil (map slot_state c.loop-flash.slots.items))
+    ∙ ap (λ fs. map slot_state c.loop-flash.slots.items ++ map slot_first (map g.F.Flash.state fs)) (sym none) ∙ c.loop-flash.invariant.so_far

@@ -1,7 +1,7 @@
 use Rattle.std.proofs.Common.{◌≡◌, ◌++◌, ℕ, List, ap, subst, ◌∙◌}
 use Rattle.std.specs.Prelude.{OnOk, codes, decimal}
 use Rattle.report_model.specs.Report.{device_name}
-use Rattle.command_model.specs.Command.{command_device}
+use Rattle.nand_model.specs.Partitions.{command_device}
 use Rattle.nandlab.proofs.Joined.{halves_joined}
 use Rattle.nandlab.proofs.outcomes.put_outcome.Goals as goal
 
@@ -19,7 +19,7 @@ returns-in_ok-put_tested-in-NandTest c =
     c.in_ok-put_tested-in-NandTest.ensures
     ∙ ap (λ dev. c.args.out.now
     ++ (codes "nandtest " ++ device_name dev ++ codes ": passes " ++ decimal c.in-NandTest.passes ++ codes ", blocks " ++ decimal c.in-NandTest.blocks
-    ++ codes ", bad " ++ decimal c.in-NandTest.bad ++ codes ", worn " ++ decimal c.in-NandTest.worn)) c.device_of-dev.ensures in
+    ++ codes ", bad " ++ decimal c.in-NandTest.bad ++ codes ", worn " ++ decimal c.in-NandTest.worn)) c.device-dev.ensures in
     rw c.in-NandTest.is
     (subst P
     (ap (λ o. o ++ r) first

@@ -10,7 +10,7 @@ use Rattle.chip_core.specs.Phase.{PhaseFits, WorkFits, programs_left}
 use Rattle.chip_core.specs.Task.{task_event}
 use Rattle.chip_core.specs.declared.phase.Phase.{Phase}
 use Rattle.chip_core.specs.declared.phase.Phase.TheVariants.{Working}
-use Rattle.chip_core.proofs.Advancing.{working_has_event, sizes_kept, knows_quiet, of_event, of_read, read_stage, read_news, tells, works_on}
+use Rattle.chip_core.proofs.Advancing.{working_has_event, sizes_kept, knows_quiet, of_event, of_read, read_stage, read_pending_note, tells, works_on}
 use Rattle.chip_core.proofs.chip.Chip.advance.Goals as goal
 
 pub invariant_of-self-in-Working : goal.invariant_of-self-in-Working
@@ -27,7 +27,7 @@ invariant_of-self-in-Working g c =
     let sizes : after.geometry ≡ before.geometry =
     of_event model before after task left told (task_event task) event c.advance-left.ensures.advanced (after.geometry ≡ before.geometry)
     (sizes_kept model before after task left told) in
-    let Room : Phase → Type 0 = λ p. chip.spare + programs_left p ≤ g.F.Flash.room chip.flash in
+    let Room : Phase → Type 0 = λ p. chip.page_room + programs_left p ≤ g.F.Flash.room chip.flash in
     let room = subst Room phase chip.room in
     let Fits : Phase → Type 0 = λ p. PhaseFits chip.known.geometry chip.known.sums p in
     let work : WorkFits chip.known.geometry chip.known.sums task = subst Fits phase chip.fits in
@@ -59,13 +59,13 @@ returns-in-Attaching-clause-stage g c =
     (is_quiet s.geometry s.pages)
     (knows_quiet s chip.phase chip.quiet c.in-Attaching.scan (sym c.replace.ensures.value ∙ c.in-Attaching.is)) _ c.attach_on.ensures.stage
 
-pub returns-in-Attaching-clause-news : goal.returns-in-Attaching-clause-news
-returns-in-Attaching-clause-news g c =
+pub returns-in-Attaching-clause-pending_note : goal.returns-in-Attaching-clause-pending_note
+returns-in-Attaching-clause-pending_note g c =
     let chip = c.args.self.now in
     let s = g.F.Flash.state chip.flash in
-    read_news g.F.Flash.fault_model s chip.known chip.sizes chip.phase chip.fits c.in-Attaching.scan (sym c.replace.ensures.value ∙ c.in-Attaching.is)
+    read_pending_note g.F.Flash.fault_model s chip.known chip.sizes chip.phase chip.fits c.in-Attaching.scan (sym c.replace.ensures.value ∙ c.in-Attaching.is)
     (is_quiet s.geometry s.pages)
-    (knows_quiet s chip.phase chip.quiet c.in-Attaching.scan (sym c.replace.ensures.value ∙ c.in-Attaching.is)) _ _ c.attach_on.ensures.news
+    (knows_quiet s chip.phase chip.quiet c.in-Attaching.scan (sym c.replace.ensures.value ∙ c.in-Attaching.is)) _ _ c.attach_on.ensures.pending_note
 
 pub returns-in-Attaching-clause-told : goal.returns-in-Attaching-clause-told
 returns-in-Attaching-clause-told g c =

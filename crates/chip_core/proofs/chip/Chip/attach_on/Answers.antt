@@ -3,7 +3,7 @@ use Rattle.std.specs.Prelude.{◌&&◌}
 use Rattle.chip_core.specs.Markers.{marker_page}
 use Rattle.chip_paths.specs.Stage.{Rests}
 use Rattle.chip_core.proofs.Answering.{known_fresh}
-use Rattle.chip_core.proofs.Scanning.{goes_on, no_news, comes_to_rest, news}
+use Rattle.chip_core.proofs.Scanning.{goes_on, no_pending_note, comes_to_rest, pending_note}
 use Rattle.chip_core.proofs.chip.Chip.attach_on.Goals as goal
 
 pub returns-then-scan-self-clause-stage : goal.returns-then-scan-self-clause-stage
@@ -21,11 +21,11 @@ returns-then-scan-self-clause-stage g c =
     c.requires.fits.scan_fits.next
     known.all_there (c.args.scan.quiet_so_far && c.args.scan.quiet_now) more))
 
-pub returns-then-scan-self-clause-news : goal.returns-then-scan-self-clause-news
-returns-then-scan-self-clause-news g c =
+pub returns-then-scan-self-clause-pending_note : goal.returns-then-scan-self-clause-pending_note
+returns-then-scan-self-clause-pending_note g c =
     let known = c.args.self.now.known in
     let more : c.args.scan.next + 1 < known.geometry.blocks = rw (← c.set.ensures.geometry, ← c.read_marker-state.ensures.next) c.if-scan-self.true in
-    sym (no_news known.geometry known.states c.args.scan.next (marker_page (g.F.Flash.state c.args.self.now.flash) c.args.scan.next)
+    sym (no_pending_note known.geometry known.states c.args.scan.next (marker_page (g.F.Flash.state c.args.self.now.flash) c.args.scan.next)
     c.requires.fits.scan_fits.next
     known.all_there (c.args.scan.quiet_so_far && c.args.scan.quiet_now) more)
 
@@ -39,8 +39,8 @@ returns-else-scan-self-clause-stage g c =
     (sym (comes_to_rest known.geometry known.states c.args.scan.next (marker_page (g.F.Flash.state c.args.self.now.flash) c.args.scan.next)
     c.requires.fits.scan_fits.next known.all_there (c.args.scan.quiet_so_far && c.args.scan.quiet_now) last)))
 
-pub returns-else-scan-self-clause-news : goal.returns-else-scan-self-clause-news
-returns-else-scan-self-clause-news g c =
+pub returns-else-scan-self-clause-pending_note : goal.returns-else-scan-self-clause-pending_note
+returns-else-scan-self-clause-pending_note g c =
     let known = c.args.self.now.known in
     let last : known.geometry.blocks ≤ c.args.scan.next + 1 = rw (← c.set.ensures.geometry, ← c.read_marker-state.ensures.next) c.if-scan-self.false in
     rw (
@@ -51,6 +51,6 @@ returns-else-scan-self-clause-news g c =
       c.read_marker-state.ensures.state,
       c.read_marker-state.ensures.quiet_so_far,
     )
-    (sym (news known.geometry known.states c.args.scan.next (marker_page (g.F.Flash.state c.args.self.now.flash) c.args.scan.next)
+    (sym (pending_note known.geometry known.states c.args.scan.next (marker_page (g.F.Flash.state c.args.self.now.flash) c.args.scan.next)
     c.requires.fits.scan_fits.next
     known.all_there (c.args.scan.quiet_so_far && c.args.scan.quiet_now) last))

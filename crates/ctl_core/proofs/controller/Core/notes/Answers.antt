@@ -2,7 +2,7 @@ use Rattle.std.proofs.Common.{ap, ◌∙◌, sym, subst}
 use Rattle.run_model.specs.Run.{AreInOrder}
 use Rattle.run_laws.proofs.Faithful.{faithful}
 use Rattle.ctl_core.specs.Past.{Past, starts_of, course_of}
-use Rattle.ctl_core.specs.Bench.{past_of}
+use Rattle.ctl_core.specs.Board.{past_of}
 use Rattle.ctl_core.proofs.Sessions.{one_number_each}
 use Rattle.ctl_core.proofs.controller.Core.notes.Goals as goal
 
@@ -17,7 +17,7 @@ returns-clause-one_thread g c = faithful g.F.Flash.fault_model c.args.self.now.b
 pub returns-clause-in_order : goal.returns-clause-in_order
 returns-clause-in_order g c =
     let past = past_of c.self.inside.journal in
-    subst (λ (p : Past g.row.F.Denot). AreInOrder p.boot (starts_of g.F.Flash.state p) c.self.inside.bench.notes.notes) c.self.view_is
+    subst (λ (p : Past g.row.F.Denot). AreInOrder p.boot (starts_of g.F.Flash.state p) c.self.inside.board.notes.notes) c.self.view_is
     (subst (AreInOrder past.boot (starts_of g.F.Flash.state past)) (sym c.self.invariant.stands.keeps.of_notes)
     ((faithful g.F.Flash.fault_model past.boot (starts_of g.F.Flash.state past) past.attaches past.turns).in_order
     (one_number_each past.boot.sessions c.self.invariant.conditions.ascending)))

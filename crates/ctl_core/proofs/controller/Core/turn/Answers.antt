@@ -1,12 +1,11 @@
 use Rattle.std.proofs.Common.{◌≡◌, ◌≤◌, ◌+◌, ◌*◌, ℕ, List, length, Bool, true, false, not, None, Ok, refl, ap, sym, ◌∙◌, subst}
 use Rattle.std.specs.declared.alloc.AllocError.{AllocError}
 use Rattle.run_model.specs.Course.{is_idle, unattached}
-use Rattle.run_model.specs.Start.{boot_cost}
 use Rattle.ctl_core.specs.declared.turn.Turn.{Turn}
 use Rattle.ctl_core.specs.declared.turn.Turn.TheVariants.{Did, Held, Done, Dark}
 use Rattle.ctl_core.specs.Answer.{is_did, turn_answer, after_turn}
-use Rattle.ctl_core.specs.Past.{Past, starts_of, sizes_in, course_of, next_course, with_turn}
-use Rattle.ctl_core.specs.Bench.{past_of, StandsAt, IsOnCourse}
+use Rattle.ctl_core.specs.Past.{turn_limit, Past, starts_of, sizes_in, course_of, next_course, with_turn}
+use Rattle.ctl_core.specs.Board.{past_of, StandsAt, IsOnCourse}
 use Rattle.ctl_core.proofs.Limits.{few_turns}
 use Rattle.ctl_core.proofs.CoreSteps.{relisted, stayed_on, next_attached, turned_on, idle_turn}
 use Rattle.ctl_core.proofs.controller.Core.turn.Goals as goal
@@ -34,77 +33,77 @@ no_turn E Dark session past h = refl
 pub returns-in_err-reserve-clause-few : goal.returns-in_err-reserve-clause-few
 returns-in_err-reserve-clause-few g c =
     let past = past_of c.self.inside.journal in
-    subst (λ (ts : List ℕ). length ts ≤ 8 * boot_cost past.boot (starts_of g.F.Flash.state past) + 7 * length past.started) (sym c.reserve.ensures.items)
-    (few_turns past c.self.inside.bench c.self.invariant)
+    subst (λ (ts : List ℕ). length ts ≤ turn_limit g.F.Flash.state past) (sym c.reserve.ensures.items)
+    (few_turns past c.self.inside.board c.self.invariant)
 
 pub returns-in_err-reserve-2-clause-few : goal.returns-in_err-reserve-2-clause-few
 returns-in_err-reserve-2-clause-few g c =
     let past = past_of c.self.inside.journal in
-    subst (λ (ts : List ℕ). length ts ≤ 8 * boot_cost past.boot (starts_of g.F.Flash.state past) + 7 * length past.started) (sym c.reserve.ensures.items)
-    (few_turns past c.self.inside.bench c.self.invariant)
+    subst (λ (ts : List ℕ). length ts ≤ turn_limit g.F.Flash.state past) (sym c.reserve.ensures.items)
+    (few_turns past c.self.inside.board c.self.invariant)
 
 pub returns-in_err-turn-clause-few : goal.returns-in_err-turn-clause-few
 returns-in_err-turn-clause-few g c =
     let past = past_of c.self.inside.journal in
-    subst (λ (ts : List ℕ). length ts ≤ 8 * boot_cost past.boot (starts_of g.F.Flash.state past) + 7 * length past.started) (sym c.reserve.ensures.items)
-    (few_turns past c.self.inside.bench c.self.invariant)
+    subst (λ (ts : List ℕ). length ts ≤ turn_limit g.F.Flash.state past) (sym c.reserve.ensures.items)
+    (few_turns past c.self.inside.board c.self.invariant)
 
 pub invariant_of-self-in-Did : goal.invariant_of-self-in-Did
 invariant_of-self-in-Did g c =
     let past = past_of c.self.inside.journal in
     let before : Past g.row.F.Denot = record past { turns = c.reserve.new.self.items } in
-    let on = relisted past c.self.inside.bench c.self.invariant c.reserve.new.self.items c.reserve-2.new.self c.reserve.ensures.items
+    let on = relisted past c.self.inside.board c.self.invariant c.reserve.new.self.items c.reserve-2.new.self c.reserve.ensures.items
     c.reserve-2.ensures.notes in
     let same : before ≡ c.args.self.now = ap (λ (ts : List ℕ). record past { turns = ts }) c.reserve.ensures.items ∙ c.self.view_is in
     let attached = ap (λ (p : Past g.row.F.Denot). unattached (course_of g.F.Flash.fault_model g.F.Flash.state p)) same ∙ c.requires.attached in
     let busy = not_true _ (ap is_did (sym c.in-Did.is) ∙ c.in_ok-turn.ensures.idle) in
     subst (λ (ts : List ℕ). IsOnCourse (record past { turns = ts }) c.step.new.self) (sym c.push_reserved.ensures.items)
-    (turned_on before (record c.self.inside.bench { notes = c.reserve-2.new.self }) on c.args.session c.step.new.self attached busy c.in_ok-turn.ensures.stands)
+    (turned_on before (record c.self.inside.board { notes = c.reserve-2.new.self }) on c.args.session c.step.new.self attached busy c.in_ok-turn.ensures.stands)
 
 pub invariant_of-self-in_default : goal.invariant_of-self-in_default
 invariant_of-self-in_default g c =
     let past = past_of c.self.inside.journal in
     let before : Past g.row.F.Denot = record past { turns = c.reserve.new.self.items } in
-    let on = relisted past c.self.inside.bench c.self.invariant c.reserve.new.self.items c.reserve-2.new.self c.reserve.ensures.items
+    let on = relisted past c.self.inside.board c.self.invariant c.reserve.new.self.items c.reserve-2.new.self c.reserve.ensures.items
     c.reserve-2.ensures.notes in
     let same : before ≡ c.args.self.now = ap (λ (ts : List ℕ). record past { turns = ts }) c.reserve.ensures.items ∙ c.self.view_is in
     let attached = ap (λ (p : Past g.row.F.Denot). unattached (course_of g.F.Flash.fault_model g.F.Flash.state p)) same ∙ c.requires.attached in
     let idle = not_false _ (sym (not_did c.in_ok-turn.turn c.in_default.not-Did) ∙ c.in_ok-turn.ensures.idle) in
-    stayed_on before (record c.self.inside.bench { notes = c.reserve-2.new.self }) on c.step.new.self
-    (subst (λ course. StandsAt before course c.step.new.self) (idle_turn before (record c.self.inside.bench { notes = c.reserve-2.new.self }) on
+    stayed_on before (record c.self.inside.board { notes = c.reserve-2.new.self }) on c.step.new.self
+    (subst (λ course. StandsAt before course c.step.new.self) (idle_turn before (record c.self.inside.board { notes = c.reserve-2.new.self }) on
     c.args.session attached idle) c.in_ok-turn.ensures.stands)
 
 pub returns-in-Did-clause-attached : goal.returns-in-Did-clause-attached
 returns-in-Did-clause-attached g c =
     let past = past_of c.self.inside.journal in
     let before : Past g.row.F.Denot = record past { turns = c.reserve.new.self.items } in
-    let on = relisted past c.self.inside.bench c.self.invariant c.reserve.new.self.items c.reserve-2.new.self c.reserve.ensures.items
+    let on = relisted past c.self.inside.board c.self.invariant c.reserve.new.self.items c.reserve-2.new.self c.reserve.ensures.items
     c.reserve-2.ensures.notes in
     let same : before ≡ c.args.self.now = ap (λ (ts : List ℕ). record past { turns = ts }) c.reserve.ensures.items ∙ c.self.view_is in
     let attached = ap (λ (p : Past g.row.F.Denot). unattached (course_of g.F.Flash.fault_model g.F.Flash.state p)) same ∙ c.requires.attached in
     subst (λ (ts : List ℕ). unattached (course_of g.F.Flash.fault_model g.F.Flash.state (record past { turns = ts })) ≡ None)
     (sym c.push_reserved.ensures.items)
-    (next_attached before (record c.self.inside.bench { notes = c.reserve-2.new.self }) on c.args.session attached)
+    (next_attached before (record c.self.inside.board { notes = c.reserve-2.new.self }) on c.args.session attached)
 
 pub returns-in-Did-clause-few : goal.returns-in-Did-clause-few
 returns-in-Did-clause-few g c =
     let past = past_of c.self.inside.journal in
     let before : Past g.row.F.Denot = record past { turns = c.reserve.new.self.items } in
-    let on = relisted past c.self.inside.bench c.self.invariant c.reserve.new.self.items c.reserve-2.new.self c.reserve.ensures.items
+    let on = relisted past c.self.inside.board c.self.invariant c.reserve.new.self.items c.reserve-2.new.self c.reserve.ensures.items
     c.reserve-2.ensures.notes in
     let same : before ≡ c.args.self.now = ap (λ (ts : List ℕ). record past { turns = ts }) c.reserve.ensures.items ∙ c.self.view_is in
     let attached = ap (λ (p : Past g.row.F.Denot). unattached (course_of g.F.Flash.fault_model g.F.Flash.state p)) same ∙ c.requires.attached in
     let busy = not_true _ (ap is_did (sym c.in-Did.is) ∙ c.in_ok-turn.ensures.idle) in
-    subst (λ (ts : List ℕ). length ts ≤ 8 * boot_cost past.boot (starts_of g.F.Flash.state past) + 7 * length past.started) (sym c.push_reserved.ensures.items)
+    subst (λ (ts : List ℕ). length ts ≤ turn_limit g.F.Flash.state past) (sym c.push_reserved.ensures.items)
     (few_turns (with_turn before c.args.session) c.step.new.self
-    (turned_on before (record c.self.inside.bench { notes = c.reserve-2.new.self }) on c.args.session c.step.new.self attached busy
+    (turned_on before (record c.self.inside.board { notes = c.reserve-2.new.self }) on c.args.session c.step.new.self attached busy
     c.in_ok-turn.ensures.stands))
 
 pub returns-in_default : goal.returns-in_default
 returns-in_default g c =
     let past = past_of c.self.inside.journal in
     let before : Past g.row.F.Denot = record past { turns = c.reserve.new.self.items } in
-    let on = relisted past c.self.inside.bench c.self.invariant c.reserve.new.self.items c.reserve-2.new.self c.reserve.ensures.items
+    let on = relisted past c.self.inside.board c.self.invariant c.reserve.new.self.items c.reserve-2.new.self c.reserve.ensures.items
     c.reserve-2.ensures.notes in
     let same : before ≡ c.args.self.now = ap (λ (ts : List ℕ). record past { turns = ts }) c.reserve.ensures.items ∙ c.self.view_is in
     let attached = ap (λ (p : Past g.row.F.Denot). unattached (course_of g.F.Flash.fault_model g.F.Flash.state p)) same ∙ c.requires.attached in
@@ -115,8 +114,8 @@ returns-in_default g c =
       busy = subst (λ (p : Past g.row.F.Denot). is_did c.in_ok-turn.turn ≡ not (is_idle p.boot.partitions (sizes_in g.F.Flash.state p)
           (course_of g.F.Flash.fault_model g.F.Flash.state p) c.args.session)) same c.in_ok-turn.ensures.idle;
       past = same ∙ no_turn AllocError c.in_ok-turn.turn c.args.session c.args.self.now c.in_default.not-Did;
-      step = sym (idle_turn before (record c.self.inside.bench { notes = c.reserve-2.new.self }) on c.args.session attached idle)
+      step = sym (idle_turn before (record c.self.inside.board { notes = c.reserve-2.new.self }) on c.args.session attached idle)
           ∙ ap (λ (p : Past g.row.F.Denot). next_course g.F.Flash.fault_model g.F.Flash.state p c.args.session) same;
       attached = attached;
-      few = few_turns before (record c.self.inside.bench { notes = c.reserve-2.new.self }) on;
+      few = few_turns before (record c.self.inside.board { notes = c.reserve-2.new.self }) on;
     }

@@ -1,8 +1,8 @@
 use Rattle.std.proofs.Common.{◌∙◌}
-use Rattle.ctl_core.specs.Bench.{past_of}
+use Rattle.ctl_core.specs.Board.{past_of}
 use Rattle.ctl_core.proofs.CoreSteps.{attaching_in_slots}
 use Rattle.ctl_core.proofs.FirstAndLast.{over_where_done, not_over_where_attaching}
-use Rattle.ctl_core.proofs.bench.Bench.is_over.Goals as goal
+use Rattle.ctl_core.proofs.board.Board.is_over.Goals as goal
 
 pub returns-then-is_none : goal.returns-then-is_none
 returns-then-is_none g c =

@@ -1,9 +1,9 @@
 use Rattle.std.proofs.Common.{◌≡◌, ◌<◌, length, Option, Some, None, refl, sym, ap, ◌∙◌, subst}
 use Rattle.std.specs.Prelude.{is_none}
 use Rattle.nand_model.specs.declared.words.Part.{Part}
-use Rattle.ctl_core.specs.Bench.{past_of}
+use Rattle.ctl_core.specs.Board.{past_of}
 use Rattle.ctl_core.proofs.OnCourse.{own_session, none_next, some_next, part_next, none_lent, some_lent, chip_next, not_done, slot_there}
-use Rattle.ctl_core.proofs.bench.Bench.next_chip.Goals as goal
+use Rattle.ctl_core.proofs.board.Board.next_chip.Goals as goal
 
 pub returns-in_err-command-clause-chip : goal.returns-in_err-command-clause-chip
 returns-in_err-command-clause-chip g c =
@@ -29,7 +29,7 @@ returns-in_err-part-clause-chip g c =
     let first = some_next past c.args.self.now c.args.session c.args.place c.requires c.index.result.now own.0 own.1
     c.commands-commands.result.now c.next_command.result c.in_ok-command.command c.commands-commands.ensures c.next_command.ensures c.in_ok-command.was in
     let there = part_next past c.args.self.now c.args.session c.args.place c.requires c.index.result.now own.0 own.1 c.in_ok-command.command.now first
-    c.parts.result.now c.device_of.result c.get.result c.parts.ensures c.device_of.ensures c.get.ensures.lent in
+    c.parts.result.now c.device.result c.get.result c.parts.ensures c.device.ensures c.get.ensures.lent in
     absurd (no_part _ first.is_ready.part (none_lent c.get.result _ refl c.in_err-part.was) there)
 
 pub returns-in_err-part-clause-over : goal.returns-in_err-part-clause-over
@@ -39,7 +39,7 @@ returns-in_err-part-clause-over g c =
     let first = some_next past c.args.self.now c.args.session c.args.place c.requires c.index.result.now own.0 own.1
     c.commands-commands.result.now c.next_command.result c.in_ok-command.command c.commands-commands.ensures c.next_command.ensures c.in_ok-command.was in
     let there = part_next past c.args.self.now c.args.session c.args.place c.requires c.index.result.now own.0 own.1 c.in_ok-command.command.now first
-    c.parts.result.now c.device_of.result c.get.result c.parts.ensures c.device_of.ensures c.get.ensures.lent in
+    c.parts.result.now c.device.result c.get.result c.parts.ensures c.device.ensures c.get.ensures.lent in
     absurd (no_part _ first.is_ready.part (none_lent c.get.result _ refl c.in_err-part.was) there)
 
 same_part : (one other : Part) → Some one ≡ Some other → one ≡ other
@@ -52,7 +52,7 @@ returns-clause-chip g c =
     let first = some_next past c.args.self.now c.args.session c.args.place c.requires c.index.result.now own.0 own.1
     c.commands-commands.result.now c.next_command.result c.in_ok-command.command c.commands-commands.ensures c.next_command.ensures c.in_ok-command.was in
     let there = part_next past c.args.self.now c.args.session c.args.place c.requires c.index.result.now own.0 own.1 c.in_ok-command.command.now first
-    c.parts.result.now c.device_of.result c.get.result c.parts.ensures c.device_of.ensures c.get.ensures.lent in
+    c.parts.result.now c.device.result c.get.result c.parts.ensures c.device.ensures c.get.ensures.lent in
     let part = same_part c.in_ok-part.part.now first.is_ready.part (sym (some_lent c.get.result _ c.in_ok-part.part refl c.in_ok-part.was) ∙ there) in
     ap (λ (p : Part). Some p.chip) part ∙ chip_next past c.args.self.now c.args.session c.args.place c.requires c.index.result.now own.0 own.1
     c.in_ok-command.command.now first
@@ -72,7 +72,7 @@ returns-clause-there g c =
     let first = some_next past c.args.self.now c.args.session c.args.place c.requires c.index.result.now own.0 own.1
     c.commands-commands.result.now c.next_command.result c.in_ok-command.command c.commands-commands.ensures c.next_command.ensures c.in_ok-command.was in
     let there = part_next past c.args.self.now c.args.session c.args.place c.requires c.index.result.now own.0 own.1 c.in_ok-command.command.now first
-    c.parts.result.now c.device_of.result c.get.result c.parts.ensures c.device_of.ensures c.get.ensures.lent in
+    c.parts.result.now c.device.result c.get.result c.parts.ensures c.device.ensures c.get.ensures.lent in
     let part = same_part c.in_ok-part.part.now first.is_ready.part (sym (some_lent c.get.result _ c.in_ok-part.part refl c.in_ok-part.was) ∙ there) in
     subst (λ (p : Part). p.chip < length c.args.self.now.slots.items) (sym part) (slot_there past c.args.self.now c.requires.on_course
     first.is_ready.part.chip first.is_ready.run first.is_ready.run_at).1

@@ -6,7 +6,7 @@ use Rattle.nand_model.specs.declared.words.Command.{Command}
 use Rattle.command_model.specs.Session.{is_finished}
 use Rattle.tool_steps.specs.Boot.{commands_at}
 use Rattle.session_steps.specs.Standing.{standing, commands_by}
-use Rattle.ctl_core.proofs.bench.Bench.all_done.Goals as goal
+use Rattle.ctl_core.proofs.board.Board.all_done.Goals as goal
 
 pub loop-k-preserved : goal.loop-k-preserved
 loop-k-preserved g c i b s below at there = by_place (cases_lt i c.loop-k.k)

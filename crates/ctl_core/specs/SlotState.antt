@@ -11,13 +11,13 @@ use Rattle.nand_model.specs.declared.words.Fairness.{Fairness}
 use Rattle.nand_model.specs.declared.words.Note.{Note}
 use Rattle.nand_model.specs.declared.words.Note.TheVariants.{Torn}
 use Rattle.nand_model.specs.declared.words.Op.{Op}
-use Rattle.chip_paths.specs.Stage.{Stage, Rests, is_attached, first_stage, stage_of, stage_after, stage_begun, news_after, note_of_news}
+use Rattle.chip_paths.specs.Stage.{Stage, Rests, is_attached, first_stage, stage_of, stage_after, stage_begun, pending_note_after, note_of_attach}
 
 -- a chip in a controller
-pub record KeptChip (W : Type 0) : Type 0 where
+pub record SlotState (W : Type 0) : Type 0 where
   pub state : ChipState W
   pub stage : Stage
-  pub news : Option (Bool × Attaching)
+  pub pending_note : Option (Bool × Attaching)
   pub holder : Option ℕ
 
 -- the session that holds an attached chip
@@ -27,15 +27,15 @@ holder_by (Some known) None = None
 holder_by (Some known) (Some pending) = Some pending.session
 
 -- a chip of a course, as its controller keeps it
-abbrev pub kept_as : {W : Type 0} → Partitions → ChipRun W → KeptChip W
-kept_as partitions c = record { state = c.chip; stage = stage_of partitions c; news = None; holder = holder_by c.known c.pending }
+abbrev pub slot_as : {W : Type 0} → Partitions → ChipRun W → SlotState W
+slot_as partitions c = record { state = c.chip; stage = stage_of partitions c; pending_note = None; holder = holder_by c.known c.pending }
 
-abbrev pub all_kept : {W : Type 0} → Partitions → List (ChipRun W) → List (KeptChip W)
-all_kept partitions chips = map (kept_as partitions) chips
+abbrev pub slots_as : {W : Type 0} → Partitions → List (ChipRun W) → List (SlotState W)
+slots_as partitions chips = map (slot_as partitions) chips
 
 -- a chip at the start of its attach
-abbrev pub kept_first : {W : Type 0} → ChipState W → KeptChip W
-kept_first s = record { state = s; stage = first_stage s.geometry; news = None; holder = None }
+abbrev pub slot_first : {W : Type 0} → ChipState W → SlotState W
+slot_first s = record { state = s; stage = first_stage s.geometry; pending_note = None; holder = None }
 
 -- a chip that a session holds
 abbrev pub is_held_by : ℕ → Option ℕ → Bool
@@ -43,32 +43,32 @@ is_held_by session None = false
 is_held_by session (Some by) = by == session
 
 -- the first chip that is still to be attached, and the first that a session holds
-abbrev pub first_attaching : {W : Type 0} → List (KeptChip W) → Option ℕ
-first_attaching {W} chips = position (λ (c : KeptChip W). not (is_attached c.stage)) chips
+abbrev pub first_attaching : {W : Type 0} → List (SlotState W) → Option ℕ
+first_attaching {W} chips = position (λ (c : SlotState W). not (is_attached c.stage)) chips
 
-abbrev pub first_held_by : {W : Type 0} → ℕ → List (KeptChip W) → Option ℕ
-first_held_by {W} session chips = position (λ (c : KeptChip W). is_held_by session c.holder) chips
+abbrev pub first_held_by : {W : Type 0} → ℕ → List (SlotState W) → Option ℕ
+first_held_by {W} session chips = position (λ (c : SlotState W). is_held_by session c.holder) chips
 
 -- a chip after its next event
-abbrev pub after_event : {W : Type 0} → FaultModel W → PageEvent → KeptChip W → KeptChip W
+abbrev pub after_event : {W : Type 0} → FaultModel W → PageEvent → SlotState W → SlotState W
 after_event model e c =
     record {
       state = happens model c.state (Complete e);
       stage = stage_after (is_quiet c.state.geometry c.state.pages) (answer_to model c.state e) c.stage;
-      news = news_after (is_quiet c.state.geometry c.state.pages) (answer_to model c.state e) c.stage c.news;
+      pending_note = pending_note_after (is_quiet c.state.geometry c.state.pages) (answer_to model c.state e) c.stage c.pending_note;
       holder = c.holder;
     }
 
 -- a chip whose attach note is written
-abbrev pub with_news_told : {W : Type 0} → KeptChip W → KeptChip W
-with_news_told c = record c { news = None }
+abbrev pub with_note_written : {W : Type 0} → SlotState W → SlotState W
+with_note_written c = record c { pending_note = None }
 
 -- a chip on which a session begins an operation
-abbrev pub after_begin : {W : Type 0} → Partitions → ℕ → Op → KeptChip W → KeptChip W
+abbrev pub after_begin : {W : Type 0} → Partitions → ℕ → Op → SlotState W → SlotState W
 after_begin partitions session op c = record c { stage = stage_begun c.state.geometry partitions op c.stage; holder = Some session }
 
 -- a chip whose operation is answered
-abbrev pub after_answer : {W : Type 0} → Known → KeptChip W → KeptChip W
+abbrev pub after_answer : {W : Type 0} → Known → SlotState W → SlotState W
 after_answer known c = record c { stage = Rests known; holder = None }
 
 -- the note of event n of chip k, where it failed
@@ -77,9 +77,9 @@ failure_notes k n e None = []
 failure_notes k n e (Some fairness) = Torn k n (name_of e) false fairness ∷ []
 
 -- the note of an attach of chip k that came to its end
-abbrev pub news_notes : ℕ → Option (Bool × Attaching) → List Note
-news_notes k None = []
-news_notes k (Some news) = note_of_news k news ∷ []
+abbrev pub pending_notes : ℕ → Option (Bool × Attaching) → List Note
+pending_notes k None = []
+pending_notes k (Some pending_note) = note_of_attach k pending_note ∷ []
 
 -- a note, if there is one
 abbrev pub noted : Option Note → List Note

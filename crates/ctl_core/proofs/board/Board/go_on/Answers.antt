@@ -7,13 +7,13 @@ use Rattle.nand_model.specs.declared.words.Event.{Event}
 use Rattle.chip_core.specs.Chip.{chip_stage}
 use Rattle.chip_paths.specs.Stage.{stage_event, finished_in}
 use Rattle.session_steps.specs.Standing.{number_of}
-use Rattle.ctl_core.specs.Bench.{kept_chips, past_of}
+use Rattle.ctl_core.specs.Board.{slot_states, past_of}
 use Rattle.ctl_core.specs.Flips.{CanFlip}
-use Rattle.ctl_core.specs.KeptChip.{KeptChip}
+use Rattle.ctl_core.specs.SlotState.{SlotState}
 use Rattle.ctl_core.specs.Past.{course_of}
 use Rattle.ctl_core.proofs.Limits.{few_events, few_slots, held_slot}
 use Rattle.ctl_core.proofs.OnCourse.{can_flip, mapped_some, stands_alike, stands_now, where_err, works_on}
-use Rattle.ctl_core.proofs.bench.Bench.go_on.Goals as goal
+use Rattle.ctl_core.proofs.board.Board.go_on.Goals as goal
 
 -- the event that is named
 named : (o : Option PageEvent) (name : Option Event) → name ≡ option_map name_of o → true ≡ is_some name → (e : PageEvent) × (o ≡ Some e)
@@ -32,8 +32,8 @@ do_event-requires-clause-event g c =
     let x = held_slot (past_of c.args.journal.now) c.args.self.now c.requires.turn.on_course c.args.session c.args.k c.index.result.now c.requires.held
     c.index.ensures in
     let e = named (stage_event (chip_stage c.index.result.now.chip)) c.next_event.result c.next_event.ensures (sym c.if-is_some.true ∙ c.is_some.ensures) in
-    let has : stage_event x.0.stage ≡ Some e.0 = ap (λ (y : KeptChip g.F.Flash.FaultState). stage_event y.stage) (sym x.2) ∙ e.1 in
-    let event = ap (option_and_then (λ (y : KeptChip g.F.Flash.FaultState). stage_event y.stage)) x.1 ∙ has in
+    let has : stage_event x.0.stage ≡ Some e.0 = ap (λ (y : SlotState g.F.Flash.FaultState). stage_event y.stage) (sym x.2) ∙ e.1 in
+    let event = ap (option_and_then (λ (y : SlotState g.F.Flash.FaultState). stage_event y.stage)) x.1 ∙ has in
     subst (λ o. IsSome o) (sym event) refl
 
 pub do_event-requires-clause-number : goal.do_event-requires-clause-number
@@ -41,7 +41,7 @@ do_event-requires-clause-number g c = few_events (past_of c.args.journal.now) c.
 
 pub do_event-requires-clause-flips : goal.do_event-requires-clause-flips
 do_event-requires-clause-flips g c =
-    subst (λ flips. All (CanFlip (kept_chips c.args.self.now)) flips) (sym c.faults.ensures)
+    subst (λ flips. All (CanFlip (slot_states c.args.self.now)) flips) (sym c.faults.ensures)
     (can_flip (past_of c.args.journal.now) c.args.self.now c.requires.turn.on_course)
 
 pub returns-in_err-do_event-clause-no_memory : goal.returns-in_err-do_event-clause-no_memory
@@ -57,8 +57,8 @@ answer-requires-clause-finished g c =
     c.index.ensures in
     let none = not_named (stage_event (chip_stage c.index.result.now.chip)) c.next_event.result c.next_event.ensures
     (sym c.if-is_some.false ∙ c.is_some.ensures) in
-    let over = works_on x.0.stage x.3 (ap (λ (y : KeptChip g.F.Flash.FaultState). stage_event y.stage) (sym x.2) ∙ none) in
-    let finished = ap (option_and_then (λ (y : KeptChip g.F.Flash.FaultState). finished_in y.stage)) x.1 ∙ over.1 in
+    let over = works_on x.0.stage x.3 (ap (λ (y : SlotState g.F.Flash.FaultState). stage_event y.stage) (sym x.2) ∙ none) in
+    let finished = ap (option_and_then (λ (y : SlotState g.F.Flash.FaultState). finished_in y.stage)) x.1 ∙ over.1 in
     subst (λ o. IsSome o) (sym finished) refl
 
 pub answer-requires-clause-place : goal.answer-requires-clause-place
@@ -71,7 +71,7 @@ returns-in_ok-do_event-clause-stands g c =
     let past = past_of c.args.journal.now in
     let x = held_slot past c.args.self.now c.requires.turn.on_course c.args.session c.args.k c.index.result.now c.requires.held c.index.ensures in
     let e = named (stage_event (chip_stage c.index.result.now.chip)) c.next_event.result c.next_event.ensures (sym c.if-is_some.true ∙ c.is_some.ensures) in
-    let has : stage_event x.0.stage ≡ Some e.0 = ap (λ (y : KeptChip g.F.Flash.FaultState). stage_event y.stage) (sym x.2) ∙ e.1 in
+    let has : stage_event x.0.stage ≡ Some e.0 = ap (λ (y : SlotState g.F.Flash.FaultState). stage_event y.stage) (sym x.2) ∙ e.1 in
     stands_now past c.args.self.now c.requires.turn.on_course c.args.session c.args.k x.0 e.0 c.do_event.new.self c.requires.turn.attached c.requires.held x.1
     has
     c.faults.result.now c.faults.ensures c.in_ok-do_event.ensures.did

@@ -1,11 +1,11 @@
 use Rattle.std.proofs.Common.{◌<◌, not, length, Some, sym, ap, ◌∙◌, subst}
 use Rattle.std.specs.Prelude.{is_none, option_map}
-use Rattle.ctl_core.specs.Bench.{past_of, kept_slot, StandsAt}
-use Rattle.ctl_core.specs.KeptChip.{KeptChip}
+use Rattle.ctl_core.specs.Board.{past_of, slot_state, StandsAt}
+use Rattle.ctl_core.specs.SlotState.{SlotState}
 use Rattle.ctl_core.proofs.Positions.{at_mapped}
 use Rattle.ctl_core.proofs.Slots.{at_some}
 use Rattle.ctl_core.proofs.OnCourse.{lent_within, stays_where_done, answers_held, answers_did_begin}
-use Rattle.ctl_core.proofs.bench.Bench.begin.Goals as goal
+use Rattle.ctl_core.proofs.board.Board.begin.Goals as goal
 
 pub returns-in_default-clause-stands : goal.returns-in_default-clause-stands
 returns-in_default-clause-stands g c =
@@ -37,7 +37,7 @@ pub begin_on-requires-clause-free : goal.begin_on-requires-clause-free
 begin_on-requires-clause-free g c =
     let within = at_some (λ k. k < length c.args.self.now.slots.items) c.next_chip.result c.in-Some.k c.next_chip.ensures.there c.in-Some.is in
     let slot = lent_within c.args.self.now.slots.items c.in-Some.k c.index.result.now within c.index.ensures in
-    ap (option_map (λ (y : KeptChip g.F.Flash.FaultState). y.holder)) (at_mapped kept_slot c.args.self.now.slots.items c.in-Some.k c.index.result.now slot)
+    ap (option_map (λ (y : SlotState g.F.Flash.FaultState). y.holder)) (at_mapped slot_state c.args.self.now.slots.items c.in-Some.k c.index.result.now slot)
     ∙ ap Some c.in_default-holder.is
 
 pub returns-clause-answer : goal.returns-clause-answer

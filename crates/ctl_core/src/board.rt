@@ -5,7 +5,7 @@ ghost use Rattle.chip_paths.specs.ChipRun.{name_of};
 ghost use Rattle.chip_paths.specs.Stage.{stage_event, failure_told, finished_in, is_attached, is_resting, is_working};
 ghost use Rattle.chip_core.specs.Begin.{CanBegin};
 ghost use Rattle.chip_core.specs.Chip.{chip_stage};
-ghost use Rattle.ctl_core.specs.KeptChip.{KeptChip, is_held_by, after_event, after_begin, after_answer, with_news_told, failure_notes, news_notes, noted};
+ghost use Rattle.ctl_core.specs.SlotState.{SlotState, is_held_by, after_event, after_begin, after_answer, with_note_written, failure_notes, pending_notes, noted};
 
 use crate::Turn;
 use crate::flips::make_due_flips;
@@ -24,15 +24,15 @@ pub struct Slot<F: Flash, C: PageCode> {
 }
 
 impl<F: Flash, C: PageCode> Slot<F, C> {
-    ghost use Rattle.ctl_core.specs.Bench.{kept_slot};
+    ghost use Rattle.ctl_core.specs.Board.{slot_state};
 
     // Does the chip's next event, as event `number` of the controller, and puts down what there is to note of it.
     pub fn advance(&mut self, chip: u32, number: u32, notes: &mut History)
-        requires event { IsSome (stage_event (kept_slot self.old).stage) }
+        requires event { IsSome (stage_event (slot_state self.old).stage) }
         requires room { 2 ≤ notes.old.room }
-        ensures slot { IfSome (stage_event (kept_slot self.old).stage) (λ e. kept_slot self.new ≡ with_news_told (after_event F.fault_model e (kept_slot self.old))) }
-        ensures notes { IfSome (stage_event (kept_slot self.old).stage) (λ e. notes.new.notes ≡ notes.old.notes
-            ++ failure_notes chip number e (failure_told F.fault_model (kept_slot self.old).state e) ++ news_notes chip (after_event F.fault_model e (kept_slot self.old)).news) }
+        ensures slot { IfSome (stage_event (slot_state self.old).stage) (λ e. slot_state self.new ≡ with_note_written (after_event F.fault_model e (slot_state self.old))) }
+        ensures notes { IfSome (stage_event (slot_state self.old).stage) (λ e. notes.new.notes ≡ notes.old.notes
+            ++ failure_notes chip number e (failure_told F.fault_model (slot_state self.old).state e) ++ pending_notes chip (after_event F.fault_model e (slot_state self.old)).pending_note) }
     {
         let event = self.chip.next_event();
         let told = self.chip.advance();
@@ -42,10 +42,10 @@ impl<F: Flash, C: PageCode> Slot<F, C> {
 
     // The session begins an operation on the chip. Where memory runs out, the chip is as before.
     pub fn begin(&mut self, session: u32, parts: &Parts, op: &Op) -> Result<(), AllocError>
-        requires rests { is_resting (kept_slot self.old).stage ≡ true }
-        requires can { CanBegin (kept_slot self.old).state.geometry parts.now (kept_slot self.old).stage op.now }
-        ensures begun { OnOk result (kept_slot self.new ≡ after_begin parts.now session op.now (kept_slot self.old)) }
-        ensures no_memory { OnErr result (kept_slot self.new ≡ kept_slot self.old) }
+        requires rests { is_resting (slot_state self.old).stage ≡ true }
+        requires can { CanBegin (slot_state self.old).state.geometry parts.now (slot_state self.old).stage op.now }
+        ensures begun { OnOk result (slot_state self.new ≡ after_begin parts.now session op.now (slot_state self.old)) }
+        ensures no_memory { OnErr result (slot_state self.new ≡ slot_state self.old) }
     {
         self.chip.begin(parts, op)?;
         self.holder = Some(session);
@@ -54,9 +54,9 @@ impl<F: Flash, C: PageCode> Slot<F, C> {
 
     // The reply to the operation in flight, which has no event left. The chip is free then.
     pub fn answer(&mut self) -> Reply
-        requires { IsSome (finished_in (kept_slot self.old).stage) }
-        ensures reply { IfSome (finished_in (kept_slot self.old).stage) (λ finished. result ≡ finished.reply) }
-        ensures slot { IfSome (finished_in (kept_slot self.old).stage) (λ finished. kept_slot self.new ≡ after_answer finished.known (kept_slot self.old)) }
+        requires { IsSome (finished_in (slot_state self.old).stage) }
+        ensures reply { IfSome (finished_in (slot_state self.old).stage) (λ finished. result ≡ finished.reply) }
+        ensures slot { IfSome (finished_in (slot_state self.old).stage) (λ finished. slot_state self.new ≡ after_answer finished.known (slot_state self.old)) }
     {
         self.holder = None;
         self.chip.answer()
@@ -105,17 +105,17 @@ fn is_held_by(holder: Option<u32>, session: u32) -> bool
 
 /// What the steps of a controller change: its chips, the number of page events so far, its notes and its sessions.
 #[derive(Drop)]
-pub struct Bench<F: Flash, C: PageCode> {
+pub struct Board<F: Flash, C: PageCode> {
     pub slots: Vec<Slot<F, C>>,
     pub events: u32,
     pub notes: History,
     pub sessions: Vec<Session>,
 }
 
-impl<F: Flash, C: PageCode> Bench<F, C> {
+impl<F: Flash, C: PageCode> Board<F, C> {
     ghost use Rattle.session_steps.specs.Standing.{number_of};
-    ghost use Rattle.ctl_core.specs.Bench.{DidEvent, StandsAlike, event_at, kept_chips};
-    ghost use Rattle.ctl_core.specs.Flips.{CanFlip, kept_flips_before};
+    ghost use Rattle.ctl_core.specs.Board.{DidEvent, StandsAlike, event_at, slot_states};
+    ghost use Rattle.ctl_core.specs.Flips.{CanFlip, slot_flips_before};
 
     // The first chip that is not attached.
     pub fn first_attaching(&self) -> Option<usize>
@@ -147,9 +147,9 @@ impl<F: Flash, C: PageCode> Bench<F, C> {
         requires event { IsSome (event_at self.old k) }
         requires room { 2 ≤ self.old.notes.room }
         requires number { self.old.events < 2 ^ 32 - 1 }
-        requires flips { All (CanFlip (kept_chips self.old)) faults.now }
-        ensures did { (c : KeptChip F.FaultState) (e : PageEvent) →
-            slice_get (kept_flips_before F.fault_model faults.now (self.old.events + 1) (kept_chips self.old)) k ≡ Some c → stage_event c.stage ≡ Some e →
+        requires flips { All (CanFlip (slot_states self.old)) faults.now }
+        ensures did { (c : SlotState F.FaultState) (e : PageEvent) →
+            slice_get (slot_flips_before F.fault_model faults.now (self.old.events + 1) (slot_states self.old)) k ≡ Some c → stage_event c.stage ≡ Some e →
             OnOk result (DidEvent faults.now k c e self.old self.new) }
         ensures no_memory { OnErr result (StandsAlike self.old self.new) }
     {

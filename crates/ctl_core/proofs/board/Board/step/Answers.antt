@@ -1,8 +1,8 @@
 use Rattle.std.proofs.Common.{not, ap, sym, ◌∙◌}
-use Rattle.ctl_core.specs.Bench.{past_of}
+use Rattle.ctl_core.specs.Board.{past_of}
 use Rattle.ctl_core.proofs.Limits.{place_there, at_turn, held_in_slots}
 use Rattle.ctl_core.proofs.OnCourse.{answers_did_pending, busy_pending, held_not_done}
-use Rattle.ctl_core.proofs.bench.Bench.step.Goals as goal
+use Rattle.ctl_core.proofs.board.Board.step.Goals as goal
 
 pub unreachable-requires : goal.unreachable-requires
 unreachable-requires g c = place_there (past_of c.args.journal.now) c.args.self.now c.requires.on_course c.args.session c.requires.own
