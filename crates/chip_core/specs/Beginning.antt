@@ -59,4 +59,5 @@ pub record Follows (known : Knowledge) (path : Known → Path Finished) (dev : O
 
 -- a task stands for the whole path of an operation
 abbrev pub Begins : Knowledge → Partitions → Op → Task → Type 0
-Begins known partitions op task = Follows known (λ k. operation_path known.geometry partitions k op) (read_device op) task
+Begins known partitions op task =
+    Follows known (λ k. operation_path known.geometry partitions k op) (read_device op) task

@@ -20,7 +20,8 @@ marker_page s block = (s.pages (first_page s.geometry block)).cells
 
 -- an attach by the markers alone that found these states
 abbrev pub attached_by_markers : List ℕ → Attaching
-attached_by_markers states = record { table = states; origin = Markers; version = 0; places = record { primary = 0; mirror = 0 }; copies = 0 }
+attached_by_markers states =
+    record { table = states; origin = Markers; version = 0; places = record { primary = 0; mirror = 0 }; copies = 0 }
 
 -- what is known of a chip without tables whose blocks have these states
 abbrev pub known_by_markers : List ℕ → Known
@@ -30,7 +31,8 @@ known_by_markers states = known_at_first (attached_by_markers states)
 abbrev pub markers_left : Geometry → List ℕ → List ℕ → Path Attaching
 markers_left g states [] = Over (attached_by_markers states)
 markers_left g states (block ∷ blocks) =
-    Then (ReadEvent (first_page g block)) (λ answer. markers_left g (states ++ marker_state g (cells_of answer) ∷ []) blocks)
+    Then (ReadEvent (first_page g block)) (λ answer. markers_left g (states ++ marker_state g (cells_of answer) ∷ [])
+    blocks)
 
 -- the blocks from this one on
 abbrev pub blocks_from : Geometry → ℕ → List ℕ

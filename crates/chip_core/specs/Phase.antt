@@ -23,9 +23,11 @@ use Rattle.chip_core.specs.declared.phase.Phase.TheVariants.{Attaching as IsAtta
 -- the stage of a chip of which this is known; an attach has filled the states up to its next block
 abbrev pub phase_stage : Knowledge → Phase → Stage
 phase_stage known (IsAttaching scan) =
-    Attaches (markers_left known.geometry (take scan.next known.states) (blocks_from known.geometry scan.next)) scan.quiet_so_far
+    Attaches (markers_left known.geometry (take scan.next known.states) (blocks_from known.geometry scan.next))
+    scan.quiet_so_far
 phase_stage known Resting = Rests (known_in known)
-phase_stage known (Working task) = Works (known_in known) (task_progress task) (task_left known.geometry (known_in known) task)
+phase_stage known (Working task) =
+    Works (known_in known) (task_progress task) (task_left known.geometry (known_in known) task)
 
 -- a block is still to be read, and there is room for a page and for the note
 pub record ScanFits (g : Geometry) (scan : Scan) : Type 0 where

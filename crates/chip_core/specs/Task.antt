@@ -37,12 +37,16 @@ erased_from k block = Then (EraseEvent block) (λ outcome. answer k (done_or Era
 
 -- a page that was decoded, by its counts and its image
 abbrev pub decoding_of : PageRead → List ℕ → Decoding
-decoding_of read image = record { image = image; corrected = read.corrected; greatest = read.greatest; failed = read.failed }
+decoding_of read image =
+    record { image = image; corrected = read.corrected; greatest = read.greatest; failed = read.failed }
 
 -- a read whose reply this is, and whose counts are added to those of a device
 abbrev pub counted_read : Known → ℕ → PageKind → PageRead → List ℕ → Path Finished
 counted_read k dev kind read image =
-    Over (record { reply = Page kind read image; known = record k { statistics = with_statistics k.statistics dev (decoding_of read image) } })
+    Over (record {
+      reply = Page kind read image;
+      known = record k { statistics = with_statistics k.statistics dev (decoding_of read image) };
+    })
 
 -- the path that a task stands for, where this is known of the chip
 abbrev pub task_left : Geometry → Known → Task → Path Finished
@@ -113,10 +117,13 @@ counted_by (Decoded dev kind read image) = Some dev
 counted_by (AtOnce reply) = None
 counted_by (Ended reply) = None
 
--- an event of a task is done: the chip is as after it, the task goes on by its answer, and a failure is told and counted
-pub record Advances {W : Type 0} (model : FaultModel W) (before after : ChipState W) (e : PageEvent) (old new : Task) (failure : Option Fairness) : Type 0 where
+-- an event of a task is done: the chip is as after it, the task goes on by its answer, and a failure is told
+-- and counted
+pub record Advances {W : Type 0} (model : FaultModel W) (before after : ChipState W) (e : PageEvent) (old new : Task)
+    (failure : Option Fairness) : Type 0 where
   pub state : after ≡ happens model before (Complete e)
-  pub left : (k : Known) → task_left before.geometry k new ≡ path_after (answer_to model before e) (task_left before.geometry k old)
+  pub left : (k : Known) → task_left before.geometry k new ≡ path_after (answer_to model before e)
+      (task_left before.geometry k old)
   pub progress : task_progress new ≡ one_further (task_progress old)
   pub told : failure ≡ failure_told model before e
   pub plain : IfSome failure (λ fairness. fairness ≡ Plain)

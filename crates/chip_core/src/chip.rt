@@ -99,7 +99,9 @@ impl<F: Flash, C: PageCode> Chip<F, C> {
         ensures pending_note { chip_pending_note self.new ≡ chip_pending_note self.old }
     {
         let page_room = pages.max(self.page_room);
-        let room = page_room.checked_add(self.phase.programs()).ok_or(AllocError)?;
+        let room = page_room
+            .checked_add(self.phase.programs())
+            .ok_or(AllocError)?;
         self.flash.reserve(room, bits)?;
         self.page_room = page_room;
         Ok(())
@@ -192,7 +194,10 @@ impl<F: Flash, C: PageCode> Chip<F, C> {
     {
         self.known.expect(op)?;
         let task = begin(self.alloc, &self.code, &self.known, parts, op)?;
-        let room = self.page_room.checked_add(task.programs()).ok_or(AllocError)?;
+        let room = self
+            .page_room
+            .checked_add(task.programs())
+            .ok_or(AllocError)?;
         self.flash.reserve(room, 0)?;
         self.phase = Phase::Working(task);
         Ok(())

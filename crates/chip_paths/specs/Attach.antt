@@ -1,4 +1,5 @@
--- Attaching a chip: the scan of the table blocks or of all markers, and the copies that are written again (nand_bbt; which copy is written again and with which version is this project's own rule).
+-- Attaching a chip: the scan of the table blocks or of all markers, and the copies that are written again
+-- (nand_bbt; which copy is written again and with which version is this project's own rule).
 use Rattle.std.specs.Prelude.{ℕ, ◌==◌, if◌then◌else◌, List, map, ◌-◌, ◌++◌, take, drop, bit_or, [], ◌∷◌, true, false, not, Option, Some, None, Bool}
 use Rattle.nand_model.specs.Page.{marker_byte}
 use Rattle.chip_paths.specs.Writing.{Places, WholeCopies, Writing, whole_count, writing_of, writing_path}
@@ -14,6 +15,7 @@ use Rattle.nand_model.specs.declared.words.Origin.TheVariants.{Primary as FromPr
 use Rattle.nand_model.specs.declared.geometry.Geometry.{Geometry}
 use Rattle.nand_model.specs.declared.words.Which.TheVariants.{Primary, Mirror}
 
+-- where the table of an attach comes from
 abbrev pub origin_of : Choice → Origin
 origin_of (UsePrimary rewrite) = FromPrimary
 origin_of (UseMirror rewrite) = FromMirror
@@ -27,7 +29,8 @@ marker_table g pages = map (λ cells. if marker_byte g cells == 0xff then 0 else
 abbrev pub with_reserved : Geometry → List ℕ → List ℕ
 with_reserved g states = take (g.blocks - 4) states ++ map (λ s. bit_or s 2) (drop (g.blocks - 4) states)
 
--- the outcome of an attach: the table, the copy that it came from, the version, the places, and how many copies are whole
+-- the outcome of an attach: the table, the copy that it came from, the version, the places, and how many
+-- copies are whole
 pub record Attaching : Type 0 where
   pub table : List ℕ
   pub origin : Origin
@@ -47,26 +50,37 @@ whole_at_first (UsePrimary rewrite) = record { primary = true; mirror = not rewr
 whole_at_first (UseMirror rewrite) = record { primary = not rewrite; mirror = true }
 whole_at_first Neither = record { primary = false; mirror = false }
 
+-- the outcome of an attach whose writing has ended so
 abbrev pub attaching_of : Choice → Writing → Attaching
 attaching_of choice w =
-    record { table = w.table; origin = origin_of choice; version = w.version; places = w.places; copies = whole_count w.whole }
+    record {
+      table = w.table;
+      origin = origin_of choice;
+      version = w.version;
+      places = w.places;
+      copies = whole_count w.whole;
+    }
 
 -- the copies that need it are written, under this version, with this table and the last four blocks reserved
 abbrev pub rewrite_copies : Geometry → Places → Choice → ℕ → List ℕ → Path Attaching
 rewrite_copies g places choice version states =
-    writing_path g (writing_of (with_reserved g states) version places (whole_at_first choice) (rewritten choice)) (λ w. Over (attaching_of choice w))
+    writing_path g (writing_of (with_reserved g states) version places (whole_at_first choice) (rewritten choice))
+    (λ w. Over (attaching_of choice w))
 
 -- the copy that is used, or the markers of all blocks where there is none
 abbrev pub use_copy : Geometry → Places → Choice → Option (ℕ × Copy) → Path Attaching
 use_copy g places choice (Some (block, copy)) = rewrite_copies g places choice copy.version copy.states
-use_copy g places choice None = read_first_pages g (numbers_from 0 g.blocks) [] (λ pages. rewrite_copies g places choice 1 (marker_table g pages))
+use_copy g places choice None =
+    read_first_pages g (numbers_from 0 g.blocks) [] (λ pages. rewrite_copies g places choice 1 (marker_table g pages))
 
+-- the copies that were found lead to the choice of one of them and to the writing of the others
 abbrev pub use_found : Geometry → Places → Option (ℕ × Copy) → Option (ℕ × Copy) → Path Attaching
 use_found g places primary mirror =
     let choice : Choice = choice_of (version_found primary) (version_found mirror) in
     use_copy g places choice (used_copy choice primary mirror)
 
--- an attach: with tables the last four blocks are scanned for copies, without them the markers of all blocks are the table
+-- an attach: with tables the last four blocks are scanned for copies, without them the markers of all blocks
+-- are the table
 abbrev pub attach_by : Bool → Geometry → Path Attaching
 attach_by true g =
     read_first_pages g (table_blocks g) [] (λ pages.
@@ -74,7 +88,14 @@ attach_by true g =
     use_found g (places_of g cs) (found g Primary cs) (found g Mirror cs))
 attach_by false g =
     read_first_pages g (numbers_from 0 g.blocks) [] (λ pages.
-    Over (record { table = marker_table g pages; origin = Markers; version = 0; places = record { primary = 0; mirror = 0 }; copies = 0 }))
+    Over (record {
+      table = marker_table g pages;
+      origin = Markers;
+      version = 0;
+      places = record { primary = 0; mirror = 0 };
+      copies = 0;
+    }))
 
+-- an attach of a chip
 abbrev pub attach_path : Geometry → Path Attaching
 attach_path g = attach_by (has_tables g) g

@@ -20,7 +20,8 @@ pub record Pending : Type 0 where
   pub op : Op
   pub answers : List Answer
 
--- a chip in a boot: how the events of its attach were answered, whether each found it quiet, and, once it is attached, what is known of it and what is pending
+-- a chip in a boot: how the events of its attach were answered, whether each found it quiet, and, once it is
+-- attached, what is known of it and what is pending
 pub record ChipRun (W : Type 0) : Type 0 where
   pub chip : ChipState W
   pub attach_answers : List Answer
@@ -43,21 +44,30 @@ abbrev pub torn_notes : {W : Type 0} → Bool → ℕ → ℕ → Bool → ChipS
 torn_notes true k n cut s e after = Torn k n (name_of e) cut (fairness_of s.geometry s.pages e after.pages) ∷ []
 torn_notes false k n cut s e after = []
 
+-- the note of an attach
 abbrev pub attach_note : ℕ → Bool → Attaching → Note
 attach_note k quiet a = Attached k a.origin a.version a.copies quiet a.table
 
 -- what is known of a chip once it is attached: the statistics of a boot begin at 0
 abbrev pub known_at_first : Attaching → Known
 known_at_first a =
-    record { table = a.table; version = a.version; places = a.places; copies = a.copies; statistics = λ dev. record { corrected = 0; failed = 0 } }
+    record {
+      table = a.table;
+      version = a.version;
+      places = a.places;
+      copies = a.copies;
+      statistics = λ dev. record { corrected = 0; failed = 0 };
+    }
 
 -- the next event of a chip: of its attach while that is not over, else of the pending operation
-abbrev pub next_event_by : {W : Type 0} → Partitions → ChipState W → List Answer → Option Known → Option Pending → Option PageEvent
+abbrev pub next_event_by : {W : Type 0} → Partitions → ChipState W → List Answer → Option Known → Option Pending
+    → Option PageEvent
 next_event_by partitions s answers None pending = next_event (attach_path s.geometry) answers
 next_event_by partitions s answers (Some known) None = None
 next_event_by partitions s answers (Some known) (Some pending) =
     next_event (operation_path s.geometry partitions known pending.op) pending.answers
 
+-- the next event of a chip
 abbrev pub next_chip_event : {W : Type 0} → Partitions → ChipRun W → Option PageEvent
 next_chip_event partitions c = next_event_by partitions c.chip c.attach_answers c.known c.pending
 
@@ -75,7 +85,8 @@ abbrev pub known_once_over : Path Attaching → Option Known
 known_once_over (Over attaching) = Some (known_at_first attaching)
 known_once_over (Then event rest) = None
 
--- a chip whose attach or operation has one more answer; during an attach, the chip before the event says whether it was quiet
+-- a chip whose attach or operation has one more answer; during an attach, the chip before the event says
+-- whether it was quiet
 abbrev pub answered_by : {W : Type 0} → ChipRun W → ChipState W → Answer → Option Known → ChipRun W
 answered_by c after answer None =
     let answers : List Answer = c.attach_answers ++ answer ∷ [] in
@@ -88,6 +99,7 @@ answered_by c after answer None =
     }
 answered_by c after answer (Some known) = record c { chip = after; pending = pending_after c.pending answer }
 
+-- a chip whose event was torn: during an attach it says whether the chip was quiet
 abbrev pub torn_by : {W : Type 0} → ChipRun W → ChipState W → Option Known → ChipRun W
 torn_by c after None = record c { chip = after; quiet = c.quiet && is_quiet c.chip.geometry c.chip.pages }
 torn_by c after (Some known) = record c { chip = after }
@@ -106,10 +118,13 @@ abbrev pub attach_notes_of : ℕ → Bool → Path Attaching → List Note
 attach_notes_of k quiet (Over attaching) = attach_note k quiet attaching ∷ []
 attach_notes_of k quiet (Then event rest) = []
 
+-- the note of an attach of a chip of which nothing was known before, where the attach is over
 abbrev pub attach_notes_by : {W : Type 0} → ℕ → ChipRun W → Option Known → List Note
-attach_notes_by k now None = attach_notes_of k now.quiet (after_answers now.attach_answers (attach_path now.chip.geometry))
+attach_notes_by k now None =
+    attach_notes_of k now.quiet (after_answers now.attach_answers (attach_path now.chip.geometry))
 attach_notes_by k now (Some known) = []
 
+-- the note of an attach that an event has brought to its end
 abbrev pub attach_notes : {W : Type 0} → ℕ → ChipRun W → ChipRun W → List Note
 attach_notes k before now = attach_notes_by k now before.known
 
@@ -124,20 +139,24 @@ pub data Progress : Type 0 where
   AfterOne : Progress
   AfterMore : Progress
 
+-- how far these answers have brought it
 abbrev pub progress_of : List Answer → Progress
 progress_of [] = AtStart
 progress_of (first ∷ []) = AfterOne
 progress_of (first ∷ second ∷ answers) = AfterMore
 
--- the table in memory changes within an operation once its second event is answered, which is the program of a mark's marker: from
+-- the table in memory changes within an operation once its second event is answered, which is the program of
+-- a mark's marker: from
 -- then on it is the one that the operation ends with where no further event fails
 abbrev pub table_at : Progress → Path Finished → List ℕ → List ℕ
 table_at AtStart left table = table
 table_at AfterOne left table = table
 table_at AfterMore left table = (ends_well left).known.table
 
+-- the table in memory within an operation that has had these answers
 abbrev pub table_during : Geometry → Partitions → Known → Op → List Answer → List ℕ
-table_during g partitions k op answers = table_at (progress_of answers) (after_answers answers (operation_path g partitions k op)) k.table
+table_during g partitions k op answers =
+    table_at (progress_of answers) (after_answers answers (operation_path g partitions k op)) k.table
 
 -- the table in memory, also while an operation is pending: a mark that has had no event yet leaves it as it is
 abbrev pub table_now : {W : Type 0} → Partitions → ChipRun W → Option (List ℕ)
@@ -153,6 +172,7 @@ abbrev pub bad_blocks_in : Option (List ℕ) → ℕ
 bad_blocks_in None = 0
 bad_blocks_in (Some table) = count_by is_bad_state table
 
+-- the number of bad blocks of a chip
 abbrev pub bad_blocks : {W : Type 0} → Partitions → ChipRun W → ℕ
 bad_blocks partitions c = bad_blocks_in (table_now partitions c)
 
@@ -171,7 +191,9 @@ module _ {W : Type 0} (model : FaultModel W) where
 
   -- the notes of that event on chip k
   abbrev pub notes_of_advance : ℕ → ℕ → ChipRun W → PageEvent → List Note
-  notes_of_advance k n c e = torn_notes (is_failure (answer_to model c.chip e)) k n false c.chip e (happens model c.chip (Complete e))
+  notes_of_advance k n c e =
+      torn_notes (is_failure (answer_to model c.chip e)) k n false c.chip e (happens model c.chip (Complete e))
 
+  -- the note of that event where a power cut tore it
   abbrev pub notes_of_cut : ℕ → ℕ → ChipRun W → PageEvent → DoneBits → List Note
   notes_of_cut k n c e done = torn_notes true k n true c.chip e (happens model c.chip (PowerCut e done))

@@ -13,7 +13,8 @@ use Rattle.nand_model.specs.declared.words.Fairness.{Fairness}
 use Rattle.nand_model.specs.declared.words.Stats.{Stats}
 use Rattle.nand_model.specs.declared.words.Op.{Op}
 
--- a chip is being attached, and all its events so far were quiet or not; or it is attached with nothing in flight; or an operation is in
+-- a chip is being attached, and all its events so far were quiet or not; or it is attached with nothing in
+-- flight; or an operation is in
 -- flight, of which this was known before, how far it has come and what is left
 pub data Stage : Type 0 where
   Attaches : (left : Path Attaching) → (quiet : Bool) → Stage
@@ -57,8 +58,10 @@ abbrev pub attach_end : Path Attaching → Bool → Option (Bool × Attaching)
 attach_end (Over attaching) quiet = Some (quiet, attaching)
 attach_end (Then event rest) quiet = None
 
+-- the attach whose note is still to be handed out, after an event
 abbrev pub pending_note_after : Bool → Answer → Stage → Option (Bool × Attaching) → Option (Bool × Attaching)
-pending_note_after now_quiet answer (Attaches left quiet) pending_note = attach_end (path_after answer left) (quiet && now_quiet)
+pending_note_after now_quiet answer (Attaches left quiet) pending_note =
+    attach_end (path_after answer left) (quiet && now_quiet)
 pending_note_after now_quiet answer (Rests known) pending_note = pending_note
 pending_note_after now_quiet answer (Works known progress left) pending_note = pending_note
 
@@ -117,14 +120,17 @@ module _ {W : Type 0} (model : FaultModel W) where
   -- what an event tells where it fails
   abbrev pub failure_told : ChipState W → PageEvent → Option Fairness
   failure_told s e =
-      fairness_where_failed (is_failure (answer_to model s e)) (fairness_of s.geometry s.pages e (happens model s (Complete e)).pages)
+      fairness_where_failed (is_failure (answer_to model s e))
+      (fairness_of s.geometry s.pages e (happens model s (Complete e)).pages)
 
 -- the stage of a chip in a run
 abbrev pub stage_by : {W : Type 0} → Partitions → ChipRun W → Option Known → Option Pending → Stage
 stage_by partitions c None pending = Attaches (after_answers c.attach_answers (attach_path c.chip.geometry)) c.quiet
 stage_by partitions c (Some known) None = Rests known
 stage_by partitions c (Some known) (Some pending) =
-    Works known (progress_of pending.answers) (after_answers pending.answers (operation_path c.chip.geometry partitions known pending.op))
+    Works known (progress_of pending.answers)
+    (after_answers pending.answers (operation_path c.chip.geometry partitions known pending.op))
 
+-- the stage of a chip of a course
 abbrev pub stage_of : {W : Type 0} → Partitions → ChipRun W → Stage
 stage_of partitions c = stage_by partitions c c.known c.pending

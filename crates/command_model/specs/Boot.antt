@@ -20,6 +20,7 @@ change_at [] n f = []
 change_at (x ∷ xs) zero f = f x ∷ xs
 change_at (x ∷ xs) (suc n) f = x ∷ change_at xs n f
 
+-- the geometry of this chip (some geometry, where there is none)
 abbrev pub geometry_of_chip : List Geometry → Option ℕ → Geometry
 geometry_of_chip geometries None = small_chip
 geometry_of_chip geometries (Some k) = slice_index_or geometries k small_chip
@@ -30,4 +31,5 @@ geometry_for partitions geometries command = geometry_of_chip geometries (chip_o
 
 -- the numbers of a boot's sessions ascend
 abbrev pub AreAscending : List (ℕ × List Command) → Type 0
-AreAscending begun = (i j : ℕ) (a b : ℕ × List Command) → i < j → slice_get begun i ≡ Some a → slice_get begun j ≡ Some b → a.0 < b.0
+AreAscending begun =
+    (i j : ℕ) (a b : ℕ × List Command) → i < j → slice_get begun i ≡ Some a → slice_get begun j ≡ Some b → a.0 < b.0

@@ -1,4 +1,6 @@
--- Commands: the operations that each asks for, as its replies come, and its outcome (the names and options are those of mtd-utils; the sequence of operations, the counters and the behaviour after a failure are this project's own).
+-- Commands: the operations that each asks for, as its replies come, and its outcome (the names and options
+-- are those of mtd-utils; the sequence of operations, the counters and the behaviour after a failure are this
+-- project's own).
 use Rattle.std.specs.Prelude.{List, [], ◌∷◌, Bool, false, not, ◌==◌, true, ℕ, zero, suc, ◌+◌, if◌then◌else◌, ◌-◌, ◌++◌, length, take, drop, replicate, slice_range, ◌*◌, ◌/◌, min, ◌%◌, map, bytes_eq, ◌^◌, ◌&&◌, nat_lt, nat_le, ◌||◌, ◌≢◌, ◌≤◌, ◌≡◌, ⊤, ◌<◌}
 use Rattle.nand_model.specs.Sizes.{raw_len, parity_start, numbers_from}
 use Rattle.nand_model.specs.Seeds.{seed_byte}
@@ -33,6 +35,7 @@ after_replies [] script = script
 after_replies (r ∷ replies) (Ask op go_on) = after_replies replies (go_on r)
 after_replies (r ∷ replies) (End outcome) = End outcome
 
+-- what a script asks for or ends with
 abbrev pub next_in : Script → Next
 next_in (End outcome) = Over outcome
 next_in (Ask op go_on) = Do op
@@ -42,6 +45,7 @@ abbrev pub says_bad : Reply → Bool
 says_bad (State n) = not (n == 0)
 says_bad _ = false
 
+-- the operation was done
 abbrev pub is_done : Reply → Bool
 is_done Done = true
 is_done _ = false
@@ -56,9 +60,11 @@ abbrev pub erase_blocks : ℕ → Bool → (left block erased bad failed : ℕ) 
 erase_blocks dev no_scan zero block erased bad failed = End (Erased erased bad failed)
 erase_blocks dev no_scan (suc left) block erased bad failed =
     let erase : Script = Ask (Erase dev block)
-    (λ r. erase_blocks dev no_scan left (block + 1) (erased + one_if (is_done r)) bad (failed + one_if (not (is_done r)))) in
+    (λ r. erase_blocks dev no_scan left (block + 1) (erased + one_if (is_done r)) bad
+    (failed + one_if (not (is_done r)))) in
     if no_scan then erase
-    else Ask (IsBad dev block) (λ r. if says_bad r then erase_blocks dev no_scan left (block + 1) erased (bad + 1) failed else erase)
+    else Ask (IsBad dev block) (λ r. if says_bad r then erase_blocks dev no_scan left (block + 1) erased (bad + 1)
+    failed else erase)
 
 -- the data of nandwrite in units of one size, the last one padded with 0xFF
 abbrev pub units_of : ℕ → ℕ → List ℕ → List (List ℕ)
@@ -90,9 +96,11 @@ pub record WriteCounts : Type 0 where
   pub skipped : ℕ
   pub failed : ℕ
 
+-- the end of a nandwrite with these counts
 abbrev pub written_end : WriteCounts → Ending → Script
 written_end c ending = End (Written c.pages c.skipped c.failed ending)
 
+-- the block of a page that failed is erased, and with `-m` marked, before the rest
 abbrev pub erase_and_mark : WriteMode → ℕ → Script → Script
 erase_and_mark m block rest =
     Ask (Erase m.dev block) (λ r. if m.mark then Ask (Mark m.dev block) (λ s. rest) else rest)
@@ -106,7 +114,8 @@ after_write MarkerByte good failed skipped marker = marker
 after_write _ good failed skipped marker = good
 
 -- the pages of one block: `taken` are the units that are left where the block begins, to which a failure goes back
-abbrev pub write_pages : Geometry → WriteMode → ℕ → List (List ℕ) → WriteCounts → (List (List ℕ) → WriteCounts → Script) → (in_block place : ℕ) → List (List ℕ) → Script
+abbrev pub write_pages : Geometry → WriteMode → ℕ → List (List ℕ) → WriteCounts
+    → (List (List ℕ) → WriteCounts → Script) → (in_block place : ℕ) → List (List ℕ) → Script
 write_pages g m block taken c next_block in_block place [] = written_end (record c { pages = c.pages + in_block }) Whole
 write_pages g m block taken c next_block in_block place (unit ∷ units) =
     if place == g.pages_per_block then next_block (unit ∷ units) (record c { pages = c.pages + in_block })
@@ -123,7 +132,8 @@ write_blocks g m zero block place (unit ∷ units) c = written_end c NoSpace
 write_blocks g m (suc left) block place (unit ∷ units) c =
     Ask (IsBad m.dev block) (λ r.
     if says_bad r then write_blocks g m left (block + 1) 0 (unit ∷ units) (record c { skipped = c.skipped + 1 })
-    else write_pages g m block (unit ∷ units) c (λ us d. write_blocks g m left (block + 1) 0 us d) 0 place (unit ∷ units))
+    else write_pages g m block (unit ∷ units) c (λ us d. write_blocks g m left (block + 1) 0 us d) 0 place (unit
+    ∷ units))
 
 -- how nanddump was called
 pub record DumpMode : Type 0 where
@@ -144,16 +154,25 @@ pub record DumpCounts : Type 0 where
 abbrev pub dumped_part : Geometry → DumpMode → List ℕ → List ℕ
 dumped_part g m image = if m.oob then image else take g.page image
 
+-- the counts of a dump with one more page
 abbrev pub with_page_read : Geometry → DumpMode → DumpCounts → Reply → DumpCounts
 with_page_read g m c (Page kind read image) =
-    record { pages = c.pages + 1; bad = c.bad; corrected = c.corrected + read.corrected; failed = c.failed + read.failed; dump = c.dump ++ dumped_part g m image }
+    record {
+      pages = c.pages + 1;
+      bad = c.bad;
+      corrected = c.corrected + read.corrected;
+      failed = c.failed + read.failed;
+      dump = c.dump ++ dumped_part g m image;
+    }
 with_page_read g m c _ = c
 
+-- bad blocks are dumped as 0xFF
 abbrev pub is_pad_bad : BadMode → Bool
 is_pad_bad PadBad = true
 is_pad_bad DumpBad = false
 is_pad_bad SkipBad = false
 
+-- bad blocks are dumped like others
 abbrev pub is_dump_bad : BadMode → Bool
 is_dump_bad PadBad = false
 is_dump_bad DumpBad = true
@@ -161,20 +180,23 @@ is_dump_bad SkipBad = false
 
 -- n pages of a bad block are passed over, or dumped as 0xFF
 abbrev pub with_pages_passed : Geometry → DumpMode → ℕ → DumpCounts → DumpCounts
-with_pages_passed g m n c = if is_pad_bad m.bad then record c { dump = c.dump ++ replicate (n * unit_size g m.oob) 0xff } else c
+with_pages_passed g m n c =
+    if is_pad_bad m.bad then record c { dump = c.dump ++ replicate (n * unit_size g m.oob) 0xff } else c
 
 -- reads of n pages one after the other, and then what follows
 abbrev pub dump_pages : Geometry → DumpMode → (left page : ℕ) → DumpCounts → (DumpCounts → Script) → Script
 dump_pages g m zero page c go_on = go_on c
 dump_pages g m (suc left) page c go_on =
-    Ask (if m.raw then RawRead m.dev page else Read m.dev page) (λ r. dump_pages g m left (page + 1) (with_page_read g m c r) go_on)
+    Ask (if m.raw then RawRead m.dev page else Read m.dev page)
+    (λ r. dump_pages g m left (page + 1) (with_page_read g m c r) go_on)
 
 -- the n pages of the range in one block: its state is asked first, unless bad blocks are dumped like others
 abbrev pub dump_block : Geometry → DumpMode → (n page : ℕ) → DumpCounts → (DumpCounts → Script) → Script
 dump_block g m n page c go_on =
     if is_dump_bad m.bad then dump_pages g m n page c go_on
     else Ask (IsBad m.dev (page / g.pages_per_block)) (λ r.
-    if says_bad r then go_on (with_pages_passed g m n (record c { bad = c.bad + 1 })) else dump_pages g m n page c go_on)
+    if says_bad r then go_on (with_pages_passed g m n (record c { bad = c.bad + 1 }))
+    else dump_pages g m n page c go_on)
 
 -- block after block, the pages of the range that lie in each
 abbrev pub dump_blocks : Geometry → DumpMode → (blocks left page : ℕ) → DumpCounts → Script
@@ -206,18 +228,22 @@ pub record TestCounts : Type 0 where
 
 -- the counts of a page that was read
 abbrev pub with_test_read : TestCounts → Reply → TestCounts
-with_test_read c (Page kind read image) = record c { corrected = c.corrected + read.corrected; failed = c.failed + read.failed }
+with_test_read c (Page kind read image) =
+    record c { corrected = c.corrected + read.corrected; failed = c.failed + read.failed }
 with_test_read c _ = c
 
+-- the body in a reply
 abbrev pub body_read : Geometry → Reply → List ℕ
 body_read g (Page kind read image) = take g.page image
 body_read g _ = []
 
 -- reads of pages one after the other, and then what follows their bodies
-abbrev pub read_bodies : Geometry → ℕ → (left page : ℕ) → List (List ℕ) → TestCounts → (List (List ℕ) → TestCounts → Script) → Script
+abbrev pub read_bodies : Geometry → ℕ → (left page : ℕ) → List (List ℕ) → TestCounts
+    → (List (List ℕ) → TestCounts → Script) → Script
 read_bodies g dev zero page bodies c go_on = go_on bodies c
 read_bodies g dev (suc left) page bodies c go_on =
-    Ask (Read dev page) (λ r. read_bodies g dev left (page + 1) (bodies ++ body_read g r ∷ []) (with_test_read c r) go_on)
+    Ask (Read dev page) (λ r. read_bodies g dev left (page + 1) (bodies ++ body_read g r ∷ []) (with_test_read c r)
+    go_on)
 
 -- after an erase or a write: good, failed or refused
 abbrev pub after_change : Reply → (good worn refused : Script) → Script
@@ -248,9 +274,11 @@ test_worn m block c next_block =
     let d : TestCounts = record c { worn = c.worn + 1 } in
     if m.mark then Ask (Mark m.dev block) (λ r. next_block d) else next_block d
 
+-- a block that was refused counts as bad
 abbrev pub test_refused : TestCounts → (TestCounts → Script) → Script
 test_refused c next_block = next_block (record c { bad = c.bad + 1 })
 
+-- a block that has passed is counted
 abbrev pub test_passed : TestCounts → (TestCounts → Script) → Script
 test_passed c next_block = next_block (record c { blocks = c.blocks + 1 })
 
@@ -268,7 +296,8 @@ test_restore g m block kept c next_block =
     if m.keep then test_change g m block kept c next_block (test_passed c next_block) else test_passed c next_block
 
 -- each page is read, and each body that differs from the written one is counted
-abbrev pub test_compare : Geometry → TestMode → ℕ → (written kept : List (List ℕ)) → TestCounts → (TestCounts → Script) → Script
+abbrev pub test_compare : Geometry → TestMode → ℕ → (written kept : List (List ℕ)) → TestCounts
+    → (TestCounts → Script) → Script
 test_compare g m block written kept c next_block =
     read_bodies g m.dev g.pages_per_block (block * g.pages_per_block) [] c (λ read d.
     let n : ℕ = different_bodies written read in
@@ -276,7 +305,8 @@ test_compare g m block written kept c next_block =
     else test_worn m block (record d { mismatched = d.mismatched + n }) next_block)
 
 -- the block is erased and written with the bodies of the pass, and then compared
-abbrev pub test_rewrite : Geometry → TestMode → (seed block : ℕ) → List (List ℕ) → TestCounts → (TestCounts → Script) → Script
+abbrev pub test_rewrite : Geometry → TestMode → (seed block : ℕ) → List (List ℕ) → TestCounts → (TestCounts → Script)
+    → Script
 test_rewrite g m seed block kept c next_block =
     let written : List (List ℕ) = map (test_body g seed) (numbers_from (block * g.pages_per_block) g.pages_per_block) in
     test_change g m block written c next_block (test_compare g m block written kept c next_block)
@@ -285,7 +315,8 @@ test_rewrite g m seed block kept c next_block =
 abbrev pub test_keep : Geometry → TestMode → (seed block : ℕ) → TestCounts → (TestCounts → Script) → Script
 test_keep g m seed block c next_block =
     if m.keep
-    then read_bodies g m.dev g.pages_per_block (block * g.pages_per_block) [] c (λ kept d. test_rewrite g m seed block kept d next_block)
+    then read_bodies g m.dev g.pages_per_block (block * g.pages_per_block) [] c
+    (λ kept d. test_rewrite g m seed block kept d next_block)
     else test_rewrite g m seed block [] c next_block
 
 -- one block of one pass, unless it is bad, and then the next block
@@ -300,6 +331,7 @@ test_blocks g m seed zero block c next_pass = next_pass c
 test_blocks g m seed (suc left) block c next_pass =
     test_block g m seed block c (λ d. test_blocks g m seed left (block + 1) d next_pass)
 
+-- pass after pass, each with the seed of its number
 abbrev pub test_passes : Geometry → TestMode → (first count left : ℕ) → TestCounts → Script
 test_passes g m first count zero c = End (Tested m.passes c.blocks c.bad c.worn c.mismatched c.corrected c.failed)
 test_passes g m first count (suc left) c =
@@ -309,13 +341,16 @@ test_passes g m first count (suc left) c =
 abbrev pub count_or_rest : ℕ → ℕ → ℕ → ℕ
 count_or_rest count start all = if count == 0 then all - start else count
 
+-- the outcome of stats by its reply
 abbrev pub stats_outcome : Reply → Outcome
 stats_outcome (Counts corrected failed bad) = AskedStats corrected failed bad
 stats_outcome _ = AskedStats 0 0 0
 
+-- the bytes of the bodies of a block
 abbrev pub block_size : Geometry → ℕ
 block_size g = g.pages_per_block * g.page
 
+-- how many units the data of a nandwrite fill
 abbrev pub unit_count : Geometry → Bool → List ℕ → ℕ
 unit_count g oob bytes = (length bytes + (unit_size g oob - 1)) / unit_size g oob
 
@@ -324,7 +359,8 @@ abbrev pub script_of : Geometry → Command → Script
 script_of g (FlashErase dev blocks no_scan start count) =
     erase_blocks dev no_scan (count_or_rest count start blocks) start 0 0 0
 script_of g (NandWrite dev blocks mark raw oob pad off bytes) =
-    write_blocks g (record { dev = dev; mark = mark; raw = raw; oob = oob }) (blocks - off / block_size g) (off / block_size g)
+    write_blocks g (record { dev = dev; mark = mark; raw = raw; oob = oob }) (blocks - off / block_size g)
+    (off / block_size g)
     (off / g.page % g.pages_per_block) (units_of (unit_size g oob) (unit_count g oob bytes) bytes)
     (record { pages = 0; skipped = 0; failed = 0 })
 script_of g (NandDump dev blocks off len raw oob bad) =
@@ -358,7 +394,8 @@ cost_of g (NandTest dev blocks keep mark seed passes off len) weak =
     passes * count * (2 * g.pages_per_block + 3) + (if keep then passes * count * (2 * g.pages_per_block + 1) else 0)
 cost_of g _ weak = 1
 
--- a range of an offset and a length lies on a device of so many bytes and consists of units of one size, where length 0 means to the end
+-- a range of an offset and a length lies on a device of so many bytes and consists of units of one size,
+-- where length 0 means to the end
 abbrev pub is_range : (unit size off len : ℕ) → Bool
 is_range unit size off len = off % unit == 0 && len % unit == 0 && nat_lt off size && nat_le (off + len) size
 
@@ -392,36 +429,44 @@ command_blocks (AskStats dev blocks) = blocks
 abbrev pub fits : Geometry → Command → Bool
 fits g command = nat_le 1 (command_blocks command) && nat_le (command_blocks command) 32768 && fits_device g command
 
--- the answers to each kind of operation, beside out of range; a page's counts are at most 128 each, and a raw page's are 0
+-- the answers to each kind of operation, beside out of range; a page's counts are at most 128 each, and a raw
+-- page's are 0
 abbrev pub IsDecodedPage : Reply → Type 0
-IsDecodedPage (Page kind read image) = (kind ≢ Raw) × (read.corrected ≤ 128) × (read.greatest ≤ 128) × (read.failed ≤ 128)
+IsDecodedPage (Page kind read image) =
+    (kind ≢ Raw) × (read.corrected ≤ 128) × (read.greatest ≤ 128) × (read.failed ≤ 128)
 IsDecodedPage _ = ⊥
 
+-- a page as it was read, without counts
 abbrev pub IsRawPage : Reply → Type 0
 IsRawPage (Page kind read image) = (kind ≡ Raw) × (read.corrected ≡ 0) × (read.greatest ≡ 0) × (read.failed ≡ 0)
 IsRawPage _ = ⊥
 
+-- the answers to a write
 abbrev pub IsWriteAnswer : Reply → Type 0
 IsWriteAnswer Done = ⊤
 IsWriteAnswer BadBlock = ⊤
 IsWriteAnswer ProgramFailed = ⊤
 IsWriteAnswer _ = ⊥
 
+-- the answers to a raw write
 abbrev pub IsRawWriteAnswer : Reply → Type 0
 IsRawWriteAnswer MarkerByte = ⊤
 IsRawWriteAnswer reply = IsWriteAnswer reply
 
+-- the answers to an erase
 abbrev pub IsEraseAnswer : Reply → Type 0
 IsEraseAnswer Done = ⊤
 IsEraseAnswer BadBlock = ⊤
 IsEraseAnswer EraseFailed = ⊤
 IsEraseAnswer _ = ⊥
 
+-- the answers to a question for a block's state
 abbrev pub IsStateAnswer : Reply → Type 0
 IsStateAnswer OutOfRange = ⊤
 IsStateAnswer (State n) = n < 4
 IsStateAnswer _ = ⊥
 
+-- the answers to a mark
 abbrev pub IsMarkAnswer : Reply → Type 0
 IsMarkAnswer OutOfRange = ⊤
 IsMarkAnswer Reserved = ⊤
@@ -431,11 +476,13 @@ IsMarkAnswer MarkerFailed = ⊤
 IsMarkAnswer (TableFailed which) = ⊤
 IsMarkAnswer _ = ⊥
 
+-- the answer to a question for statistics
 abbrev pub IsCounts : Reply → Type 0
 IsCounts (Counts corrected failed bad) = ⊤
 IsCounts _ = ⊥
 
--- the reply is one that the operation may have, where a command asks for it: the pages and blocks of a command that fits are there, but for those of `markbad` and `isbad`
+-- the reply is one that the operation may have, where a command asks for it: the pages and blocks of a
+-- command that fits are there, but for those of `markbad` and `isbad`
 abbrev pub IsAnswerOf : Op → Reply → Type 0
 IsAnswerOf (Read dev page) reply = IsDecodedPage reply
 IsAnswerOf (Write dev page body free) reply = IsWriteAnswer reply

@@ -12,14 +12,18 @@ abbrev pub is_read_of : ℕ → Op → Bool
 is_read_of dev (Read d page) = d == dev
 is_read_of dev _ = false
 
+-- the counts of the reads of a device in these exchanges
 abbrev pub read_counts : ℕ → List Exchange → List PageRead
-read_counts dev (Asked op ∷ Replied (Page kind read image) ∷ rest) = (if is_read_of dev op then read ∷ [] else []) ++ read_counts dev rest
+read_counts dev (Asked op ∷ Replied (Page kind read image) ∷ rest) =
+    (if is_read_of dev op then read ∷ [] else []) ++ read_counts dev rest
 read_counts dev (_ ∷ rest) = read_counts dev rest
 read_counts dev [] = []
 
+-- the corrected bits of a read
 abbrev pub corrected_of : PageRead → ℕ
 corrected_of r = r.corrected
 
+-- the failed steps of a read
 abbrev pub failed_of : PageRead → ℕ
 failed_of r = r.failed
 

@@ -18,7 +18,8 @@ pub record SessionRun : Type 0 where
 
 -- a session with its finished commands taken out
 abbrev pub without_finished : (Command → Geometry) → ℕ → List Command → List Reply → List Outcome → SessionRun
-without_finished sizes number [] replies outcomes = record { number = number; commands = []; replies = []; outcomes = outcomes }
+without_finished sizes number [] replies outcomes =
+    record { number = number; commands = []; replies = []; outcomes = outcomes }
 without_finished sizes number (command ∷ commands) replies outcomes =
     go (next_step (sizes command) command replies) (without_finished sizes number commands [])
   where
@@ -26,6 +27,7 @@ without_finished sizes number (command ∷ commands) replies outcomes =
     go (Over outcome) rest = rest (outcomes ++ outcome ∷ [])
     go (Do op) rest = record { number = number; commands = command ∷ commands; replies = replies; outcomes = outcomes }
 
+-- the operation that comes next, if one does
 abbrev pub op_of_next : Next → Option Op
 op_of_next (Do op) = Some op
 op_of_next (Over outcome) = None
@@ -39,14 +41,17 @@ next_op_of sizes (command ∷ commands) replies = op_of_next (next_step (sizes c
 abbrev pub with_reply : (Command → Geometry) → Reply → SessionRun → SessionRun
 with_reply sizes reply s = without_finished sizes s.number s.commands (s.replies ++ reply ∷ []) s.outcomes
 
+-- the sessions of this number with one more reply
 abbrev pub replied : (Command → Geometry) → ℕ → Reply → List SessionRun → List SessionRun
 replied sizes session reply sessions =
     map (λ (s : SessionRun). if s.number == session then with_reply sizes reply s else s) sessions
 
+-- the next operation of a session, if it is there and has one
 abbrev pub next_op : (Command → Geometry) → Option SessionRun → Option Op
 next_op sizes None = None
 next_op sizes (Some s) = next_op_of sizes s.commands s.replies
 
+-- no command is left
 abbrev pub is_finished : List Command → Bool
 is_finished [] = true
 is_finished (command ∷ commands) = false
@@ -56,17 +61,20 @@ pub data Exchange : Type 0 where
   Asked : Op → Exchange
   Replied : Reply → Exchange
 
+-- what a note has of a session
 abbrev pub exchange_in : ℕ → Note → List Exchange
 exchange_in session (Began s op) = if s == session then Asked op ∷ [] else []
 exchange_in session (Answered s reply) = if s == session then Replied reply ∷ [] else []
 exchange_in session (Attached chip origin version copies quiet states) = []
 exchange_in session (Torn chip number event cut fairness) = []
 
+-- all exchanges of a session
 abbrev pub exchanges_of : ℕ → List Note → List Exchange
 exchanges_of session [] = []
 exchanges_of session (note ∷ notes) = exchange_in session note ++ exchanges_of session notes
 
--- the exchanges of a session are those of its commands, in order and each once: from each state of its commands, nothing, or the next operation, and after its reply so on
+-- the exchanges of a session are those of its commands, in order and each once: from each state of its
+-- commands, nothing, or the next operation, and after its reply so on
 abbrev pub FollowsCommands : (Command → Geometry) → SessionRun → List Exchange → Type 0
 FollowsCommands sizes s [] = ⊤
 FollowsCommands sizes s (Asked op ∷ []) = next_op_of sizes s.commands s.replies ≡ Some op

@@ -19,7 +19,7 @@ use Rattle.run_laws.specs.Turns.{busy_turns}
 use Rattle.run_laws.proofs.Courses.{EndOf, by_log, Holds, place_start}
 use Rattle.run_laws.proofs.Faithful.{log_of}
 use Rattle.run_laws.proofs.Places.{position_is, position_none}
-use Rattle.turn_laws.specs.Laws.{blocks_of}
+use Rattle.turn_laws.specs.Laws.{events_of_attach, events_of_attaches}
 use Rattle.turn_laws.proofs.Bounds.{busy_few, events_few}
 use Rattle.turn_laws.proofs.Attaches.{attaches_few}
 use Rattle.session_steps.specs.declared.session.Session.{Session}
@@ -57,12 +57,12 @@ no_more_chips {W} model boot starts course holds = by_order (cases_lt (length st
         c.1 in omega (arith, below))
     by_order (inr h) = h
 
-blocks_few : {W : Type 0} (starts : List (ChipState W)) → blocks_of starts ≤ length starts * 4096
-blocks_few {W} starts = sum_by-le (λ (s : ChipState W). s.geometry.blocks) 4096 starts
+attaches_short : {W : Type 0} (starts : List (ChipState W)) → events_of_attaches starts ≤ length starts * 4112
+attaches_short {W} starts = sum_by-le (λ (s : ChipState W). events_of_attach s.geometry) 4112 starts
     (λ k d h. small (get_or starts k d).geometry)
   where
-    small : (g : Geometry) → g.blocks ≤ 4096
-    small g = (bounds_of g.page g.spare g.pages_per_block g.blocks g.t g.bbt g.threshold g.in_bounds).blocks_high
+    small : (g : Geometry) → events_of_attach g ≤ 4112
+    small g = let high = (bounds_of g.page g.spare g.pages_per_block g.blocks g.t g.bbt g.threshold g.in_bounds).blocks_high in omega (arith, high)
 
 -- a session that holds a chip has an operation in flight there
 working_by : {W : Type 0} (partitions : Partitions) (c : ChipRun W) (k : Option Known) (p : Option Pending) (by : ℕ) → holder_by k p ≡ Some by
@@ -91,12 +91,12 @@ module _ {F C : Type 0} {flash : Ghosts F} (past : Past F) (board : Board F C fl
       omega (arith, busy, same)
 
   -- the attach steps
-  pub few_attaches : past.attaches ≤ blocks_of (starts_of flash.state past)
-  few_attaches = subst (λ n. n ≤ blocks_of (starts_of flash.state past)) on.attach_events
-      (attaches_few flash.fault_model past.boot (starts_of flash.state past) past.attaches on.conditions.plain)
+  pub few_attaches : past.attaches ≤ events_of_attaches (starts_of flash.state past)
+  few_attaches = subst (λ n. n ≤ events_of_attaches (starts_of flash.state past)) on.attach_events
+      (attaches_few flash.fault_model past.boot (starts_of flash.state past) past.attaches)
 
-  pub few_blocks : blocks_of (starts_of flash.state past) ≤ 32768
-  few_blocks = let blocks = blocks_few (starts_of flash.state past) in omega (arith, blocks, on.conditions.few)
+  pub few_to_attach : events_of_attaches (starts_of flash.state past) ≤ 32896
+  few_to_attach = let short = attaches_short (starts_of flash.state past) in omega (arith, short, on.conditions.few)
 
   -- the events
   pub few_events : board.events < 2 ^ 32 - 1
@@ -112,7 +112,7 @@ module _ {F C : Type 0} {flash : Ghosts F} (past : Past F) (board : Board F C fl
         same,
         on.attach_events,
         few_attaches,
-        few_blocks,
+        few_to_attach,
         few_turns,
         on.conditions.cheap,
         on.conditions.few,

@@ -21,7 +21,12 @@ use Rattle.run_model.specs.Start.{CanStart}
 
 -- a chip in its slot
 abbrev pub slot_state : {F C : Type 0} {flash : Ghosts F} → Slot F C flash → SlotState flash.FaultState
-slot_state slot = record { state = chip_state slot.chip; stage = chip_stage slot.chip; pending_note = chip_pending_note slot.chip; holder = slot.holder }
+slot_state slot = record {
+  state = chip_state slot.chip;
+  stage = chip_stage slot.chip;
+  pending_note = chip_pending_note slot.chip;
+  holder = slot.holder;
+}
 
 -- so many pages and bits of a chip may be flipped before memory has to be asked for
 pub record HasRoom {F C : Type 0} {flash : Ghosts F} (pages bits : ℕ) (slot : Slot F C flash) : Type 0 where
@@ -34,23 +39,32 @@ slot_states board = map slot_state board.slots.items
 
 -- the next event of a chip in its slot
 abbrev pub event_at : {F C : Type 0} {flash : Ghosts F} → Board F C flash → ℕ → Option PageEvent
-event_at {F} {C} {flash} board k = option_and_then (λ (c : SlotState flash.FaultState). stage_event c.stage) (slice_get (slot_states board) k)
+event_at {F} {C} {flash} board k = option_and_then (λ (c : SlotState flash.FaultState). stage_event c.stage)
+    (slice_get (slot_states board) k)
 
 -- a board stands where a course does
 abbrev pub StandsAt : {F C : Type 0} {flash : Ghosts F} → Past F → Course flash.FaultState → Board F C flash → Type 0
 StandsAt {F} {C} {flash} past course board =
-    Follows past.boot (starts_of flash.state past) course (slot_states board) board.events board.notes.notes board.sessions.items
+    Follows past.boot (starts_of flash.state past) course (slot_states board) board.events board.notes.notes
+    board.sessions.items
 
 -- what was done so far
 abbrev pub past_of : {F : Type 0} → Journal F → Past F
-past_of journal = record { boot = journal.boot; started = journal.started.value; attaches = journal.attaches; turns = journal.turns.items }
+past_of journal = record {
+  boot = journal.boot;
+  started = journal.started.value;
+  attaches = journal.attaches;
+  turns = journal.turns.items;
+}
 
--- a board stands where its controller's past has led: chips are attached before any turn, each attach step did an event, and each turn of the list did something
+-- a board stands where its controller's past has led: chips are attached before any turn, each attach step
+-- did an event, and each turn of the list did something
 pub record IsOnCourse {F C : Type 0} {flash : Ghosts F} (past : Past F) (board : Board F C flash) : Type 0 where
   pub conditions : CanStart past.boot (starts_of flash.state past)
   pub stands : StandsAt past (course_of flash.fault_model flash.state past) board
   pub attached_first : (k : ℕ) → unattached (course_of flash.fault_model flash.state past) ≡ Some k → past.turns ≡ []
-  pub attach_events : (course_after flash.fault_model past.boot (starts_of flash.state past) past.attaches []).events ≡ past.attaches
+  pub attach_events : (course_after flash.fault_model past.boot (starts_of flash.state past) past.attaches []).events
+      ≡ past.attaches
   pub all_busy : busy_turns flash.fault_model past.boot (starts_of flash.state past) past.turns
       (course_after flash.fault_model past.boot (starts_of flash.state past) past.attaches []) ≡ past.turns
 
@@ -62,21 +76,26 @@ pub record StandsAlike {F C : Type 0} {flash : Ghosts F} (old new : Board F C fl
   pub sessions : new.sessions.items ≡ old.sessions.items
 
 -- the flips that are due are made, and event e of chip k, which stood so after them, is done and noted
-pub record DidEvent {F C : Type 0} {flash : Ghosts F} (flips : List Flip) (k : ℕ) (c : SlotState flash.FaultState) (e : PageEvent) (old new : Board F C flash)
+pub record DidEvent {F C : Type 0} {flash : Ghosts F} (flips : List Flip) (k : ℕ) (c : SlotState flash.FaultState)
+    (e : PageEvent) (old new : Board F C flash)
     : Type 0 where
-  pub chips : slot_states new ≡ change_at (slot_flips_before flash.fault_model flips (old.events + 1) (slot_states old)) k
+  pub chips : slot_states new
+      ≡ change_at (slot_flips_before flash.fault_model flips (old.events + 1) (slot_states old)) k
       (λ x. with_note_written (after_event flash.fault_model e x))
   pub events : new.events ≡ old.events + 1
-  pub notes : new.notes.notes ≡ old.notes.notes ++ failure_notes k (old.events + 1) e (failure_told flash.fault_model c.state e) ++ pending_notes k
+  pub notes : new.notes.notes ≡ old.notes.notes
+      ++ failure_notes k (old.events + 1) e (failure_told flash.fault_model c.state e) ++ pending_notes k
       (after_event flash.fault_model e c).pending_note
   pub sessions : new.sessions.items ≡ old.sessions.items
 
 -- how the operation in flight on a chip has ended, where no event of it is left
 abbrev pub finished_at : {F C : Type 0} {flash : Ghosts F} → Board F C flash → ℕ → Option Finished
-finished_at {F} {C} {flash} board k = option_and_then (λ (c : SlotState flash.FaultState). finished_in c.stage) (slice_get (slot_states board) k)
+finished_at {F} {C} {flash} board k = option_and_then (λ (c : SlotState flash.FaultState). finished_in c.stage)
+    (slice_get (slot_states board) k)
 
 -- a board whose chips are all attached, with a session at its place
-pub record IsAtTurn {F C : Type 0} {flash : Ghosts F} (past : Past F) (session place : ℕ) (board : Board F C flash) : Type 0 where
+pub record IsAtTurn {F C : Type 0} {flash : Ghosts F} (past : Past F) (session place : ℕ) (board : Board F C flash) :
+    Type 0 where
   pub on_course : IsOnCourse past board
   pub attached : first_attaching (slot_states board) ≡ None
   pub own : option_map number_of (slice_get board.sessions.items place) ≡ Some session

@@ -21,7 +21,8 @@ end_of_run run = record { session = run.number; cut = false; outcomes = run.outc
 
 -- how a session with these commands ended, by the notes of its controller
 abbrev pub end_by_notes : {W : Type 0} → Boot → List (ChipState W) → List Note → ℕ × List Command → EndOfSession
-end_by_notes boot starts notes own = end_of_run (session_after (sizes_of boot starts) (session_at_start boot starts own.0 own.1) (exchanges_of own.0 notes))
+end_by_notes boot starts notes own = end_of_run
+    (session_after (sizes_of boot starts) (session_at_start boot starts own.0 own.1) (exchanges_of own.0 notes))
 
 -- how each session of a boot ended, by the notes of its controller
 abbrev pub ends_by_notes : {W : Type 0} → Boot → List (ChipState W) → List Note → List EndOfSession
@@ -45,7 +46,8 @@ slot_statistics_at chips None dev = no_statistics
 slot_statistics_at chips (Some k) dev = slot_statistics_on (slice_get chips k) dev
 
 abbrev pub slot_statistics : {W : Type 0} → Partitions → List (SlotState W) → List ℕ → List (ℕ × Stats)
-slot_statistics partitions chips devices = map (λ dev. (dev, slot_statistics_at chips (chip_of partitions dev) dev)) devices
+slot_statistics partitions chips devices =
+    map (λ dev. (dev, slot_statistics_at chips (chip_of partitions dev) dev)) devices
 
 abbrev pub slot_bad_blocks : {W : Type 0} → SlotState W → ℕ
 slot_bad_blocks c = bad_blocks_in (stage_table c.stage)

@@ -24,4 +24,5 @@ slot_flips_before model flips event chips = fold (slot_flip model) chips (due_fl
 
 -- a flip turns bits of a page of a chip that is there
 abbrev pub CanFlip : {W : Type 0} → List (SlotState W) → Flip → Type 0
-CanFlip {W} chips flip = (c : SlotState W) × (slice_get chips flip.chip ≡ Some c) × FitsBits c.state.geometry flip.page flip.bits
+CanFlip {W} chips flip = (c : SlotState W) × (slice_get chips flip.chip ≡ Some c)
+    × FitsBits c.state.geometry flip.page flip.bits

@@ -10,7 +10,8 @@ use Rattle.ctl_core.specs.Keeps.{Keeps}
 use Rattle.ctl_core.specs.Sessions.{SessionsMirror, HoldersWait}
 
 -- chips, events, notes and sessions are those of a course
-pub record Follows {W : Type 0} (boot : Boot) (starts : List (ChipState W)) (course : Course W) (chips : List (SlotState W)) (events : ℕ) (notes : List Note)
+pub record Follows {W : Type 0} (boot : Boot) (starts : List (ChipState W)) (course : Course W)
+    (chips : List (SlotState W)) (events : ℕ) (notes : List Note)
     (sessions : List Session) : Type 0 where
   pub keeps : Keeps boot.partitions course chips events notes
   pub mirrors : SessionsMirror (sizes_of boot starts) boot.sessions notes sessions course.sessions

@@ -9,7 +9,8 @@ use Rattle.turn_laws.specs.Laws.{most_turns}
 use Rattle.run_model.specs.Course.{Course, session_run, course_after, turn_step, sizes_of}
 use Rattle.command_model.specs.Session.{SessionRun, is_finished}
 
--- a controller's boot, the flashes with which it was started, the number of its attach steps, and the sessions whose turns did something, in order
+-- a controller's boot, the flashes with which it was started, the number of its attach steps, and the
+-- sessions whose turns did something, in order
 pub record Past (F : Type 0) : Type 0 where
   pub boot : Boot
   pub started : List F
@@ -46,7 +47,8 @@ course_of model state past = course_after model past.boot (starts_of state past)
 
 -- the course after one more turn
 abbrev pub next_course : {F W : Type 0} → FaultModel W → (F → ChipState W) → Past F → ℕ → Course W
-next_course model state past session = turn_step model past.boot (sizes_in state past) (course_of model state past) session
+next_course model state past session =
+    turn_step model past.boot (sizes_in state past) (course_of model state past) session
 
 -- no command of a session is left (nor of one that is not there)
 abbrev pub has_no_command : Option SessionRun → Bool

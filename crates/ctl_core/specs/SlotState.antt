@@ -1,4 +1,5 @@
--- A chip as its controller keeps it: its state and its stage, an attach note that is still to be written, and the session that holds it.
+-- A chip as its controller keeps it: its state and its stage, an attach note that is still to be written, and
+-- the session that holds it.
 use Rattle.std.specs.Prelude.{ℕ, Bool, false, not, ◌==◌, List, [], ◌∷◌, map, position, Option, Some, None}
 use Rattle.nand_model.specs.Chip.{ChipState, FaultModel, PageEvent, Complete, happens}
 use Rattle.nand_model.specs.Path.{answer_to}
@@ -28,7 +29,12 @@ holder_by (Some known) (Some pending) = Some pending.session
 
 -- a chip of a course, as its controller keeps it
 abbrev pub slot_as : {W : Type 0} → Partitions → ChipRun W → SlotState W
-slot_as partitions c = record { state = c.chip; stage = stage_of partitions c; pending_note = None; holder = holder_by c.known c.pending }
+slot_as partitions c = record {
+  state = c.chip;
+  stage = stage_of partitions c;
+  pending_note = None;
+  holder = holder_by c.known c.pending;
+}
 
 abbrev pub slots_as : {W : Type 0} → Partitions → List (ChipRun W) → List (SlotState W)
 slots_as partitions chips = map (slot_as partitions) chips
@@ -55,7 +61,8 @@ after_event model e c =
     record {
       state = happens model c.state (Complete e);
       stage = stage_after (is_quiet c.state.geometry c.state.pages) (answer_to model c.state e) c.stage;
-      pending_note = pending_note_after (is_quiet c.state.geometry c.state.pages) (answer_to model c.state e) c.stage c.pending_note;
+      pending_note = pending_note_after (is_quiet c.state.geometry c.state.pages) (answer_to model c.state e) c.stage
+          c.pending_note;
       holder = c.holder;
     }
 
@@ -65,7 +72,8 @@ with_note_written c = record c { pending_note = None }
 
 -- a chip on which a session begins an operation
 abbrev pub after_begin : {W : Type 0} → Partitions → ℕ → Op → SlotState W → SlotState W
-after_begin partitions session op c = record c { stage = stage_begun c.state.geometry partitions op c.stage; holder = Some session }
+after_begin partitions session op c =
+    record c { stage = stage_begun c.state.geometry partitions op c.stage; holder = Some session }
 
 -- a chip whose operation is answered
 abbrev pub after_answer : {W : Type 0} → Known → SlotState W → SlotState W

@@ -4,7 +4,7 @@ ghost use Rattle.run_model.specs.Course.{attach_step, end_states, is_idle, is_ov
 ghost use Rattle.run_model.specs.Run.{AreInOrder, CoursesAreFaithful};
 ghost use Rattle.tool_steps.specs.Boot.{session_number};
 ghost use Rattle.run_model.specs.Start.{CanStart};
-ghost use Rattle.turn_laws.specs.Laws.{blocks_of};
+ghost use Rattle.turn_laws.specs.Laws.{events_of_attaches};
 ghost use Rattle.ctl_core.specs.Answer.{is_did, turn_answer, attach_answer, after_turn, after_attach_turn};
 ghost use Rattle.ctl_core.specs.Ended.{all_bad_blocks, end_of_run, ends_by_notes};
 ghost use Rattle.run_model.specs.Statistics.{device_statistics};
@@ -85,7 +85,7 @@ impl<F: Flash, C: PageCode> Core<F, C> {
         ensures past { self.new ≡ after_attach_turn result self.old }
         ensures step { OnOk result (course_of F.fault_model F.state self.new
             ≡ attach_step F.fault_model self.old.boot (sizes_in F.state self.old) (course_of F.fault_model F.state self.old)) }
-        ensures few { self.new.attaches ≤ blocks_of (starts_of F.state self.new) }
+        ensures few { self.new.attaches ≤ events_of_attaches (starts_of F.state self.new) }
     {
         self.board.notes.reserve(2)?;
         let Some(k) = self.board.first_attaching() else {

@@ -48,7 +48,8 @@ starts_at starts courses zero = starts
 starts_at starts [] (suc n) = starts
 starts_at starts (course ∷ courses) (suc n) = starts_at (end_states course) courses n
 
--- the first part of the headline, of one controller with these lives of its chips: its notes are a history of one thread
+-- the first part of the headline, of one controller with these lives of its chips: its notes are a history of
+-- one thread
 pub record IsHistoryOfRun (plan : PlanData) (c : ℕ) (chips : List ChipPlan) (own : List (Course SimFaults))
     (lives : List (List ChipBoot)) : Type 0 where
   -- the chips' lives are what befell them by one list of page events in each boot, with the boot's flips and cut
@@ -59,8 +60,10 @@ pub record IsHistoryOfRun (plan : PlanData) (c : ℕ) (chips : List ChipPlan) (o
   pub one_thread : AreOneThread sim_faults (devices_of plan c chips) (new_chips chips) lives
       (map (λ (course : Course SimFaults). course.notes) own)
   -- each session's operations stand once and in order, and on a controller that was not cut nothing is left
-  pub in_order : AllZip (λ boot (course : Course SimFaults). AreInOrder boot (new_chips chips) course.notes) (boot_parts plan c chips) own
-  pub complete : AllZip (λ boot (course : Course SimFaults). course.dark ≡ false → AreComplete boot (new_chips chips) course.notes)
+  pub in_order : AllZip (λ boot (course : Course SimFaults). AreInOrder boot (new_chips chips) course.notes)
+      (boot_parts plan c chips) own
+  pub complete : AllZip (λ boot (course : Course SimFaults). course.dark ≡ false
+      → AreComplete boot (new_chips chips) course.notes)
       (boot_parts plan c chips) own
 
 -- the second part: a programmed page with few flips reads back its bytes and exact counts, over all boots
@@ -70,10 +73,11 @@ ReadsBackInRun chips lives =
     slice_get (new_chips chips) k ≡ Some s → slice_get lives k ≡ Some life → ReadsBackAlong sim_faults s [] life
 
 -- what is true of a controller's courses in a legal run: the first two parts, of the same lives of its chips
-pub record IsTrueHistory (plan : PlanData) (c : ℕ) (chips : List ChipPlan) (own : List (Course SimFaults)) : Type 0 where
-  pub lives : List (List ChipBoot)
-  pub history : IsHistoryOfRun plan c chips own lives
-  pub reads_back : ReadsBackInRun chips lives
+pub record IsTrueHistory (plan : PlanData) (c : ℕ) (chips : List ChipPlan) (own : List (Course SimFaults)) : Type 0
+  where
+    pub lives : List (List ChipBoot)
+    pub history : IsHistoryOfRun plan c chips own lives
+    pub reads_back : ReadsBackInRun chips lives
 
 -- the same of each controller
 abbrev pub AreTrueHistories : PlanData → Courses → Type 0
@@ -81,14 +85,19 @@ AreTrueHistories plan courses =
     (c : ℕ) (chips : List ChipPlan) (own : List (Course SimFaults)) →
     slice_get plan.controllers c ≡ Some chips → slice_get courses c ≡ Some own → IsTrueHistory plan c chips own
 
--- (Not proved yet.) The third part: after any cut, rescanning shows bad what was acknowledged, and nothing whose marking had not begun;
+-- (Not proved yet.) The third part: after any cut, rescanning shows bad what was acknowledged, and nothing
+-- whose marking had not begun;
 -- and at each moment of each boot one whole copy of a table stays, and two whole copies hold the table in memory.
 pub record KeepsMarks (plan : PlanData) (c : ℕ) (chips : List ChipPlan) (own : List (Course SimFaults)) : Type 0 where
-  pub marks : (k : ℕ) (chip : ChipPlan) → slice_get chips k ≡ Some chip → MarksSurvive (devices_of plan c chips) k chip.geometry chip.bad own
-  pub copies_stay : (k n : ℕ) (chip : ChipPlan) (boot : Boot) → slice_get chips k ≡ Some chip → slice_get (boot_parts plan c chips) n ≡ Some boot
+  pub marks : (k : ℕ) (chip : ChipPlan) → slice_get chips k ≡ Some chip
+      → MarksSurvive (devices_of plan c chips) k chip.geometry chip.bad own
+  pub copies_stay : (k n : ℕ) (chip : ChipPlan) (boot : Boot) → slice_get chips k ≡ Some chip
+      → slice_get (boot_parts plan c chips) n ≡ Some boot
       → OneCopyStays sim_faults k chip.geometry chip.bad (take n own) boot (starts_at (new_chips chips) own n)
-  pub copies_hold : (k n : ℕ) (chip : ChipPlan) (boot : Boot) → slice_get chips k ≡ Some chip → slice_get (boot_parts plan c chips) n ≡ Some boot
-      → WholeCopiesHoldTheTable sim_faults k chip.geometry chip.bad (take n own) boot (starts_at (new_chips chips) own n)
+  pub copies_hold : (k n : ℕ) (chip : ChipPlan) (boot : Boot) → slice_get chips k ≡ Some chip
+      → slice_get (boot_parts plan c chips) n ≡ Some boot
+      → WholeCopiesHoldTheTable sim_faults k chip.geometry chip.bad (take n own) boot
+      (starts_at (new_chips chips) own n)
 
 -- (Not proved yet.) The same of each controller.
 abbrev pub KeepMarks : PlanData → Courses → Type 0
@@ -105,7 +114,8 @@ is_session_of c (Some session) = session.controller == c
 abbrev pub is_own : BootPlan → ℕ → ℕ → Bool
 is_own boot c s = is_session_of c (slice_get boot.sessions s)
 
--- the turns of a replay: those of the schedule, and then so many rounds of all sessions, as far as they are this controller's
+-- the turns of a replay: those of the schedule, and then so many rounds of all sessions, as far as they are
+-- this controller's
 abbrev pub replay_turns : BootPlan → ℕ → ℕ → List ℕ
 replay_turns boot rounds c =
     filter (is_own boot c) (boot.schedule ++ concat (replicate rounds (numbers_from 0 (length boot.sessions))))
@@ -113,7 +123,8 @@ replay_turns boot rounds c =
 -- the turns of a replay: a list for each controller, and in it one for each boot
 abbrev pub all_replay_turns : PlanData → ℕ → List (List (List ℕ))
 all_replay_turns plan rounds =
-    map (λ c. map (λ (boot : BootPlan). replay_turns boot rounds c) plan.boots) (numbers_from 0 (length plan.controllers))
+    map (λ c. map (λ (boot : BootPlan). replay_turns boot rounds c) plan.boots)
+    (numbers_from 0 (length plan.controllers))
 
 -- the courses of a replay of the plan
 pub record AreReplay (plan : PlanData) (courses : Courses) : Type 0 where

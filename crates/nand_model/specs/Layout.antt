@@ -17,7 +17,8 @@ parity_start_in code page spare = spare - steps_in code page * parity_len code
 
 -- body and spare are those of a large page
 abbrev pub has_page_size : ℕ → ℕ → Bool
-has_page_size page spare = (page == 2048 && spare == 64) || (page == 4096 && spare == 128) || (page == 4096 && spare == 224)
+has_page_size page spare =
+    (page == 2048 && spare == 64) || (page == 4096 && spare == 128) || (page == 4096 && spare == 224)
 
 -- a multiple of 4 from 8 to 4,096
 abbrev pub has_block_count : ℕ → Bool
@@ -42,7 +43,10 @@ threshold_in_force t threshold = if threshold == 0 then (3 * t + 3) / 4 else thr
 -- sizes that a chip may have, with a threshold that is in force
 abbrev pub is_geometry : ℕ → ℕ → ℕ → ℕ → ℕ → ℕ → ℕ → Bool
 is_geometry page spare pages_per_block blocks t bbt threshold =
-    has_sizes page spare pages_per_block blocks t bbt threshold && has_room (code_512 t) page spare bbt && nat_le 1 threshold
+    has_sizes page spare pages_per_block blocks t bbt threshold && has_room (code_512 t) page spare bbt
+    && nat_le 1 threshold
 
+-- sizes that a chip may have
 abbrev pub IsGeometry : ℕ → ℕ → ℕ → ℕ → ℕ → ℕ → ℕ → Type 0
-IsGeometry page spare pages_per_block blocks t bbt threshold = IsTrue (is_geometry page spare pages_per_block blocks t bbt threshold)
+IsGeometry page spare pages_per_block blocks t bbt threshold =
+    IsTrue (is_geometry page spare pages_per_block blocks t bbt threshold)

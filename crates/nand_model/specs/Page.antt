@@ -14,11 +14,13 @@ step_body g cells s = slice_range cells ((code_of g).step_bytes * s) ((code_of g
 -- the stored parity of a step, padding bits too
 abbrev pub stored_parity : Geometry → List ℕ → ℕ → List ℕ
 stored_parity g cells s =
-    slice_range cells (g.page + parity_start g + s * parity_bytes g) (g.page + parity_start g + (s + 1) * parity_bytes g)
+    slice_range cells (g.page + parity_start g + s * parity_bytes g) (g.page + parity_start g + (s + 1) * parity_bytes
+    g)
 
 -- the word of a step: its body bits and the parity bits as they are stored; no padding bit belongs to it
 abbrev pub step_word : Geometry → List ℕ → ℕ → List ℕ
-step_word g cells s = bits_of (step_body g cells s) ++ take (parity_bits (code_of g)) (bits_of (stored_parity g cells s))
+step_word g cells s =
+    bits_of (step_body g cells s) ++ take (parity_bits (code_of g)) (bits_of (stored_parity g cells s))
 
 -- the word that a decoder is given: the mask is taken off the stored parity
 abbrev pub received_word : Code → List ℕ → List ℕ → List ℕ
@@ -26,7 +28,8 @@ received_word code body stored = bits_of body ++ take (parity_bits code) (bits_o
 
 -- each step of the page, with the mask taken off, is a code word
 abbrev pub IsWhole : Geometry → List ℕ → Type 0
-IsWhole g cells = (s : ℕ) → s < step_count g → IsCodeWord (code_of g) (received_word (code_of g) (step_body g cells s) (stored_parity g cells s))
+IsWhole g cells = (s : ℕ) → s < step_count g
+    → IsCodeWord (code_of g) (received_word (code_of g) (step_body g cells s) (stored_parity g cells s))
 
 -- the page of a body and free bytes: the marker bytes are 0xFF, and each parity completes its step, with padding bits 1
 abbrev pub page_image : Geometry → List ℕ → List ℕ → List ℕ
@@ -42,7 +45,8 @@ free_bytes g cells = slice_range cells (g.page + 2) (g.page + parity_start g)
 abbrev pub encoded : Geometry → List ℕ → List ℕ
 encoded g cells = page_image g (take g.page cells) (free_bytes g cells)
 
--- what the decoding of a step gives: its body and stored parity, and the number of bits put right, or nothing where it failed
+-- what the decoding of a step gives: its body and stored parity, and the number of bits put right, or nothing
+-- where it failed
 pub record StepRead : Type 0 where
   pub body : List ℕ
   pub parity : List ℕ
@@ -54,7 +58,8 @@ read_as code body stored None = record { body = body; parity = stored; corrected
 read_as code body stored (Some (word, n)) =
     record {
       body = bytes_of_bits (take (body_bits code) word);
-      parity = masked code (bytes_of_bits (drop (body_bits code) word ++ drop (parity_bits code) (bits_of (masked code stored))));
+      parity = masked code (bytes_of_bits (drop (body_bits code) word
+          ++ drop (parity_bits code) (bits_of (masked code stored))));
       corrected = Some n;
     }
 
@@ -75,7 +80,8 @@ pub record Decoding : Type 0 where
 abbrev pub decoding_of : Geometry → List ℕ → List StepRead → Decoding
 decoding_of g cells reads =
     record {
-      image = flat_map (λ (r : StepRead). r.body) reads ++ slice_range cells g.page (g.page + parity_start g) ++ flat_map (λ (r : StepRead). r.parity) reads;
+      image = flat_map (λ (r : StepRead). r.body) reads ++ slice_range cells g.page (g.page + parity_start g)
+          ++ flat_map (λ (r : StepRead). r.parity) reads;
       corrected = sum_by (λ (r : StepRead). unwrap_or r.corrected 0) reads;
       greatest = fold (λ n (r : StepRead). max n (unwrap_or r.corrected 0)) 0 reads;
       failed = count_by (λ (r : StepRead). is_none r.corrected) reads;

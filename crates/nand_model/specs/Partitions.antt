@@ -11,8 +11,10 @@ pub record Partitions : Type 0 where
   pub first : ℕ
   pub parts : List Part
 
+-- the partition with a device number
 abbrev pub part_of : Partitions → ℕ → Option Part
-part_of partitions dev = if nat_lt dev partitions.first then None else slice_get partitions.parts (dev - partitions.first)
+part_of partitions dev =
+    if nat_lt dev partitions.first then None else slice_get partitions.parts (dev - partitions.first)
 
 -- the device that an operation names
 abbrev pub device_of : Op → ℕ
@@ -30,6 +32,7 @@ abbrev pub chip_of_part : Option Part → Option ℕ
 chip_of_part None = None
 chip_of_part (Some part) = Some part.chip
 
+-- the chip of a device number, where there is such a device
 abbrev pub chip_of : Partitions → ℕ → Option ℕ
 chip_of partitions dev = chip_of_part (part_of partitions dev)
 

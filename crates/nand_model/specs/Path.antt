@@ -8,11 +8,13 @@ pub data Answer : Type 0 where
   Good : Answer
   Failed : Answer
 
+-- the event has failed
 abbrev pub is_failure : Answer → Bool
 is_failure Failed = true
 is_failure (Data cells) = false
 is_failure Good = false
 
+-- the event, a program or an erase, was good
 abbrev pub is_good : Answer → Bool
 is_good Good = true
 is_good (Data cells) = false
@@ -54,6 +56,7 @@ abbrev pub either : {A : Type 0} → Bool → (Unit {0} → Path A) → (Unit {0
 either true first second = first tt
 either false first second = second tt
 
+-- the answer of a program or an erase, by the bits that were done where it failed
 abbrev pub good_or_failed : Option DoneBits → Answer
 good_or_failed None = Good
 good_or_failed (Some done) = Failed
@@ -68,7 +71,8 @@ module _ {W : Type 0} (model : FaultModel W) where
   -- the trace goes along the path, with flips between its events, and may end with the next event torn by a power cut
   abbrev pub GoesAlong : (List Answer → Option PageEvent) → ChipState W → List Answer → List ChipEvent → Type 0
   GoesAlong next s answers [] = ⊤
-  GoesAlong next s answers (Flipped page bit ∷ trace) = GoesAlong next (happens model s (Flipped page bit)) answers trace
+  GoesAlong next s answers (Flipped page bit ∷ trace) =
+      GoesAlong next (happens model s (Flipped page bit)) answers trace
   GoesAlong next s answers (Complete e ∷ trace) =
       (next answers ≡ Some e) × GoesAlong next (happens model s (Complete e)) (answers ++ answer_to s e ∷ []) trace
   GoesAlong next s answers (PowerCut e done ∷ trace) = (next answers ≡ Some e) × (trace ≡ [])

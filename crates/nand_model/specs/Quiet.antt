@@ -1,4 +1,5 @@
--- What a torn event leaves of a table page (its fairness), and when the markers and tables of a chip are free of foreign flips (the quiet of an attach). Both are this project's own.
+-- What a torn event leaves of a table page (its fairness), and when the markers and tables of a chip are free
+-- of foreign flips (the quiet of an attach). Both are this project's own.
 use Rattle.std.specs.Prelude.{ℕ, ◌+◌, ◌*◌, Bool, true, false, not, ◌&&◌, ◌||◌, ◌==◌, nat_le, if◌then◌else◌, List, Option, Some, None}
 use Rattle.std.specs.List.{list_any, list_all}
 use Rattle.nand_model.specs.Sizes.{code_of, step_count, parity_bytes, parity_start, numbers_from, first_page}
@@ -18,6 +19,7 @@ is_table_block g block = has_tables g && list_any (λ b. b == block) (table_bloc
 abbrev pub is_table_page : Geometry → ℕ → Bool
 is_table_page g page = has_tables g && list_any (λ b. first_page g b == page) (table_blocks g)
 
+-- a copy beside the one that was wanted, which may be none
 abbrev pub judged_beside : Copy → Option Copy → Fairness
 judged_beside seen (Some wanted) = if same_copy seen wanted then Whole else Foul
 judged_beside seen None = Foul

@@ -39,11 +39,29 @@ first_page g block = block * g.pages_per_block
 
 -- the small chip of the examples, with tables whose header stands in the spare
 abbrev pub small_chip : Geometry
-small_chip = record { page = 2048; spare = 64; pages_per_block = 64; blocks = 16; t = 4; bbt = 1; threshold = 3; in_bounds = refl }
+small_chip = record {
+  page = 2048;
+  spare = 64;
+  pages_per_block = 64;
+  blocks = 16;
+  t = 4;
+  bbt = 1;
+  threshold = 3;
+  in_bounds = refl;
+}
 
 -- the small chip without tables
 abbrev pub small_chip_without_tables : Geometry
-small_chip_without_tables = record { page = 2048; spare = 64; pages_per_block = 64; blocks = 16; t = 4; bbt = 0; threshold = 3; in_bounds = refl }
+small_chip_without_tables = record {
+  page = 2048;
+  spare = 64;
+  pages_per_block = 64;
+  blocks = 16;
+  t = 4;
+  bbt = 0;
+  threshold = 3;
+  in_bounds = refl;
+}
 
 pub small_chip_parity_start : parity_start small_chip ≡ 36
 small_chip_parity_start = refl

@@ -1,11 +1,13 @@
--- Tables of block states (0 good, 1 worn, 2 reserved, 3 factory bad), their bytes, their pages, and the copy that a page holds (nand_bbt).
+-- Tables of block states (0 good, 1 worn, 2 reserved, 3 factory bad), their bytes, their pages, and the copy
+-- that a page holds (nand_bbt).
 --
 --                        header in the spare     header in the body
 --   pattern, 4 bytes     spare 8 to 11           body 0 to 3
 --   version, 1 byte      spare 12                body 4
 --   table, blocks / 4    body from 0             body from 5
 --
--- The entry of block b stands in table byte b / 4 at bits 2 (b mod 4) and the next higher one; all other bytes are 0xFF.
+-- The entry of block b stands in table byte b / 4 at bits 2 (b mod 4) and the next higher one; all other
+-- bytes are 0xFF.
 use Rattle.std.specs.Prelude.{◌≡◌, ℕ, ◌+◌, ◌-◌, ◌*◌, ◌/◌, ◌%◌, Bool, true, false, ◌&&◌, ◌==◌, if◌then◌else◌, List, [], ◌∷◌, ◌++◌, length, map, flat_map, slice_range, slice_index, replicate, Option, Some, None, is_none, is_some, bytes_eq, refl, not, ◌||◌}
 use Rattle.nand_model.specs.Page.{Decoding, encoded, decoded, step_read}
 use Rattle.nand_model.specs.declared.geometry.Geometry.{Geometry}
@@ -66,12 +68,15 @@ pub record Copy : Type 0 where
 -- the kind that a pattern names
 abbrev pub which_of : List ℕ → Option Which
 which_of bytes =
-    if bytes_eq bytes (pattern Primary) then Some Primary else (if bytes_eq bytes (pattern Mirror) then Some Mirror else None)
+    if bytes_eq bytes (pattern Primary) then Some Primary else (if bytes_eq bytes (pattern Mirror) then Some Mirror
+    else None)
 
--- where the header stands: its four bytes of pattern and its version, and the bytes of the table, in a page as it is read
+-- where the header stands: its four bytes of pattern and its version, and the bytes of the table, in a page
+-- as it is read
 abbrev pub header_at : Geometry → ℕ
 header_at g = if g.bbt == 1 then g.page + 8 else 0
 
+-- where the bytes of the table stand in a page as it is read
 abbrev pub table_at : Geometry → ℕ
 table_at g = if g.bbt == 1 then 0 else 5
 
@@ -84,7 +89,11 @@ abbrev pub copy_of_kind : Geometry → Decoding → Option Which → Option Copy
 copy_of_kind g d None = None
 copy_of_kind g d (Some which) =
     if d.failed == 0
-    then Some (record { which = which; version = slice_index d.image (header_at g + 4); states = states_in (slice_range d.image (table_at g) (table_at g + g.blocks / 4)) })
+    then Some (record {
+      which = which;
+      version = slice_index d.image (header_at g + 4);
+      states = states_in (slice_range d.image (table_at g) (table_at g + g.blocks / 4));
+    })
     else None
 
 -- with a header in the spare, the page is decoded only where a pattern stands there
@@ -92,6 +101,7 @@ abbrev pub copy_under : Geometry → List ℕ → Option Which → Option Copy
 copy_under g cells None = None
 copy_under g cells (Some which) = copy_of_kind g (decoded g cells) (Some which)
 
+-- the copy in a page, whose header stands in the spare or not
 abbrev pub copy_if : Bool → Geometry → List ℕ → Option Copy
 copy_if true g cells = copy_under g cells (kind_in g cells)
 copy_if false g cells = let d : Decoding = decoded g cells in copy_of_kind g d (kind_in g d.image)
@@ -105,12 +115,14 @@ abbrev pub has_no_pattern : Bool → Geometry → List ℕ → Bool
 has_no_pattern true g cells = is_none (kind_in g cells)
 has_no_pattern false g cells = is_some (step_read g cells 0).corrected && is_none (kind_in g (decoded g cells).image)
 
+-- the same kind of copy
 abbrev pub same_which : Which → Which → Bool
 same_which Primary Primary = true
 same_which Mirror Mirror = true
 same_which Primary Mirror = false
 same_which Mirror Primary = false
 
+-- the same kind, version and states
 abbrev pub same_copy : Copy → Copy → Bool
 same_copy a b = same_which a.which b.which && a.version == b.version && bytes_eq a.states b.states
 
@@ -135,11 +147,14 @@ abbrev pub calls_bad : List ℕ → ℕ → Bool
 calls_bad states block = is_bad_state (slice_index states block)
 
 -- sixteen blocks: 5 worn, 7 factory bad, the last four reserved
-pub packed_row : packed_bytes (0 ∷ 0 ∷ 0 ∷ 0 ∷ 0 ∷ 1 ∷ 0 ∷ 3 ∷ 0 ∷ 0 ∷ 0 ∷ 0 ∷ 2 ∷ 2 ∷ 2 ∷ 2 ∷ []) ≡ 0 ∷ 0xc4 ∷ 0 ∷ 0xaa ∷ []
+pub packed_row : packed_bytes (0 ∷ 0 ∷ 0 ∷ 0 ∷ 0 ∷ 1 ∷ 0 ∷ 3 ∷ 0 ∷ 0 ∷ 0 ∷ 0 ∷ 2 ∷ 2 ∷ 2 ∷ 2 ∷ []) ≡ 0 ∷ 0xc4 ∷ 0
+    ∷ 0xaa ∷ []
 packed_row = refl
 
-pub table_row : table_bytes (0 ∷ 0 ∷ 0 ∷ 0 ∷ 0 ∷ 1 ∷ 0 ∷ 3 ∷ 0 ∷ 0 ∷ 0 ∷ 0 ∷ 2 ∷ 2 ∷ 2 ∷ 2 ∷ []) ≡ 0xff ∷ 0x3b ∷ 0xff ∷ 0xff ∷ []
+pub table_row : table_bytes (0 ∷ 0 ∷ 0 ∷ 0 ∷ 0 ∷ 1 ∷ 0 ∷ 3 ∷ 0 ∷ 0 ∷ 0 ∷ 0 ∷ 2 ∷ 2 ∷ 2 ∷ 2 ∷ []) ≡ 0xff ∷ 0x3b ∷ 0xff
+    ∷ 0xff ∷ []
 table_row = refl
 
-pub states_row : states_in (0xff ∷ 0x3b ∷ 0xff ∷ 0xff ∷ []) ≡ 0 ∷ 0 ∷ 0 ∷ 0 ∷ 0 ∷ 1 ∷ 0 ∷ 3 ∷ 0 ∷ 0 ∷ 0 ∷ 0 ∷ 0 ∷ 0 ∷ 0 ∷ 0 ∷ []
+pub states_row : states_in (0xff ∷ 0x3b ∷ 0xff ∷ 0xff ∷ []) ≡ 0 ∷ 0 ∷ 0 ∷ 0 ∷ 0 ∷ 1 ∷ 0 ∷ 3 ∷ 0 ∷ 0 ∷ 0 ∷ 0 ∷ 0 ∷ 0
+    ∷ 0 ∷ 0 ∷ []
 states_row = refl

@@ -39,6 +39,7 @@ pub record PlanData : Type 0 where
   pub controllers : List (List ChipPlan)
   pub boots : List BootPlan
 
+-- the partitions of these chips
 abbrev pub part_count : List ChipPlan → ℕ
 part_count chips = sum_by (λ (c : ChipPlan). length c.parts) chips
 
@@ -67,6 +68,7 @@ sessions_from c n [] = []
 sessions_from c n (s ∷ sessions) =
     (if s.controller == c then (n, s.commands) ∷ [] else []) ++ sessions_from c (n + 1) sessions
 
+-- the first of a list
 abbrev pub first_of : {A : Type 0} → List A → Option A
 first_of [] = None
 first_of (x ∷ xs) = Some x

@@ -1,4 +1,5 @@
--- When notes are those of one thread: on each chip one operation after another, and in each session one exchange after another.
+-- When notes are those of one thread: on each chip one operation after another, and in each session one
+-- exchange after another.
 use Rattle.std.specs.Prelude.{ℕ, List, Option, map, [], ◌∷◌, Some, None, Bool, true, false, ◌≡◌, ◌&&◌, ◌++◌, is_none, flat_map, ◌==◌, if◌then◌else◌, ⊤, ◌<◌, length, slice_get, All}
 use Rattle.nand_model.specs.Chip.{ChipEvent, ChipState, FaultModel, Complete, PowerCut, Flipped, happens, after_trace}
 use Rattle.chip_paths.specs.Operation.{Known, Finished, operation_path, Performs}
@@ -24,6 +25,7 @@ pub record OperationTrace : Type 0 where
 abbrev pub events_in : List (ℕ × ChipEvent) → List ChipEvent
 events_in trace = map (λ (e : ℕ × ChipEvent). e.1) trace
 
+-- the note of the reply of an operation, if it came
 abbrev pub answer_note : ℕ → Option Reply → List Note
 answer_note session None = []
 answer_note session (Some reply) = Answered session reply ∷ []
@@ -42,7 +44,8 @@ module _ {W : Type 0} (model : FaultModel W) where
   -- the note of one event of a trace on chip k: only an event that failed or was cut has one
   abbrev pub notes_of_event : ℕ → ℕ → ChipState W → ChipEvent → List Note
   notes_of_event k n s (Flipped page bit) = []
-  notes_of_event k n s (Complete e) = torn_notes (is_failure (answer_to model s e)) k n false s e (happens model s (Complete e))
+  notes_of_event k n s (Complete e) =
+      torn_notes (is_failure (answer_to model s e)) k n false s e (happens model s (Complete e))
   notes_of_event k n s (PowerCut e done) = torn_notes true k n true s e (happens model s (PowerCut e done))
 
   -- the notes of a trace
@@ -52,7 +55,8 @@ module _ {W : Type 0} (model : FaultModel W) where
 
   -- the notes of an operation
   abbrev pub notes_of_operation : ℕ → ChipState W → OperationTrace → List Note
-  notes_of_operation k s operation = Began operation.session operation.op ∷ notes_of_trace k s operation.trace ++ answer_note operation.session operation.reply
+  notes_of_operation k s operation = Began operation.session operation.op ∷ notes_of_trace k s operation.trace
+      ++ answer_note operation.session operation.reply
 
   -- an operation from its start: it is answered as operations are, or it has come so far along its path
   abbrev pub IsOperationTrace : Partitions → ChipState W → Known → Op → List ChipEvent → Option Reply → Type 0
@@ -69,21 +73,26 @@ module _ {W : Type 0} (model : FaultModel W) where
       × (is_none operation.reply ≡ true → later ≡ [])
       × ((rest : List Note) × (notes ≡ notes_of_operation k s operation ++ rest)
       × AreOperationTraces partitions k (after_trace model s (events_in operation.trace))
-      (known_then known (result_of (after_answers (answers_of model s (events_in operation.trace)) (operation_path s.geometry partitions known operation.op)))) later rest)
+      (known_then known
+      (result_of (after_answers (answers_of model s (events_in operation.trace))
+      (operation_path s.geometry partitions known operation.op)))) later rest)
 
   -- each event of an attach that was done found the chip quiet
   abbrev pub was_quiet : ChipState W → List ChipEvent → Bool
   was_quiet s [] = true
   was_quiet s (Flipped page bit ∷ trace) = was_quiet (happens model s (Flipped page bit)) trace
   was_quiet s (Complete e ∷ trace) = is_quiet s.geometry s.pages && was_quiet (happens model s (Complete e)) trace
-  was_quiet s (PowerCut e done ∷ trace) = is_quiet s.geometry s.pages && was_quiet (happens model s (PowerCut e done)) trace
+  was_quiet s (PowerCut e done ∷ trace) =
+      is_quiet s.geometry s.pages && was_quiet (happens model s (PowerCut e done)) trace
 
   -- what an attach along this trace came to
   abbrev pub attach_outcome : ChipState W → List ChipEvent → Option Attaching
-  attach_outcome s trace = outcome_if (is_uncut trace) (result_of (after_answers (answers_of model s trace) (attach_path s.geometry)))
+  attach_outcome s trace =
+      outcome_if (is_uncut trace) (result_of (after_answers (answers_of model s trace) (attach_path s.geometry)))
 
   -- what comes after the events of an attach: nothing while it is not over, else its note and the operations
-  abbrev pub GoesOn : Option Attaching → Partitions → ℕ → ChipState W → List ChipEvent → List OperationTrace → List Note → Type 0
+  abbrev pub GoesOn : Option Attaching → Partitions → ℕ → ChipState W → List ChipEvent → List OperationTrace
+      → List Note → Type 0
   GoesOn None partitions k s trace later notes = (notes ≡ []) × (later ≡ [])
   GoesOn (Some attaching) partitions k s trace later notes =
       (rest : List Note)
@@ -91,7 +100,8 @@ module _ {W : Type 0} (model : FaultModel W) where
       × AreOperationTraces partitions k (after_trace model s trace) (known_at_first attaching) later rest
 
   -- the notes of a chip are those of its attach, and then of one operation after another
-  pub record IsChipHistory (partitions : Partitions) (k : ℕ) (s : ChipState W) (attach : List (ℕ × ChipEvent)) (operations : List OperationTrace) (notes : List Note) : Type 0 where
+  pub record IsChipHistory (partitions : Partitions) (k : ℕ) (s : ChipState W) (attach : List (ℕ × ChipEvent))
+      (operations : List OperationTrace) (notes : List Note) : Type 0 where
     pub along : GoesAlong model (next_event (attach_path s.geometry)) s [] (events_in attach)
     pub later : List Note
     pub notes_are : notes ≡ notes_of_trace k s attach ++ later
@@ -103,6 +113,7 @@ pub record Turned : Type 0 where
   pub page : ℕ
   pub bit : ℕ
 
+-- flips as events of a trace
 abbrev pub turned_events : List Turned → List (ℕ × ChipEvent)
 turned_events flips = map (λ (f : Turned). (f.number, Flipped f.page f.bit)) flips
 
@@ -114,8 +125,10 @@ pub record ChipBoot : Type 0 where
 
 -- all of it as one trace, each event with its number
 abbrev pub numbered_of : ChipBoot → List (ℕ × ChipEvent)
-numbered_of b = b.attach ++ flat_map (λ (operation : OperationTrace). operation.trace) b.operations ++ turned_events b.flips_after
+numbered_of b =
+    b.attach ++ flat_map (λ (operation : OperationTrace). operation.trace) b.operations ++ turned_events b.flips_after
 
+-- the same without numbers
 abbrev pub trace_of : ChipBoot → List ChipEvent
 trace_of b = events_in (numbered_of b)
 
@@ -123,6 +136,7 @@ trace_of b = events_in (numbered_of b)
 abbrev pub LastChips : Type 0
 LastChips = ℕ → Option ℕ
 
+-- this is chip k
 abbrev pub is_chip : Option ℕ → ℕ → Bool
 is_chip None k = false
 is_chip (Some j) k = j == k
@@ -134,23 +148,27 @@ note_chip partitions last (Answered session reply) = last session
 note_chip partitions last (Attached chip origin version copies quiet states) = Some chip
 note_chip partitions last (Torn chip number event cut fairness) = Some chip
 
+-- which chip each session last began an operation on, after a note
 abbrev pub last_after : Partitions → LastChips → Note → LastChips
 last_after partitions last (Began session op) s = if s == session then chip_of partitions (device_of op) else last s
 last_after partitions last (Answered session reply) s = last s
 last_after partitions last (Attached chip origin version copies quiet states) s = last s
 last_after partitions last (Torn chip number event cut fairness) s = last s
 
+-- the notes of one chip, where sessions last began operations on these chips
 abbrev pub notes_of_chip_from : Partitions → LastChips → ℕ → List Note → List Note
 notes_of_chip_from partitions last k [] = []
 notes_of_chip_from partitions last k (note ∷ notes) =
-    (if is_chip (note_chip partitions last note) k then note ∷ [] else []) ++ notes_of_chip_from partitions (last_after partitions last note) k notes
+    (if is_chip (note_chip partitions last note) k then note ∷ [] else [])
+    ++ notes_of_chip_from partitions (last_after partitions last note) k notes
 
 -- the notes of one chip
 abbrev pub notes_of_chip : Partitions → ℕ → List Note → List Note
 notes_of_chip partitions k notes = notes_of_chip_from partitions (λ s. None) k notes
 
 -- what a chip went through in one boot after the other, each from where the one before it left the chip
-abbrev pub IsChipLife : {W : Type 0} → FaultModel W → Partitions → ℕ → ChipState W → List ChipBoot → List (List Note) → Type 0
+abbrev pub IsChipLife : {W : Type 0} → FaultModel W → Partitions → ℕ → ChipState W → List ChipBoot → List (List Note)
+    → Type 0
 IsChipLife model partitions k s [] [] = ⊤
 IsChipLife model partitions k s (b ∷ bs) (notes ∷ more) =
     IsChipHistory model partitions k s b.attach b.operations (notes_of_chip partitions k notes)
@@ -169,8 +187,10 @@ AreOfChips partitions count last (note ∷ notes) =
     IsThere count (note_chip partitions last note) × AreOfChips partitions count (last_after partitions last note) notes
 
 -- the notes of a controller, boot by boot, are those of one thread, with these lives of its chips
-pub record AreOneThread {W : Type 0} (model : FaultModel W) (partitions : Partitions) (starts : List (ChipState W)) (lives : List (List ChipBoot)) (notes : List (List Note)) : Type 0 where
+pub record AreOneThread {W : Type 0} (model : FaultModel W) (partitions : Partitions) (starts : List (ChipState W))
+    (lives : List (List ChipBoot)) (notes : List (List Note)) : Type 0 where
   pub many : length lives ≡ length starts
-  pub chips : (k : ℕ) (s : ChipState W) (life : List ChipBoot) → slice_get starts k ≡ Some s → slice_get lives k ≡ Some life → IsChipLife model partitions k s life notes
+  pub chips : (k : ℕ) (s : ChipState W) (life : List ChipBoot) → slice_get starts k ≡ Some s
+      → slice_get lives k ≡ Some life → IsChipLife model partitions k s life notes
   pub of_chips : All (λ boot. AreOfChips partitions (length starts) (λ s. None) boot) notes
   pub paired : All (λ boot. (session : ℕ) → Alternate (exchanges_of session boot)) notes

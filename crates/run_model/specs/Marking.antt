@@ -16,6 +16,7 @@ use Rattle.nand_model.specs.declared.geometry.Geometry.{Geometry}
 use Rattle.nand_model.specs.declared.words.Event.{Event}
 use Rattle.nand_model.specs.declared.words.Event.TheVariants.{Read as ReadOf, Program as ProgramOf, Erase as EraseOf}
 
+-- block n of the partition is block b of chip k
 abbrev pub is_block_of : Option Part → ℕ → ℕ → ℕ → Bool
 is_block_of None block k b = false
 is_block_of (Some part) block k b = part.chip == k && nat_lt block part.count && part.start + block == b
@@ -46,12 +47,14 @@ begins (Some Reserved) = false
 begins (Some (Copies n)) = false
 begins (Some _) = true
 
--- an erase of the block, or a program of its first page, failed: of one of the last four blocks that is in a writing of tables, since nothing else erases or programs these
+-- an erase of the block, or a program of its first page, failed: of one of the last four blocks that is in a
+-- writing of tables, since nothing else erases or programs these
 abbrev pub is_failure_at : Geometry → ℕ → Event → Bool
 is_failure_at g b (ReadOf page) = false
 is_failure_at g b (ProgramOf page) = page == first_page g b
 is_failure_at g b (EraseOf block) = block == b
 
+-- the note says that an erase of the block, or a program of its first page, failed
 abbrev pub is_failure_note : Geometry → ℕ → ℕ → Note → Bool
 is_failure_note g k b (Torn chip number event false fairness) = chip == k && is_failure_at g b event
 is_failure_note g k b _ = false
@@ -60,19 +63,27 @@ is_failure_note g k b _ = false
 abbrev pub failed_in_writing : Geometry → ℕ → ℕ → List Note → Bool
 failed_in_writing g k b notes = is_table_block g b && list_any (is_failure_note g k b) notes
 
+-- a mark was done
 abbrev pub is_acknowledgement : Option Reply → Bool
 is_acknowledgement (Some Done) = true
 is_acknowledgement _ = false
 
--- the marking of block b of chip k has begun, and was acknowledged, in the notes of one boot. A block of the last four that failed in a writing counts as begun
+-- the marking of block b of chip k has begun, and was acknowledged, in the notes of one boot. A block of the
+-- last four that failed in a writing counts as begun
 abbrev pub marking_began : Geometry → Partitions → ℕ → ℕ → List Note → Bool
 marking_began g partitions k b notes = list_any begins (marks_in partitions k b notes) || failed_in_writing g k b notes
 
+-- the marking of block b of chip k was acknowledged in the notes of one boot
 abbrev pub marking_acknowledged : Partitions → ℕ → ℕ → List Note → Bool
 marking_acknowledged partitions k b notes = list_any is_acknowledgement (marks_in partitions k b notes)
 
--- an attach's table shows bad each factory-bad block and each whose marking was acknowledged in the boots before, and none beyond these and those whose marking has begun, in these boots or in the notes of this boot before the attach's own
-pub record ShowsMarks (g : Geometry) (partitions : Partitions) (k : ℕ) (factory_bad : List ℕ) (boots : List (List Note)) (before : List Note) (states : List ℕ) : Type 0 where
+-- an attach's table shows bad each factory-bad block and each whose marking was acknowledged in the boots
+-- before, and none beyond these and those whose marking has begun, in these boots or in the notes of this
+-- boot before the attach's own
+pub record ShowsMarks (g : Geometry) (partitions : Partitions) (k : ℕ) (factory_bad : List ℕ)
+    (boots : List (List Note)) (before : List Note) (states : List ℕ) : Type 0 where
   pub factory : (b : ℕ) → b < g.blocks → Contains factory_bad b → IsTrue (calls_bad states b)
-  pub acknowledged : (b : ℕ) → b < g.blocks → IsTrue (list_any (marking_acknowledged partitions k b) boots) → IsTrue (calls_bad states b)
-  pub no_other : (b : ℕ) → b < g.blocks → IsTrue (calls_bad states b) → Contains factory_bad b ⊎ IsTrue (list_any (marking_began g partitions k b) (boots ++ before ∷ []))
+  pub acknowledged : (b : ℕ) → b < g.blocks → IsTrue (list_any (marking_acknowledged partitions k b) boots)
+      → IsTrue (calls_bad states b)
+  pub no_other : (b : ℕ) → b < g.blocks → IsTrue (calls_bad states b) → Contains factory_bad b
+      ⊎ IsTrue (list_any (marking_began g partitions k b) (boots ++ before ∷ []))

@@ -20,6 +20,7 @@ pub data Past : Type 0 where
   Programmed : (image : List ℕ) → Past
   Unknown : Past
 
+-- the past of a page after a program of it
 abbrev pub after_program : Past → List ℕ → Bool → Past
 after_program Erased image true = Programmed image
 after_program Erased image false = Unknown
@@ -33,10 +34,12 @@ module _ {W : Type 0} (model : FaultModel W) where
   past_after s page past (Complete (ProgramEvent p image)) =
       if p == page then after_program past image (is_none (failure_of model s (ProgramCall p))) else past
   past_after s page past (Complete (EraseEvent block)) =
-      if page / s.geometry.pages_per_block == block then (if is_none (failure_of model s (EraseCall block)) then Erased else Unknown) else past
+      if page / s.geometry.pages_per_block == block then (if is_none (failure_of model s (EraseCall block))
+      then Erased else Unknown) else past
   past_after s page past (PowerCut (ReadEvent p) done) = past
   past_after s page past (PowerCut (ProgramEvent p image) done) = if p == page then Unknown else past
-  past_after s page past (PowerCut (EraseEvent block) done) = if page / s.geometry.pages_per_block == block then Unknown else past
+  past_after s page past (PowerCut (EraseEvent block) done) =
+      if page / s.geometry.pages_per_block == block then Unknown else past
   past_after s page past (Flipped p bit) = past
 
   -- the past of a page after a trace
@@ -53,7 +56,8 @@ pub record ReadsBack (g : Geometry) (image cells : List ℕ) : Type 0 where
   pub bodies : (s : ℕ) → s < step_count g → step_body g (decoded g cells).image s ≡ step_body g image s
   pub words : (s : ℕ) → s < step_count g → step_word g (decoded g cells).image s ≡ step_word g image s
   pub corrected : (decoded g cells).corrected ≡ sum (map (wrong_bits g image cells) (numbers_from 0 (step_count g)))
-  pub greatest : (decoded g cells).greatest ≡ fold max 0 (map (wrong_bits g image cells) (numbers_from 0 (step_count g)))
+  pub greatest : (decoded g cells).greatest
+      ≡ fold max 0 (map (wrong_bits g image cells) (numbers_from 0 (step_count g)))
   pub failed : (decoded g cells).failed ≡ 0
 
 -- each step's word has had at most as many flips as the code corrects
@@ -68,7 +72,8 @@ ProgrammedPagesReadBack g bad weak =
     HasFewFlips g ((after_trace sim_faults (new_chip g bad weak) trace).pages page).flips →
     ReadsBack g (page_image g body free) ((after_trace sim_faults (new_chip g bad weak) trace).pages page).cells
 
--- the answer to a read of such a page: the written body and parity bits, all else as the cells have it, and the exact counts; a read that is not answered says nothing, and no other answer is right
+-- the answer to a read of such a page: the written body and parity bits, all else as the cells have it, and
+-- the exact counts; a read that is not answered says nothing, and no other answer is right
 abbrev pub IsReadBack : Geometry → List ℕ → List ℕ → Option Reply → Type 0
 IsReadBack g image cells (Some (Page kind read got)) =
     ReadsBack g image cells × (got ≡ (decoded g cells).image) × (read.corrected ≡ (decoded g cells).corrected)
@@ -82,22 +87,28 @@ abbrev pub is_read : Op → Bool
 is_read (Read dev page) = true
 is_read _ = false
 
--- an answered read, after all that befell its chip before: if one program filled its page, with few flips, it gives that page back with exact counts
+-- an answered read, after all that befell its chip before: if one program filled its page, with few flips, it
+-- gives that page back with exact counts
 abbrev pub OperationReadsBack : {W : Type 0} → FaultModel W → ChipState W → List ChipEvent → OperationTrace → Type 0
 OperationReadsBack {W} model fresh before operation =
     (flips rest : List ChipEvent) (page : ℕ) (body free : List ℕ) → FillsPage fresh.geometry body free →
     is_read operation.op ≡ true → events_in operation.trace ≡ flips ++ Complete (ReadEvent page) ∷ rest →
     past_of model fresh page Erased (before ++ flips) ≡ Programmed (page_image fresh.geometry body free) →
     HasFewFlips fresh.geometry ((after_trace model fresh (before ++ flips)).pages page).flips →
-    IsReadBack fresh.geometry (page_image fresh.geometry body free) ((after_trace model fresh (before ++ flips)).pages page).cells operation.reply
+    IsReadBack fresh.geometry (page_image fresh.geometry body free) ((after_trace model fresh (before ++ flips)).pages
+    page).cells operation.reply
 
-abbrev pub OperationsReadBack : {W : Type 0} → FaultModel W → ChipState W → List ChipEvent → List OperationTrace → Type 0
+-- all answered reads among these operations
+abbrev pub OperationsReadBack : {W : Type 0} → FaultModel W → ChipState W → List ChipEvent → List OperationTrace
+    → Type 0
 OperationsReadBack model fresh before [] = ⊤
 OperationsReadBack model fresh before (operation ∷ later) =
-    OperationReadsBack model fresh before operation × OperationsReadBack model fresh (before ++ events_in operation.trace) later
+    OperationReadsBack model fresh before operation
+    × OperationsReadBack model fresh (before ++ events_in operation.trace) later
 
 -- all answered reads of a chip, over all boots
 abbrev pub ReadsBackAlong : {W : Type 0} → FaultModel W → ChipState W → List ChipEvent → List ChipBoot → Type 0
 ReadsBackAlong model fresh before [] = ⊤
 ReadsBackAlong model fresh before (b ∷ bs) =
-    OperationsReadBack model fresh (before ++ events_in b.attach) b.operations × ReadsBackAlong model fresh (before ++ trace_of b) bs
+    OperationsReadBack model fresh (before ++ events_in b.attach) b.operations
+    × ReadsBackAlong model fresh (before ++ trace_of b) bs

@@ -24,7 +24,8 @@ use Rattle.nand_model.specs.declared.words.Note.{Note}
 use Rattle.nand_model.specs.declared.words.Note.TheVariants.{Attached, Torn}
 
 -- the boots of a run, each with its turns and its course
-abbrev pub AreBoots : {W : Type 0} → FaultModel W → List (ChipState W) → List Boot → List (List ℕ) → List (Course W) → Type 0
+abbrev pub AreBoots : {W : Type 0} → FaultModel W → List (ChipState W) → List Boot → List (List ℕ) → List (Course W)
+    → Type 0
 AreBoots model starts [] [] [] = ⊤
 AreBoots model starts (boot ∷ boots) (turns ∷ more) (course ∷ courses) =
     IsWholeCourse model boot starts turns course × AreBoots model (end_states course) boots more courses
@@ -35,6 +36,7 @@ abbrev pub is_fair_note : ℕ → Note → Bool
 is_fair_note k (Torn chip number event cut Foul) = not (chip == k)
 is_fair_note k _ = true
 
+-- no torn event of chip k was foul
 abbrev pub is_fair : ℕ → List Note → Bool
 is_fair k notes = list_all (is_fair_note k) notes
 
@@ -54,7 +56,8 @@ AreQuietAsTraced {W} model starts lives course =
     quiet_at k course ≡ was_quiet model s (events_in b.attach)
 
 -- and so in each course of a run, the boots of which began in these states and in those that the courses left
-abbrev pub AreAllQuietAsTraced : {W : Type 0} → FaultModel W → List (ChipState W) → List (List ChipBoot) → List (Course W) → Type 0
+abbrev pub AreAllQuietAsTraced : {W : Type 0} → FaultModel W → List (ChipState W) → List (List ChipBoot)
+    → List (Course W) → Type 0
 AreAllQuietAsTraced model starts lives [] = ⊤
 AreAllQuietAsTraced model starts lives (course ∷ courses) =
     AreQuietAsTraced model starts (first_boots lives) course
@@ -64,44 +67,57 @@ AreAllQuietAsTraced model starts lives (course ∷ courses) =
 abbrev pub session_at_start : {W : Type 0} → Boot → List (ChipState W) → ℕ → List Command → SessionRun
 session_at_start boot starts session commands = without_finished (sizes_of boot starts) session commands [] []
 
--- the operations of each session of a boot are those of its commands, in order and each once, as far as the notes go, and no other session has any
+-- the operations of each session of a boot are those of its commands, in order and each once, as far as the
+-- notes go, and no other session has any
 pub record AreInOrder {W : Type 0} (boot : Boot) (starts : List (ChipState W)) (notes : List Note) : Type 0 where
   pub own : (session : ℕ) (commands : List Command) → Contains boot.sessions (session, commands)
-      → FollowsCommands (sizes_of boot starts) (session_at_start boot starts session commands) (exchanges_of session notes)
-  pub no_other : (session : ℕ) → ((commands : List Command) → Contains boot.sessions (session, commands) → ⊥) → exchanges_of session notes ≡ []
+      → FollowsCommands (sizes_of boot starts) (session_at_start boot starts session commands)
+      (exchanges_of session notes)
+  pub no_other : (session : ℕ) → ((commands : List Command) → Contains boot.sessions (session, commands) → ⊥)
+      → exchanges_of session notes ≡ []
 
 -- and nothing of any session is left
 abbrev pub AreComplete : {W : Type 0} → Boot → List (ChipState W) → List Note → Type 0
 AreComplete boot starts notes =
     (session : ℕ) (commands : List Command) → Contains boot.sessions (session, commands) →
-    is_finished (session_after (sizes_of boot starts) (session_at_start boot starts session commands) (exchanges_of session notes)).commands ≡ true
+    is_finished (session_after (sizes_of boot starts) (session_at_start boot starts session commands)
+    (exchanges_of session notes)).commands ≡ true
 
 -- no two sessions have one number, unless they have the same commands
 abbrev pub HaveOneNumberEach : List (ℕ × List Command) → Type 0
 HaveOneNumberEach sessions = (n : ℕ) (a b : List Command) → Contains sessions (n, a) → Contains sessions (n, b) → a ≡ b
 
--- for every list of turns: the notes of a course are those of one thread, whose traces are what befell the chips by one list of page events, with the boot's flips and cut; they lead to the states that the course leaves; and each session's operations are those of its commands
-pub record CoursesAreFaithful {W : Type 0} (model : FaultModel W) (boot : Boot) (starts : List (ChipState W)) (attaches : ℕ) (turns : List ℕ) : Type 0 where
+-- for every list of turns: the notes of a course are those of one thread, whose traces are what befell the
+-- chips by one list of page events, with the boot's flips and cut; they lead to the states that the course
+-- leaves; and each session's operations are those of its commands
+pub record CoursesAreFaithful {W : Type 0} (model : FaultModel W) (boot : Boot) (starts : List (ChipState W))
+    (attaches : ℕ) (turns : List ℕ) : Type 0 where
   pub lives : List ChipBoot
   pub log : Log
   pub counted : (course_after model boot starts attaches turns).events ≡ length log
   pub of_log : AreOfLog model boot starts lives (end_states (course_after model boot starts attaches turns)) log
   pub quiet : AreQuietAsTraced model starts lives (course_after model boot starts attaches turns)
-  pub one_thread : AreOneThread model boot.partitions starts (map (λ (b : ChipBoot). b ∷ []) lives) ((course_after model boot starts attaches turns).notes ∷ [])
-  pub in_order : HaveOneNumberEach boot.sessions → AreInOrder boot starts (course_after model boot starts attaches turns).notes
+  pub one_thread : AreOneThread model boot.partitions starts (map (λ (b : ChipBoot). b ∷ []) lives)
+      ((course_after model boot starts attaches turns).notes ∷ [])
+  pub in_order : HaveOneNumberEach boot.sessions
+      → AreInOrder boot starts (course_after model boot starts attaches turns).notes
   pub complete : HaveOneNumberEach boot.sessions → is_over (course_after model boot starts attaches turns) ≡ true
-      → (course_after model boot starts attaches turns).dark ≡ false → AreComplete boot starts (course_after model boot starts attaches turns).notes
+      → (course_after model boot starts attaches turns).dark ≡ false
+      → AreComplete boot starts (course_after model boot starts attaches turns).notes
 
 -- over all boots, each from the states that the one before it left
-pub record RunsAreFaithful {W : Type 0} (model : FaultModel W) (partitions : Partitions) (starts : List (ChipState W)) (boots : List Boot) (courses : List (Course W)) : Type 0 where
+pub record RunsAreFaithful {W : Type 0} (model : FaultModel W) (partitions : Partitions) (starts : List (ChipState W))
+    (boots : List Boot) (courses : List (Course W)) : Type 0 where
   pub lives : List (List ChipBoot)
   pub logs : List Log
   pub counted : map (λ (c : Course W). c.events) courses ≡ map (λ (log : Log). length log) logs
   pub of_logs : AreOfLogs model starts boots courses lives logs
   pub quiet : AreAllQuietAsTraced model starts lives courses
   pub one_thread : AreOneThread model partitions starts lives (map (λ (c : Course W). c.notes) courses)
-  pub in_order : AllZip (λ boot notes. HaveOneNumberEach boot.sessions → AreInOrder boot starts notes) boots (map (λ (c : Course W). c.notes) courses)
-  pub complete : AllZip (λ boot (course : Course W). HaveOneNumberEach boot.sessions → course.dark ≡ false → AreComplete boot starts course.notes) boots courses
+  pub in_order : AllZip (λ boot notes. HaveOneNumberEach boot.sessions → AreInOrder boot starts notes) boots
+      (map (λ (c : Course W). c.notes) courses)
+  pub complete : AllZip (λ boot (course : Course W). HaveOneNumberEach boot.sessions → course.dark ≡ false
+      → AreComplete boot starts course.notes) boots courses
 
 -- all boots up to one: no torn event of the chip was foul, and each attach of it was quiet
 abbrev pub IsFairAndQuiet : {W : Type 0} → ℕ → List (Course W) → Type 0
@@ -112,8 +128,10 @@ abbrev pub HasTableBlocks : Geometry → List ℕ → Type 0
 HasTableBlocks g factory_bad =
     has_tables g ≡ true → count_by (λ block. list_any (λ b. b == block) factory_bad) (table_blocks g) ≤ 2
 
--- each attach note of a quiet attach shows the marks of the boots before it, where no torn event of the chip before it was foul and each earlier attach was quiet.
--- A course's cut has a `Tear`, so this speaks of the done bits that tears have; of a chip's life the same is to be said for all done bits.
+-- each attach note of a quiet attach shows the marks of the boots before it, where no torn event of the chip
+-- before it was foul and each earlier attach was quiet.
+-- A course's cut has a `Tear`, so this speaks of the done bits that tears have; of a chip's life the same is
+-- to be said for all done bits.
 abbrev pub MarksSurvive : {W : Type 0} → Partitions → ℕ → Geometry → List ℕ → List (Course W) → Type 0
 MarksSurvive {W} partitions k g factory_bad courses =
     HasTableBlocks g factory_bad →
@@ -124,7 +142,8 @@ MarksSurvive {W} partitions k g factory_bad courses =
 
 -- the first pages of the last four blocks whose marker is good, as they stand now
 abbrev pub candidates_now : {W : Type 0} → ChipState W → List (ℕ × List ℕ)
-candidates_now s = candidates s.geometry (map (λ b. (s.pages (first_page s.geometry b)).cells) (table_blocks s.geometry))
+candidates_now s =
+    candidates s.geometry (map (λ b. (s.pages (first_page s.geometry b)).cells) (table_blocks s.geometry))
 
 -- the copy that an attach would use, if it began now
 abbrev pub copy_in_use : {W : Type 0} → ChipState W → Option (ℕ × Copy)
@@ -139,10 +158,13 @@ IsFoundNow s block copy = found s.geometry copy.which (candidates_now s) ≡ Som
 -- a copy calls bad each block whose marking was acknowledged in these notes
 abbrev pub HasAcknowledged : Geometry → Partitions → ℕ → List (List Note) → Copy → Type 0
 HasAcknowledged g partitions k boots copy =
-    (b : ℕ) → b < g.blocks → IsTrue (list_any (marking_acknowledged partitions k b) boots) → IsTrue (calls_bad copy.states b)
+    (b : ℕ) → b < g.blocks → IsTrue (list_any (marking_acknowledged partitions k b) boots)
+    → IsTrue (calls_bad copy.states b)
 
--- a block of the last four, other than the one that is being changed, holds a copy that an attach would find, and the newest copy that it would find has every mark that was acknowledged in these notes
-pub record KeepsACopy {W : Type 0} (partitions : Partitions) (k : ℕ) (s : ChipState W) (boots : List (List Note)) (changing : Option ℕ) : Type 0 where
+-- a block of the last four, other than the one that is being changed, holds a copy that an attach would find,
+-- and the newest copy that it would find has every mark that was acknowledged in these notes
+pub record KeepsACopy {W : Type 0} (partitions : Partitions) (k : ℕ) (s : ChipState W) (boots : List (List Note))
+    (changing : Option ℕ) : Type 0 where
   pub block : ℕ
   pub copy : Copy
   pub other : changing ≢ Some block
@@ -161,11 +183,14 @@ pub record IsLater (earlier later : Copy) : Type 0 where
 
 -- what the last four blocks hold, at each moment: the parts of the invariant that relocation names
 pub record CopiesAgree {W : Type 0} (s : ChipState W) : Type 0 where
-  pub two : (p m : ℕ) (primary mirror : Copy) → found s.geometry Primary (candidates_now s) ≡ Some (p, primary) → found s.geometry Mirror (candidates_now s) ≡ Some (m, mirror)
+  pub two : (p m : ℕ) (primary mirror : Copy) → found s.geometry Primary (candidates_now s) ≡ Some (p, primary)
+      → found s.geometry Mirror (candidates_now s) ≡ Some (m, mirror)
       → IsLater primary mirror ⊎ IsLater mirror primary
-  pub covers : (n b : ℕ) (newest copy : Copy) → copy_in_use s ≡ Some (n, newest) → Contains (copies_held s.geometry (candidates_now s)) (b, copy)
+  pub covers : (n b : ℕ) (newest copy : Copy) → copy_in_use s ≡ Some (n, newest)
+      → Contains (copies_held s.geometry (candidates_now s)) (b, copy)
       → (c : ℕ) → calls_bad copy.states c ≡ true → calls_bad newest.states c ≡ true
-  pub disowned : (n b : ℕ) (newest copy : Copy) → copy_in_use s ≡ Some (n, newest) → Contains (copies_held s.geometry (candidates_now s)) (b, copy)
+  pub disowned : (n b : ℕ) (newest copy : Copy) → copy_in_use s ≡ Some (n, newest)
+      → Contains (copies_held s.geometry (candidates_now s)) (b, copy)
       → is_disowned (copies_held s.geometry (candidates_now s)) b ≡ true → calls_bad newest.states b ≡ true
   pub own : (n : ℕ) (newest : Copy) → copy_in_use s ≡ Some (n, newest) → calls_bad newest.states n ≡ false
 
@@ -183,29 +208,40 @@ block_changed g (Some (ReadEvent page)) = None
 block_changed g (Some (ProgramEvent page image)) = Some (page / g.pages_per_block)
 block_changed g (Some (EraseEvent block)) = Some block
 
--- the block of a chip that is being erased or programmed: the one that its next event changes, unless the controller is dark
+-- the block of a chip that is being erased or programmed: the one that its next event changes, unless the
+-- controller is dark
 abbrev pub block_in_change : {W : Type 0} → Partitions → Course W → ChipRun W → Option ℕ
-block_in_change partitions course c = if course.dark then None else block_changed c.chip.geometry (next_chip_event partitions c)
+block_in_change partitions course c =
+    if course.dark then None else block_changed c.chip.geometry (next_chip_event partitions c)
 
--- a moment at which an attach of chip k that began there would be fair and quiet: no torn event of it so far was foul, each attach of it so far was quiet, and it is quiet now
-pub record IsFairAndQuietNow {W : Type 0} (k : ℕ) (past : List (Course W)) (course : Course W) (c : ChipRun W) : Type 0 where
+-- a moment at which an attach of chip k that began there would be fair and quiet: no torn event of it so far
+-- was foul, each attach of it so far was quiet, and it is quiet now
+pub record IsFairAndQuietNow {W : Type 0} (k : ℕ) (past : List (Course W)) (course : Course W) (c : ChipRun W) :
+    Type 0 where
   pub is_chip : slice_get course.chips k ≡ Some c
   pub so_far : IsFairAndQuiet k (past ++ course ∷ [])
   pub now : IsTrue (is_quiet c.chip.geometry c.chip.pages)
 
--- (Not proved yet.) In a boot that comes after these courses of a run of new chips: once an attach would use a copy of a chip with tables, at each later moment the copies agree, a block of its last four that is not being changed holds a copy that an attach would find, and the newest copy that it would find has every acknowledged mark. The first moment of a boot is the last one of the boot before it.
-abbrev pub OneCopyStays : {W : Type 0} → FaultModel W → ℕ → Geometry → List ℕ → List (Course W) → Boot → List (ChipState W) → Type 0
+-- (Not proved yet.) In a boot that comes after these courses of a run of new chips: once an attach would use
+-- a copy of a chip with tables, at each later moment the copies agree, a block of its last four that is not
+-- being changed holds a copy that an attach would find, and the newest copy that it would find has every
+-- acknowledged mark. The first moment of a boot is the last one of the boot before it.
+abbrev pub OneCopyStays : {W : Type 0} → FaultModel W → ℕ → Geometry → List ℕ → List (Course W) → Boot
+    → List (ChipState W) → Type 0
 OneCopyStays {W} model k g factory_bad past boot starts =
     has_tables g ≡ true → HasTableBlocks g factory_bad →
     (attaches more : ℕ) (turns later : List ℕ) (before now : ChipRun W) →
     IsFairAndQuietNow k past (course_after model boot starts attaches turns) before → IsSome (copy_in_use before.chip) →
     IsFairAndQuietNow k past (course_after model boot starts (attaches + more) (turns ++ later)) now →
     CopiesAgree now.chip × KeepsACopy boot.partitions k now.chip
-    (map (λ (c : Course W). c.notes) past ++ (course_after model boot starts (attaches + more) (turns ++ later)).notes ∷ [])
+    (map (λ (c : Course W). c.notes) past ++ (course_after model boot starts (attaches + more) (turns ++ later)).notes
+    ∷ [])
     (block_in_change boot.partitions (course_after model boot starts (attaches + more) (turns ++ later)) now)
 
--- (Not proved yet.) In such a boot: while a chip with tables is attached, nothing is pending on it and its whole copies are two, both places hold the table in memory.
-abbrev pub WholeCopiesHoldTheTable : {W : Type 0} → FaultModel W → ℕ → Geometry → List ℕ → List (Course W) → Boot → List (ChipState W) → Type 0
+-- (Not proved yet.) In such a boot: while a chip with tables is attached, nothing is pending on it and its
+-- whole copies are two, both places hold the table in memory.
+abbrev pub WholeCopiesHoldTheTable : {W : Type 0} → FaultModel W → ℕ → Geometry → List ℕ → List (Course W) → Boot
+    → List (ChipState W) → Type 0
 WholeCopiesHoldTheTable {W} model k g factory_bad past boot starts =
     has_tables g ≡ true → HasTableBlocks g factory_bad →
     (attaches : ℕ) (turns : List ℕ) (c : ChipRun W) (known : Known) →

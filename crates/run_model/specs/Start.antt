@@ -30,11 +30,13 @@ IsOnChip {W} starts part = (s : ChipState W) × (slice_get starts part.chip ≡ 
 
 -- a command is of a device that is there, and names the number of its blocks
 abbrev pub IsOfDevice : Partitions → Command → Type 0
-IsOfDevice partitions command = (part : Part) × (part_of partitions (command_device command) ≡ Some part) × (command_blocks command ≡ part.count)
+IsOfDevice partitions command =
+    (part : Part) × (part_of partitions (command_device command) ≡ Some part) × (command_blocks command ≡ part.count)
 
 -- a flip turns bits of a page of a chip that is there
 abbrev pub IsOnFlash : {W : Type 0} → List (ChipState W) → Flip → Type 0
-IsOnFlash {W} starts flip = (s : ChipState W) × (slice_get starts flip.chip ≡ Some s) × FitsBits s.geometry flip.page flip.bits
+IsOnFlash {W} starts flip = (s : ChipState W) × (slice_get starts flip.chip ≡ Some s)
+    × FitsBits s.geometry flip.page flip.bits
 
 -- a controller of chips in these states can be started on its part of a boot
 pub record CanStart {W : Type 0} (boot : Boot) (starts : List (ChipState W)) : Type 0 where

@@ -16,10 +16,12 @@ abbrev pub statistics_known : Option Known → ℕ → Stats
 statistics_known None dev = no_statistics
 statistics_known (Some known) dev = known.statistics dev
 
+-- the statistics of a device of a chip, where the chip is there
 abbrev pub statistics_on : {W : Type 0} → Option (ChipRun W) → ℕ → Stats
 statistics_on None dev = no_statistics
 statistics_on (Some c) dev = statistics_known c.known dev
 
+-- the statistics of a device in a course, by the chip of the device
 abbrev pub statistics_at : {W : Type 0} → Course W → Option ℕ → ℕ → Stats
 statistics_at course None dev = no_statistics
 statistics_at course (Some k) dev = statistics_on (slice_get course.chips k) dev
@@ -30,4 +32,5 @@ device_numbers partitions = numbers_from partitions.first (length partitions.par
 
 -- the statistics of each device in a course
 abbrev pub device_statistics : {W : Type 0} → Partitions → Course W → List (ℕ × Stats)
-device_statistics partitions course = map (λ dev. (dev, statistics_at course (chip_of partitions dev) dev)) (device_numbers partitions)
+device_statistics partitions course =
+    map (λ dev. (dev, statistics_at course (chip_of partitions dev) dev)) (device_numbers partitions)

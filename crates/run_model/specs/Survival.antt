@@ -1,4 +1,5 @@
--- Marks that outlive cuts, said of one chip and of any done bits: a cut of a course has a tear of a plan, a chip's own trace may be cut
+-- Marks that outlive cuts, said of one chip and of any done bits: a cut of a course has a tear of a plan, a
+-- chip's own trace may be cut
 -- with any bits done.
 use Rattle.std.specs.Prelude.{◌≡◌, true, ℕ, List, [], ◌∷◌, ◌++◌, length, IsTrue, Some, ⊤, All}
 use Rattle.nand_model.specs.Chip.{ChipState, FaultModel, sim_faults, new_chip, after_trace}
@@ -20,11 +21,14 @@ WritesAPage g _ = ⊤
 
 -- all writes of a life have such bodies
 abbrev pub AllWritePages : Geometry → List ChipBoot → Type 0
-AllWritePages g life = All (λ (b : ChipBoot). All (λ (operation : OperationTrace). WritesAPage g operation.op) b.operations) life
+AllWritePages g life =
+    All (λ (b : ChipBoot). All (λ (operation : OperationTrace). WritesAPage g operation.op) b.operations) life
 
--- as far as the attaches of a chip were quiet and its torn events fair: each attach that came to its end shows the marks of the boots
+-- as far as the attaches of a chip were quiet and its torn events fair: each attach that came to its end
+-- shows the marks of the boots
 -- before it, of which these are the notes
-abbrev pub LifeShowsMarks : {W : Type 0} → FaultModel W → Partitions → ℕ → Geometry → List ℕ → ChipState W → List ChipBoot
+abbrev pub LifeShowsMarks : {W : Type 0} → FaultModel W → Partitions → ℕ → Geometry → List ℕ → ChipState W
+    → List ChipBoot
     → List (List Note) → (before : List (List Note)) → Type 0
 LifeShowsMarks model partitions k g factory_bad s (b ∷ bs) (notes ∷ more) before =
     was_quiet model s (events_in b.attach) ≡ true → IsTrue (is_fair k (notes_of_trace model k s b.attach)) →

@@ -10,15 +10,18 @@ use Rattle.command_model.specs.Runnable.{CanRun}
 use Rattle.session_steps.specs.declared.session.Session.{Session}
 use Rattle.session_steps.specs.Standing.{Standing, standing, outcomes_by, commands_by}
 
--- the command that was begun last is the first of these and has had these replies; where it is over or none was begun, there is no reply
+-- the command that was begun last is the first of these and has had these replies; where it is over or none
+-- was begun, there is no reply
 abbrev pub GoesOn : (Command → Geometry) → List Command → List Reply → Option Script → Type 0
 GoesOn sizes commands replies None = replies ≡ []
 GoesOn sizes commands replies (Some (End outcome)) = replies ≡ []
 GoesOn sizes [] replies (Some (Ask op go_on)) = ⊥
-GoesOn sizes (command ∷ commands) replies (Some (Ask op go_on)) = Ask op go_on ≡ after_replies replies (script_of (sizes command) command)
+GoesOn sizes (command ∷ commands) replies (Some (Ask op go_on)) =
+    Ask op go_on ≡ after_replies replies (script_of (sizes command) command)
 
 -- a session with these commands that stands so is where this session of a course is
-pub record Shows (sizes : Command → Geometry) (commands : List Command) (st : Standing) (run : SessionRun) : Type 0 where
+pub record Shows (sizes : Command → Geometry) (commands : List Command) (st : Standing) (run : SessionRun) : Type 0
+    where
   pub number : run.number ≡ st.number
   pub outcomes : run.outcomes ≡ outcomes_by st
   pub left : run.commands ≡ commands_by commands st
@@ -34,7 +37,8 @@ abbrev pub CanAllRun : (Command → Geometry) → List Command → Type 0
 CanAllRun sizes commands = All (λ c. CanRun (sizes c) c) commands
 
 -- a session with these commands, each of which can be run, stands where the session of a course does
-pub record Mirrors (sizes : Command → Geometry) (commands : List Command) (notes : List Note) (s : Session) (run : SessionRun) : Type 0 where
+pub record Mirrors (sizes : Command → Geometry) (commands : List Command) (notes : List Note) (s : Session)
+    (run : SessionRun) : Type 0 where
   pub runnable : CanAllRun sizes commands
   pub placed : IsPlaced (length notes) s.last
   pub shows : Shows sizes commands (standing notes s) run

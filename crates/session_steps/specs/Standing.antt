@@ -36,7 +36,8 @@ script_after reply tool = option_map (λ (t : Tool). after_last reply (left_of t
 
 -- where a session stands once its tool has the last reply, which is among these notes
 abbrev pub standing : List Note → Session → Standing
-standing notes s = record { number = s.number; script = script_after (reply_at notes s.last) s.tool; outcomes = s.outcomes.items }
+standing notes s =
+    record { number = s.number; script = script_after (reply_at notes s.last) s.tool; outcomes = s.outcomes.items }
 
 -- where a session stands that has no last reply to hand over
 abbrev pub standing_alone : Session → Standing

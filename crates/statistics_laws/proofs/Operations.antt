@@ -14,7 +14,7 @@ use Rattle.nand_model.specs.declared.words.Which.{Which}
 use Rattle.nand_model.specs.Chip.{ReadEvent, ProgramEvent, EraseEvent}
 use Rattle.nand_model.specs.Path.{Answer, Path, Over, Then, after_answers, cells_of, either, is_failure, is_good, result_of}
 use Rattle.nand_model.specs.Table.{has_tables}
-use Rattle.chip_paths.specs.Writing.{Writing, written_on, writing_step, writing_within, most_events}
+use Rattle.chip_paths.specs.Writing.{Writing, writing_after, writing_step, writing_within, most_events}
 use Rattle.nand_model.specs.Sizes.{first_page}
 use Rattle.nand_model.specs.Page.{Decoding, decoded, page_image}
 use Rattle.nand_model.specs.declared.words.Stats.{Stats as Statistics}
@@ -62,9 +62,9 @@ module _ (g : Geometry) (k : Known) where
     writing_ends (suc n) w go_on h = on (λ v. writing_ends n v go_on h) w.left
       where
         on : ((v : Writing) → EndsIn P (writing_within n g v go_on)) → (l : List Which)
-            → EndsIn P (writing_step g w l (λ u. go_on w) (λ answer. writing_within n g (written_on g w answer) go_on))
+            → EndsIn P (writing_step g w l (λ u. go_on w) (λ answer. writing_within n g (writing_after g w answer) go_on))
         on later [] = h w
-        on later (which ∷ more) = λ answer. later (written_on g w answer)
+        on later (which ∷ more) = λ answer. later (writing_after g w answer)
 
     -- the writing of both tables
     tables_end : (m : Known) (marker : Answer) → ((known : Known) (reply : Reply) → known.statistics ≡ m.statistics → P (record { reply = reply; known = known }))

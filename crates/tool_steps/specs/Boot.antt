@@ -19,7 +19,8 @@ with_one_more command session = (session.0, session.1 ++ command ∷ [])
 
 -- the boot with one more command in its last session
 abbrev pub with_command : Boot → Command → Boot
-with_command boot command = record boot { sessions = change_at boot.sessions (length boot.sessions - 1) (with_one_more command) }
+with_command boot command =
+    record boot { sessions = change_at boot.sessions (length boot.sessions - 1) (with_one_more command) }
 
 -- the number of the k-th session
 abbrev pub session_number : Boot → ℕ → Option ℕ
@@ -31,4 +32,5 @@ commands_at boot k = option_map (λ (session : ℕ × List Command). session.1) 
 
 -- the n-th command of the k-th session
 abbrev pub command_at : Boot → (k n : ℕ) → Option Command
-command_at boot k n = option_and_then (λ (session : ℕ × List Command). slice_get session.1 n) (slice_get boot.sessions k)
+command_at boot k n =
+    option_and_then (λ (session : ℕ × List Command). slice_get session.1 n) (slice_get boot.sessions k)

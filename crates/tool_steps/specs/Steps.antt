@@ -38,4 +38,5 @@ asks_something _ = true
 
 -- with this allowance for failing pages, the cost bounds the operations whatever the replies are
 abbrev pub EndsAtLast : Geometry → Command → ℕ → Type 0
-EndsAtLast g command weak = (replies : List Reply) → cost_of g command weak ≤ length replies → IsOver (next_in (after_replies replies (script_of g command)))
+EndsAtLast g command weak = (replies : List Reply) → cost_of g command weak ≤ length replies
+    → IsOver (next_in (after_replies replies (script_of g command)))

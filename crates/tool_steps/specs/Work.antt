@@ -27,7 +27,8 @@ unwritten skipped failed = record { pages = 0; skipped = skipped; failed = faile
 
 -- the blocks after this one are tried for the unit
 abbrev pub later_blocks : Geometry → WriteMode → List ℕ → (block rest skipped failed : ℕ) → Script
-later_blocks g m unit block rest skipped failed = write_blocks g m rest (block + 1) 0 (unit ∷ []) (unwritten skipped failed)
+later_blocks g m unit block rest skipped failed =
+    write_blocks g m rest (block + 1) 0 (unit ∷ []) (unwritten skipped failed)
 
 -- the unit is programmed into the first page of the block
 abbrev pub program_unit : Geometry → WriteMode → List ℕ → (block rest skipped failed : ℕ) → Script
@@ -67,7 +68,8 @@ read_left g d = Ask (page_read d) (λ r. End (page_dumped g d r))
 
 -- the page's block is asked for, and the page is read unless it is bad
 abbrev pub look_left : Geometry → Dumping → Script
-look_left g d = Ask (IsBad d.dev (d.page / g.pages_per_block)) (λ r. if says_bad r then End (page_passed g d) else read_left g d)
+look_left g d =
+    Ask (IsBad d.dev (d.page / g.pages_per_block)) (λ r. if says_bad r then End (page_passed g d) else read_left g d)
 
 -- a dump of one page: with --bb=dumpbad no block is asked for
 abbrev pub dump_left : Geometry → Dumping → Script
@@ -76,9 +78,11 @@ dump_left g d = if is_dump_bad d.bad then read_left g d else look_left g d
 -- what is left of a command that waits for a reply
 abbrev pub work_left : Geometry → List ℕ → Work → Script
 work_left g unit (IsErasing e) = erase_blocks e.dev true (suc e.rest) e.block e.erased 0 e.failed
-work_left g unit (Scanning w) = write_blocks g (write_mode w.dev w.raw) (suc w.rest) w.block 0 (unit ∷ []) (unwritten w.skipped w.failed)
+work_left g unit (Scanning w) =
+    write_blocks g (write_mode w.dev w.raw) (suc w.rest) w.block 0 (unit ∷ []) (unwritten w.skipped w.failed)
 work_left g unit (Programming w) = program_unit g (write_mode w.dev w.raw) unit w.block w.rest w.skipped w.failed
-work_left g unit (Clearing w) = Ask (Erase w.dev w.block) (λ r. later_blocks g (write_mode w.dev w.raw) unit w.block w.rest w.skipped (w.failed + 1))
+work_left g unit (Clearing w) = Ask (Erase w.dev w.block) (λ r. later_blocks g (write_mode w.dev w.raw) unit w.block
+    w.rest w.skipped (w.failed + 1))
 work_left g unit (Looking d) = look_left g d
 work_left g unit (Reading d) = read_left g d
 work_left g unit (Asking dev block) = Ask (IsBad dev block) (λ r. End (AskedBad r))

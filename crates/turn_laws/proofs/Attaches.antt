@@ -1,4 +1,4 @@
--- How many events the attaches of chips without tables have.
+-- How many events the attaches of chips have.
 use Rattle.std.proofs.Common.{◌≡◌, ◌⊎◌, inl, inr, ℕ, zero, suc, ◌+◌, ◌≤◌, ◌<◌, Bool, true, false, List, [], ◌∷◌, ◌++◌, length, map, Option, Some, None, refl, ap, sym, ◌∙◌, subst, arith, length-append}
 use Rattle.std.specs.Prelude.{⊤, slice_get, sum_by, fold, filter, option_map, is_none, ◌==◌, if◌then◌else◌}
 use Rattle.std.proofs.lemmas.Bool.{cases_eq, false≢true}
@@ -18,33 +18,33 @@ use Rattle.run_model.specs.Course.{Course, unattached, tear_at, with_flip, with_
 use Rattle.run_laws.proofs.Traces.{geometry_after}
 use Rattle.run_laws.proofs.Places.{change_here, change_elsewhere, position_is}
 use Rattle.run_laws.proofs.Courses.{Rest, rest, rest_of, due_rest}
-use Rattle.turn_laws.specs.Laws.{blocks_of, HaveNoTables, AttachesReadBlocks}
+use Rattle.turn_laws.specs.Laws.{events_of_attach, events_of_attaches, AttachesAreShort}
 use Rattle.turn_laws.proofs.Sums.{sum-change, sum-change_same, sum-under, sum-less}
 use Rattle.turn_laws.proofs.Paths.{attach_within, some_left}
 
--- a chip without tables has read no more pages than it has blocks
+-- the attach of a chip has had no more events than it may have
 abbrev Fits : Option Rest → Type 0
 Fits None = ⊤
-Fits (Some r) = (r.geometry.bbt ≡ 0) × (length r.answers ≤ r.geometry.blocks)
+Fits (Some r) = length r.answers ≤ events_of_attach r.geometry
 
--- the pages that the attaches have read, and the blocks of the chips
+-- the events that the attaches have had, and those that they may have
 abbrev pages_read : {W : Type 0} → List (ChipRun W) → ℕ
 pages_read {W} chips = sum_by (λ (c : ChipRun W). length c.attach_answers) chips
 
 abbrev blocks_in : {W : Type 0} → List (ChipRun W) → ℕ
-blocks_in {W} chips = sum_by (λ (c : ChipRun W). c.chip.geometry.blocks) chips
+blocks_in {W} chips = sum_by (λ (c : ChipRun W). events_of_attach c.chip.geometry) chips
 
 module _ {W : Type 0} (model : FaultModel W) (boot : Boot) (starts : List (ChipState W)) where
   -- a course whose chips are being attached
   record Attaching (course : Course W) : Type 0 where
     pub lit : course.dark ≡ false
     pub counted : course.events ≡ pages_read course.chips
-    pub blocks : blocks_in course.chips ≡ blocks_of starts
+    pub blocks : blocks_in course.chips ≡ events_of_attaches starts
     pub fits : (k : ℕ) → Fits (rest_of (slice_get course.chips k))
 
   record Darkened (course : Course W) : Type 0 where
     pub dark : course.dark ≡ true
-    pub few : course.events ≤ blocks_of starts
+    pub few : course.events ≤ events_of_attaches starts
 
   abbrev Attaches : Course W → Type 0
   Attaches course = Attaching course ⊎ Darkened course
@@ -60,12 +60,12 @@ module _ {W : Type 0} (model : FaultModel W) (boot : Boot) (starts : List (ChipS
   flips_blocks [] chips = refl
   flips_blocks (flip ∷ flips) chips =
       flips_blocks flips (with_flip model boot chips flip)
-      ∙ sum-change_same (λ (c : ChipRun W). c.chip.geometry.blocks) chips flip.chip (λ c. with_flips model c flip.page flip.bits)
-      (λ c. ap (λ (g : Geometry). g.blocks) (geometry_after model c.chip (flip_events flip.page flip.bits)))
+      ∙ sum-change_same (λ (c : ChipRun W). events_of_attach c.chip.geometry) chips flip.chip (λ c. with_flips model c flip.page flip.bits)
+      (λ c. ap events_of_attach (geometry_after model c.chip (flip_events flip.page flip.bits)))
 
   few_read : (course : Course W) → Attaching course → pages_read course.chips ≤ blocks_in course.chips
-  few_read course a = sum-under (λ (c : ChipRun W). length c.attach_answers) (λ (c : ChipRun W). c.chip.geometry.blocks) course.chips
-      (λ k c at. (subst Fits (ap rest_of at) (a.fits k)).1)
+  few_read course a = sum-under (λ (c : ChipRun W). length c.attach_answers) (λ (c : ChipRun W). events_of_attach c.chip.geometry) course.chips
+      (λ k c at. subst Fits (ap rest_of at) (a.fits k))
 
   -- an event of a chip that is being attached
   module _ (course : Course W) (a : Attaching course) (k : ℕ) (c : ChipRun W) (at : slice_get course.chips k ≡ Some c) (unknown : c.known ≡ None)
@@ -76,8 +76,8 @@ module _ {W : Type 0} (model : FaultModel W) (boot : Boot) (starts : List (ChipS
     fits_c : Fits (Some (rest c))
     fits_c = subst Fits (ap rest_of at) (a.fits k)
 
-    one_left : length c.attach_answers < c.chip.geometry.blocks
-    one_left = some_left c.chip.geometry.blocks (attach_path c.chip.geometry) (attach_within c.chip.geometry fits_c.0) c.attach_answers e next
+    one_left : length c.attach_answers < events_of_attach c.chip.geometry
+    one_left = some_left (events_of_attach c.chip.geometry) (attach_path c.chip.geometry) (attach_within c.chip.geometry) c.attach_answers e next
 
     module _ (now : ChipRun W) (there : slice_get flipped k ≡ Some now) (same : rest now ≡ rest c) where
       after : ChipState W
@@ -117,9 +117,9 @@ module _ {W : Type 0} (model : FaultModel W) (boot : Boot) (starts : List (ChipS
               let at_j : slice_get chips_after j ≡ Some grown =
               subst (λ (i : ℕ). slice_get chips_after i ≡ Some grown) here (change_here flipped k (λ old. grown)
               ∙ ap (λ (o : Option (ChipRun W)). option_map (λ (old : ChipRun W). grown) o) there) in
-              let more : length grown.attach_answers ≤ c.chip.geometry.blocks = omega (arith, one_read, one_left) in
+              let more : length grown.attach_answers ≤ events_of_attach c.chip.geometry = omega (arith, one_read, one_left) in
               subst (λ (o : Option (ChipRun W)). Fits (rest_of o)) (sym at_j)
-              (ap (λ (g : Geometry). g.bbt) c_geometry ∙ fits_c.0, subst (λ (g : Geometry). length grown.attach_answers ≤ g.blocks) (sym c_geometry) more)
+              (subst (λ (g : Geometry). length grown.attach_answers ≤ events_of_attach g) (sym c_geometry) more)
           by_case (inr elsewhere) =
               subst (λ (o : Option (ChipRun W)). Fits (rest_of o)) (sym (change_elsewhere flipped k j (λ old. grown) elsewhere))
               (subst Fits (sym (due_rest model boot starts course.chips (course.events + 1) j)) (a.fits j))
@@ -130,8 +130,8 @@ module _ {W : Type 0} (model : FaultModel W) (boot : Boot) (starts : List (ChipS
           let kept : length now.attach_answers ≡ length c.attach_answers = ap (λ (r : Rest). length r.answers) same in
           let unread : pages_read flipped ≡ pages_read course.chips = flips_read (filter (λ (flip : Flip). flip.before == course.events + 1) boot.flips)
           course.chips in
-          let wide = sum-change (λ (x : ChipRun W). x.chip.geometry.blocks) flipped k now (λ old. grown) there in
-          let as_wide : grown.chip.geometry.blocks ≡ now.chip.geometry.blocks = ap (λ (g : Geometry). g.blocks) same_geometry in
+          let wide = sum-change (λ (x : ChipRun W). events_of_attach x.chip.geometry) flipped k now (λ old. grown) there in
+          let as_wide : events_of_attach grown.chip.geometry ≡ events_of_attach now.chip.geometry = ap events_of_attach same_geometry in
           let unchanged : blocks_in flipped ≡ blocks_in course.chips = flips_blocks
           (filter (λ (flip : Flip). flip.before == course.events + 1) boot.flips) course.chips in
           inl (record {
@@ -142,8 +142,8 @@ module _ {W : Type 0} (model : FaultModel W) (boot : Boot) (starts : List (ChipS
           })
       done_attaches (Some tear) =
           let less : pages_read course.chips + 1 ≤ blocks_in course.chips =
-          sum-less (λ (x : ChipRun W). length x.attach_answers) (λ (x : ChipRun W). x.chip.geometry.blocks) course.chips k c
-          (λ j y there. (subst Fits (ap rest_of there) (a.fits j)).1) at (omega (arith, one_left)) in
+          sum-less (λ (x : ChipRun W). length x.attach_answers) (λ (x : ChipRun W). events_of_attach x.chip.geometry) course.chips k c
+          (λ j y there. subst Fits (ap rest_of there) (a.fits j)) at (omega (arith, one_left)) in
           inr (record { dark = refl; few = omega (arith, less, a.counted, a.blocks) })
 
     event_attaches : (o : Option (ChipRun W)) → slice_get flipped k ≡ o → Attaches (event_on model boot course flipped k o e)
@@ -190,33 +190,33 @@ module _ {W : Type 0} (model : FaultModel W) (boot : Boot) (starts : List (ChipS
   none_read [] = refl
   none_read (s ∷ chips) = omega (arith, sum_by-cons (λ (c : ChipRun W). length c.attach_answers) (chip_at_start s) (map chip_at_start chips), none_read chips)
 
-  all_blocks : (chips : List (ChipState W)) → blocks_in (map chip_at_start chips) ≡ blocks_of chips
+  all_blocks : (chips : List (ChipState W)) → blocks_in (map chip_at_start chips) ≡ events_of_attaches chips
   all_blocks [] = refl
   all_blocks (s ∷ chips) =
       omega (
         arith,
-        sum_by-cons (λ (c : ChipRun W). c.chip.geometry.blocks) (chip_at_start s) (map chip_at_start chips),
+        sum_by-cons (λ (c : ChipRun W). events_of_attach c.chip.geometry) (chip_at_start s) (map chip_at_start chips),
         sum_by-cons
-            (λ (t : ChipState W). t.geometry.blocks) s chips,
+            (λ (t : ChipState W). events_of_attach t.geometry) s chips,
         all_blocks chips,
       )
 
-  fit_at_start : (chips : List (ChipState W)) → HaveNoTables chips → (k : ℕ) → Fits (rest_of (slice_get (map chip_at_start chips) k))
-  fit_at_start [] none k = tt
-  fit_at_start (s ∷ chips) none zero = (none 0 s (omega arith), omega arith)
-  fit_at_start (s ∷ chips) none (suc k) = fit_at_start chips (λ j d less. none (suc j) d (omega arith)) k
+  fit_at_start : (chips : List (ChipState W)) → (k : ℕ) → Fits (rest_of (slice_get (map chip_at_start chips) k))
+  fit_at_start [] k = tt
+  fit_at_start (s ∷ chips) zero = omega arith
+  fit_at_start (s ∷ chips) (suc k) = fit_at_start chips k
 
   -- the events of the attaches
-  pub attaches_few : (attaches : ℕ) → HaveNoTables starts → AttachesReadBlocks model boot starts attaches
-  attaches_few attaches none =
+  pub attaches_few : (attaches : ℕ) → AttachesAreShort model boot starts attaches
+  attaches_few attaches =
       by_state (course_after model boot starts attaches [])
       (steps_attach attaches (start_of_boot boot starts) (inl (record {
         lit = refl;
         counted = sym (none_read starts);
         blocks = all_blocks starts;
-        fits = fit_at_start starts none;
+        fits = fit_at_start starts;
       })))
     where
-      by_state : (course : Course W) → Attaches course → course.events ≤ blocks_of starts
+      by_state : (course : Course W) → Attaches course → course.events ≤ events_of_attaches starts
       by_state course (inl a) = omega (arith, a.counted, a.blocks, few_read course a)
       by_state course (inr d) = d.few

@@ -1,5 +1,5 @@
 -- How many events a path has at most.
-use Rattle.std.proofs.Common.{◌≡◌, ℕ, zero, suc, ◌+◌, ◌≤◌, ◌<◌, Bool, true, false, not, ◌||◌, ◌==◌, List, [], ◌∷◌, ◌++◌, length, Option, Some, None, refl, ap, sym, ◌∙◌, subst, arith, length-append, ◌⊎◌, inl, inr}
+use Rattle.std.proofs.Common.{◌-◌, ◌≡◌, ℕ, zero, suc, ◌+◌, ◌≤◌, ◌<◌, Bool, true, false, not, ◌||◌, ◌==◌, List, [], ◌∷◌, ◌++◌, length, Option, Some, None, refl, ap, sym, ◌∙◌, subst, arith, length-append, ◌⊎◌, inl, inr}
 use Rattle.std.proofs.lemmas.Bool.{cases_lt}
 use Rattle.std.proofs.lemmas.Option.{none-some}
 use Rattle.std.specs.Prelude.{⊤, nat_le, slice_index, ◌/◌}
@@ -11,10 +11,14 @@ use Rattle.nand_model.specs.declared.words.Reply.TheVariants.{Done, OutOfRange, 
 use Rattle.nand_model.specs.declared.words.Which.{Which}
 use Rattle.nand_model.specs.Chip.{ChipState, FaultModel, ChipEvent, Complete, PowerCut, Flipped, PageEvent, ReadEvent, ProgramEvent, EraseEvent, happens}
 use Rattle.nand_model.specs.Path.{Answer, Path, Over, Then, either, is_good, is_failure, cells_of, next_event, answer_to, GoesAlong, answers_of}
-use Rattle.turn_laws.specs.Laws.{events_of_operation}
-use Rattle.chip_paths.specs.Writing.{Writing, written_on, writing_step, writing_within}
-use Rattle.nand_model.specs.Table.{has_tables}
-use Rattle.chip_paths.specs.Attach.{read_first_pages, attach_path, attach_by}
+use Rattle.turn_laws.specs.Laws.{events_of_attach, events_of_operation}
+use Rattle.chip_paths.specs.Writing.{Places, Writing, most_events, writing_of, writing_after, writing_step, writing_within}
+use Rattle.nand_model.specs.Table.{Copy, has_tables}
+use Rattle.nand_model.specs.declared.words.Which.TheVariants.{Primary, Mirror}
+use Rattle.nand_model.specs.declared.words.Choice.{Choice}
+use Rattle.nand_model.specs.declared.words.Choice.TheVariants.{Primary as UsePrimary, Mirror as UseMirror, Neither}
+use Rattle.chip_paths.specs.Copies.{candidates, choice_of, found, places_of, rewritten, used_copy, version_found}
+use Rattle.chip_paths.specs.Attach.{read_first_pages, attach_path, attach_by, attaching_of, marker_table, rewrite_copies, use_copy, use_found, whole_at_first, with_reserved}
 use Rattle.nand_model.specs.Sizes.{numbers_from, first_page}
 use Rattle.nand_model.specs.Page.{decoded, page_image}
 use Rattle.nand_model.specs.Partitions.{Partitions, part_of, device_of}
@@ -41,9 +45,9 @@ writing_fits g zero w go_on h = h w
 writing_fits g (suc n) w go_on h = on (λ v. writing_fits g n v go_on h) w.left
   where
     on : ((v : Writing) → Within n (writing_within n g v go_on)) → (l : List Which)
-        → Within (suc n) (writing_step g w l (λ u. go_on w) (λ answer. writing_within n g (written_on g w answer) go_on))
+        → Within (suc n) (writing_step g w l (λ u. go_on w) (λ answer. writing_within n g (writing_after g w answer) go_on))
     on later [] = within_more (suc n) (go_on w) (h w)
-    on later (which ∷ more) = λ answer. later (written_on g w answer)
+    on later (which ∷ more) = λ answer. later (writing_after g w answer)
 
 -- both copies are written with four events, and with four more after each of two changes of place
 tables_within : (g : Geometry) (k : Known) (marker : Answer) → Within 12 (write_tables g k marker)
@@ -161,14 +165,67 @@ module _ {W : Type 0} (model : FaultModel W) {A : Type 0} (n : ℕ) (path : Path
       let same : length answers ≡ length (answers_of model s trace) = ap length e in
       omega (arith, few, same)
 
--- the first pages of so many blocks are read with so many events
-reads_within : {A : Type 0} (g : Geometry) (n first : ℕ) (pages : List (List ℕ)) (result : List (List ℕ) → A)
-    → Within n (read_first_pages g (numbers_from first n) pages (λ seen. Over (result seen)))
-reads_within g zero first pages result = tt
-reads_within g (suc n) first pages result = λ answer. reads_within g n (first + 1) (pages ++ cells_of answer ∷ []) result
+-- a bound with so many more
+abbrev raised : ℕ → ℕ → ℕ
+raised zero n = n
+raised (suc k) n = suc (raised k n)
 
--- without tables an attach reads a page of each block
-pub attach_within : (g : Geometry) → g.bbt ≡ 0 → Within g.blocks (attach_path g)
-attach_within g none =
-    let untabled : has_tables g ≡ false = ap (λ (n : ℕ). not (n == 0)) none in
-    subst (λ (b : Bool). Within g.blocks (attach_by b g)) (sym untabled) (reads_within g g.blocks 0 [] _)
+raised_is : (k n : ℕ) → raised k n ≡ k + n
+raised_is zero n = omega arith
+raised_is (suc k) n = let more = raised_is k n in omega (arith, more)
+
+raised_within : {A : Type 0} (k n : ℕ) (path : Path A) → Within n path → Within (raised k n) path
+raised_within zero n path h = h
+raised_within (suc k) n path h = more_within (raised k n) path (raised_within k n path h)
+
+-- a larger bound is one too
+at_most_within : {A : Type 0} (n m : ℕ) (path : Path A) → n ≤ m → Within n path → Within m path
+at_most_within n m path few h =
+    let all : raised (m - n) n ≡ m = omega (arith, few, raised_is (m - n) n) in
+    subst (λ b. Within b path) all (raised_within (m - n) n path h)
+
+-- the first pages of so many blocks are read with so many events, before what follows
+reads_within : {A : Type 0} (g : Geometry) (n first k : ℕ) (pages : List (List ℕ)) (go_on : List (List ℕ) → Path A)
+    → ((seen : List (List ℕ)) → Within k (go_on seen)) → Within (raised n k) (read_first_pages g (numbers_from first n) pages go_on)
+reads_within g zero first k pages go_on h = h pages
+reads_within g (suc n) first k pages go_on h = λ answer. reads_within g n (first + 1) k (pages ++ cells_of answer ∷ []) go_on h
+
+-- an attach writes at most both copies again
+few_rewritten : (choice : Choice) → length (rewritten choice) ≤ 2
+few_rewritten (UsePrimary true) = omega arith
+few_rewritten (UsePrimary false) = omega arith
+few_rewritten (UseMirror true) = omega arith
+few_rewritten (UseMirror false) = omega arith
+few_rewritten Neither = omega arith
+
+module _ (g : Geometry) (places : Places) (choice : Choice) where
+  copies_within : (version : ℕ) (states : List ℕ) → Within 12 (rewrite_copies g places choice version states)
+  copies_within version states =
+      let w : Writing = writing_of (with_reserved g states) version places (whole_at_first choice) (rewritten choice) in
+      let few : most_events w ≤ 12 = omega (arith, few_rewritten choice) in
+      at_most_within (most_events w) 12 (rewrite_copies g places choice version states) few
+      (writing_fits g (most_events w) w (λ v. Over (attaching_of choice v)) (λ v. tt))
+
+  copy_within : (used : Option (ℕ × Copy)) → Within (raised g.blocks 12) (use_copy g places choice used)
+  copy_within (Some (block, copy)) = raised_within g.blocks 12 (rewrite_copies g places choice copy.version copy.states) (copies_within copy.version copy.states)
+  copy_within None =
+      reads_within g g.blocks 0 12 [] (λ pages. rewrite_copies g places choice 1 (marker_table g pages)) (λ seen. copies_within 1 (marker_table g seen))
+
+-- what follows the scan of the table blocks
+scanned_within : (g : Geometry) (cs : List (ℕ × List ℕ)) → Within (raised g.blocks 12) (use_found g (places_of g cs) (found g Primary cs) (found g Mirror cs))
+scanned_within g cs =
+    let choice : Choice = choice_of (version_found (found g Primary cs)) (version_found (found g Mirror cs)) in
+    copy_within g (places_of g cs) choice (used_copy choice (found g Primary cs) (found g Mirror cs))
+
+attach_by_within : (g : Geometry) (tables : Bool) → Within (events_of_attach g) (attach_by tables g)
+attach_by_within g true =
+    let scan : Within (suc (suc (suc (suc (raised g.blocks 12))))) (attach_by true g) =
+    λ a b c d. scanned_within g (candidates g (cells_of a ∷ cells_of b ∷ cells_of c ∷ cells_of d ∷ [])) in
+    at_most_within (suc (suc (suc (suc (raised g.blocks 12))))) (events_of_attach g) (attach_by true g) (omega (arith, raised_is g.blocks 12)) scan
+attach_by_within g false =
+    at_most_within (raised g.blocks 0) (events_of_attach g) (attach_by false g) (omega (arith, raised_is g.blocks 0))
+    (reads_within g g.blocks 0 0 [] _ (λ seen. tt))
+
+-- an attach is as short as that, with tables and without
+pub attach_within : (g : Geometry) → Within (events_of_attach g) (attach_path g)
+attach_within g = attach_by_within g (has_tables g)

@@ -1,5 +1,6 @@
 -- How long a boot is.
-use Rattle.std.specs.Prelude.{◌≡◌, ℕ, ◌+◌, ◌*◌, ◌-◌, ◌≤◌, List, [], length, sum_by, All}
+use Rattle.std.specs.Prelude.{ℕ, ◌+◌, ◌*◌, ◌-◌, ◌≤◌, List, [], length, sum_by}
+use Rattle.nand_model.specs.declared.geometry.Geometry.{Geometry}
 use Rattle.nand_model.specs.Chip.{ChipState, FaultModel}
 use Rattle.command_model.specs.Boot.{Boot}
 use Rattle.run_model.specs.Course.{course_after}
@@ -14,11 +15,13 @@ events_of_operation = 14
 abbrev pub steps_of_operation : ℕ
 steps_of_operation = events_of_operation + 2
 
--- the most turns of a boot that do anything: the steps of each operation, and on each chip those of one that does not come to its end
+-- the most turns of a boot that do anything: the steps of each operation, and on each chip those of one that
+-- does not come to its end
 abbrev pub most_turns : {W : Type 0} → Boot → List (ChipState W) → ℕ
 most_turns boot starts = steps_of_operation * boot_cost boot starts + (steps_of_operation - 1) * length starts
 
-module _ {W : Type 0} (model : FaultModel W) (boot : Boot) (starts : List (ChipState W)) (attaches : ℕ) (turns : List ℕ) where
+module _ {W : Type 0} (model : FaultModel W) (boot : Boot) (starts : List (ChipState W)) (attaches : ℕ)
+    (turns : List ℕ) where
   -- the turns that do anything are few
   abbrev pub BusyTurnsAreFew : Type 0
   BusyTurnsAreFew =
@@ -28,16 +31,19 @@ module _ {W : Type 0} (model : FaultModel W) (boot : Boot) (starts : List (ChipS
   abbrev pub EventsAreTurns : Type 0
   EventsAreTurns =
       (course_after model boot starts attaches turns).events
-      ≤ (course_after model boot starts attaches []).events + length (busy_turns model boot starts turns (course_after model boot starts attaches []))
+      ≤ (course_after model boot starts attaches []).events + length
+      (busy_turns model boot starts turns (course_after model boot starts attaches []))
 
--- the blocks of these chips
-abbrev pub blocks_of : {W : Type 0} → List (ChipState W) → ℕ
-blocks_of {W} starts = sum_by (λ (s : ChipState W). s.geometry.blocks) starts
+-- the most events of an attach: a read of each block's first page, four more of the table blocks, and the
+-- twelve events of a writing
+abbrev pub events_of_attach : Geometry → ℕ
+events_of_attach g = g.blocks + 16
 
--- the chips have no tables on flash
-abbrev pub HaveNoTables : {W : Type 0} → List (ChipState W) → Type 0
-HaveNoTables {W} starts = All (λ (s : ChipState W). s.geometry.bbt ≡ 0) starts
+-- the most events of the attaches of these chips
+abbrev pub events_of_attaches : {W : Type 0} → List (ChipState W) → ℕ
+events_of_attaches {W} starts = sum_by (λ (s : ChipState W). events_of_attach s.geometry) starts
 
--- without tables an attach reads a page of each block
-abbrev pub AttachesReadBlocks : {W : Type 0} → FaultModel W → Boot → List (ChipState W) → ℕ → Type 0
-AttachesReadBlocks model boot starts attaches = (course_after model boot starts attaches []).events ≤ blocks_of starts
+-- the attaches of these chips have no more
+abbrev pub AttachesAreShort : {W : Type 0} → FaultModel W → Boot → List (ChipState W) → ℕ → Type 0
+AttachesAreShort model boot starts attaches =
+    (course_after model boot starts attaches []).events ≤ events_of_attaches starts

@@ -11,4 +11,4 @@ pub returns-clause-events : goal.returns-clause-events
 returns-clause-events g c model boot starts attaches turns = events_few model boot starts turns (course_after model boot starts attaches [])
 
 pub returns-clause-attaches : goal.returns-clause-attaches
-returns-clause-attaches g c model boot starts attaches none = attaches_few model boot starts attaches none
+returns-clause-attaches g c model boot starts attaches = attaches_few model boot starts attaches

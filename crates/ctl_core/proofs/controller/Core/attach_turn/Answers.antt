@@ -9,7 +9,7 @@ use Rattle.ctl_core.specs.Past.{Past, starts_of, sizes_in, course_of, with_attac
 use Rattle.ctl_core.specs.declared.board.Board.{Board}
 use Rattle.ctl_core.specs.Board.{past_of, slot_states}
 use Rattle.ctl_core.specs.Flips.{CanFlip}
-use Rattle.ctl_core.proofs.Limits.{few_slots, few_events, few_attaches, few_blocks, attached_there}
+use Rattle.ctl_core.proofs.Limits.{few_slots, few_events, few_attaches, few_to_attach, attached_there}
 use Rattle.ctl_core.proofs.CoreSteps.{attaching_in_slots, renoted, stayed_on, attach_there, next_attach, attached_now}
 use Rattle.ctl_core.proofs.OnCourse.{can_flip, stands_alike}
 use Rattle.ctl_core.proofs.controller.Core.attach_turn.Goals as goal
@@ -57,7 +57,7 @@ do_event-requires-clause-flips g c =
 pub overflow_add-self : goal.overflow_add-self
 overflow_add-self g c =
     let few = few_attaches (past_of c.self.inside.journal) c.self.inside.board c.self.invariant in
-    let blocks = few_blocks (past_of c.self.inside.journal) c.self.inside.board c.self.invariant in
+    let blocks = few_to_attach (past_of c.self.inside.journal) c.self.inside.board c.self.invariant in
     omega (arith, few, blocks)
 
 pub invariant_of-self-in_err-do_event : goal.invariant_of-self-in_err-do_event
