@@ -145,8 +145,8 @@ module _ (chips : List ChipLines) (payload : List ℕ) (legal : All IsChip chips
   few_operations : (g : Geometry) (command : Command) → CanRun g command → g.pages_per_block ≡ 64 → command_blocks command ≤ 16 → cost_of g command (troubled_blocks g command) ≤ 1073
   few_operations g (ToErase dev blocks no_scan start count) h pages few = rw (cost_of-short g (ToErase dev blocks no_scan start count) 0 h) (omega (arith, few))
   few_operations g (ToWrite dev blocks mark raw oob pad off bytes) h pages few =
-      rw (all_troubled g dev blocks mark raw oob pad off bytes h)
-      (rw (cost_of-short g (ToWrite dev blocks mark raw oob pad off bytes) blocks h) (rw pages (omega (arith, few))))
+      rw (cost_of-short g (ToWrite dev blocks mark raw oob pad off bytes) (troubled_blocks g (ToWrite dev blocks mark raw oob pad off bytes)) h)
+      (rw (all_troubled g dev blocks mark raw oob pad off bytes h) (rw pages (omega (arith, few))))
   few_operations g (ToDump dev blocks off len raw oob bad) h pages few = rw (cost_of-short g (ToDump dev blocks off len raw oob bad) 0 h) (omega arith)
   few_operations g (ToAsk dev blocks block) h pages few = rw (cost_of-short g (ToAsk dev blocks block) 0 h) (omega arith)
   few_operations g (ToTest dev blocks keep mark seed passes off len) h pages few = absurd h
