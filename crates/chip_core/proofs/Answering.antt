@@ -13,7 +13,7 @@ use Rattle.chip_core.specs.Knowledge.{known_in}
 use Rattle.chip_core.specs.Markers.{known_by_markers}
 use Rattle.chip_core.specs.Phase.{PhaseFits, phase_stage}
 use Rattle.chip_core.specs.Sums.{AreSmall, stats_in}
-use Rattle.chip_core.specs.Task.{decoding_of}
+use Rattle.chip_core.specs.Task.{decoding_from}
 use Rattle.chip_core.specs.declared.knowledge.Knowledge.{Knowledge}
 use Rattle.chip_core.specs.declared.phase.Phase.{Phase}
 use Rattle.chip_core.specs.declared.phase.Phase.TheVariants.{Attaching, Resting, Working}
@@ -42,7 +42,7 @@ pub read_answered : (known : Knowledge) (phase : Phase) (dev : ℕ) (kind : Page
     → IfSome (finished_in (phase_stage known phase)) (λ finished. stage ≡ Rests finished.known)
 read_answered known phase dev kind read image is stage sums rests added =
     let Answered : Phase → Type 0 = λ p. IfSome (finished_in (phase_stage known p)) (λ finished. stage ≡ Rests finished.known) in
-    let d : Decoding = decoding_of read image in
+    let d : Decoding = decoding_from read image in
     subst Answered (sym is) (rests ∙ ap (λ stats. Rests (with_stats known.states stats)) (added d refl refl))
 
 -- a chip at rest

@@ -4,13 +4,7 @@ use Rattle.std.proofs.Math.Nat.{div-lt_iff_lt-mul, mul-le-mul_right}
 use Rattle.std.proofs.lemmas.Nat.{div-mul-add, mul-le}
 use Rattle.nand_model.specs.Sizes.{page_count, first_page}
 use Rattle.nand_model.specs.declared.geometry.Geometry.{Geometry}
-use Rattle.nand_model.proofs.Bounds.{bounds}
-
-pub pages-some : (g : Geometry) → 1 ≤ g.pages_per_block
-pages-some g = elim (bounds g).block [ inl e ↦ rw e (omega arith) | inr e ↦ rw e (omega arith) ]
-
-pub pages-le : (g : Geometry) → g.pages_per_block ≤ 128
-pages-le g = elim (bounds g).block [ inl e ↦ rw e (omega arith) | inr e ↦ rw e (omega arith) ]
+use Rattle.nand_model.proofs.Bounds.{bounds, pages-le, pages-some}
 
 pub page_count-le : (g : Geometry) → page_count g ≤ 4096 * 128
 page_count-le g = mul-le g.blocks g.pages_per_block 4096 128 (bounds g).blocks_high (pages-le g)

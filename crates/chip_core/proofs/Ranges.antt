@@ -11,12 +11,12 @@ use Rattle.nand_model.specs.declared.geometry.Geometry.{Geometry}
 use Rattle.nand_model.specs.declared.words.Op.TheVariants.{Erase, IsBad, RawRead, RawWrite, Read, Write}
 use Rattle.nand_model.specs.declared.words.Part.{Part}
 use Rattle.nand_model.specs.declared.words.Reply.TheVariants.{BadBlock, OutOfRange}
-use Rattle.chip_core.specs.Beginning.{Follows, erase_from, in_range, on_block, on_page, raw_read_from, raw_write_from, read_from, state_from, write_from}
+use Rattle.chip_core.specs.Beginning.{StandsFor, erase_from, in_range, on_block, on_page, raw_read_from, raw_write_from, read_from, state_from, write_from}
 use Rattle.chip_core.specs.Knowledge.{known_in}
 use Rattle.chip_core.specs.Task.{program_from}
 use Rattle.chip_core.specs.declared.knowledge.Knowledge.{Knowledge}
 use Rattle.chip_core.specs.declared.task.Task.{Task}
-use Rattle.chip_core.proofs.Places.{pages-some}
+use Rattle.nand_model.proofs.Bounds.{pages-some}
 
 not_below : (n count : ℕ) → (n < count → ⊥) → nat_lt n count ≡ false
 not_below n count outside = elim (cases_lt n count) [ inl below ↦ absurd (outside below) | inr past ↦ le-ltb n count past ]
@@ -98,23 +98,23 @@ write_begins g k body free image page good is =
 
 -- a task that stands for a path stands for each path that is the same where this is known
 goes_as : (known : Knowledge) (path other : Known → Path Finished) (dev : Option ℕ) → path (known_in known) ≡ other (known_in known)
-    → (task : Task) → Follows known path dev task → Follows known other dev task
+    → (task : Task) → StandsFor known path dev task → StandsFor known other dev task
 goes_as known path other dev same task follows =
     record { follows = follows.follows ∙ same; fresh = follows.fresh; fits = follows.fits; counted = follows.counted }
 
 -- a page of a device that was found
 module _ (known : Knowledge) (found : Option Part) (dev page : ℕ) (place : Option ℕ)
     (placed : (k : Known) (go_on : ℕ → Path Finished) → in_range k place go_on ≡ on_page known.geometry k found page go_on) where
-  pub write_goes : (body free : List ℕ) (task : Task) → Follows known (λ k. in_range k place (write_from known.geometry k body free)) None task
-      → Follows known (λ k. operation_by known.geometry k found (Write dev page body free)) None task
+  pub write_goes : (body free : List ℕ) (task : Task) → StandsFor known (λ k. in_range k place (write_from known.geometry k body free)) None task
+      → StandsFor known (λ k. operation_by known.geometry k found (Write dev page body free)) None task
   write_goes body free =
       let g = known.geometry in
       let k = known_in known in
       goes_as known (λ k. in_range k place (write_from g k body free)) (λ k. operation_by g k found (Write dev page body free)) None
       (placed k (write_from g k body free) ∙ write_is g k found dev page body free)
 
-  pub raw_write_goes : (image : List ℕ) (task : Task) → Follows known (λ k. in_range k place (raw_write_from known.geometry k image)) None task
-      → Follows known (λ k. operation_by known.geometry k found (RawWrite dev page image)) None task
+  pub raw_write_goes : (image : List ℕ) (task : Task) → StandsFor known (λ k. in_range k place (raw_write_from known.geometry k image)) None task
+      → StandsFor known (λ k. operation_by known.geometry k found (RawWrite dev page image)) None task
   raw_write_goes image =
       let g = known.geometry in
       let k = known_in known in
@@ -124,8 +124,8 @@ module _ (known : Knowledge) (found : Option Part) (dev page : ℕ) (place : Opt
 -- a block of a device that was found
 pub erase_goes : (known : Knowledge) (found : Option Part) (dev block : ℕ) (place : Option ℕ) → IsSome found
     → IfSome found (λ part. SomeIff place (block < part.count) (part.start + block))
-    → (task : Task) → Follows known (λ k. in_range k place (erase_from k)) None task
-    → Follows known (λ k. operation_by known.geometry k found (Erase dev block)) None task
+    → (task : Task) → StandsFor known (λ k. in_range k place (erase_from k)) None task
+    → StandsFor known (λ k. operation_by known.geometry k found (Erase dev block)) None task
 erase_goes known found dev block place there gave =
     let k = known_in known in
     goes_as known (λ k. in_range k place (erase_from k)) (λ k. operation_by known.geometry k found (Erase dev block)) None

@@ -51,7 +51,7 @@ abbrev pub state_from : Known → ℕ → Path Finished
 state_from k block = answer k (State (entry_of k block))
 
 -- a task stands for this path where this is known, fits the chip, and adds to the statistics of this device or of none
-pub record Follows (known : Knowledge) (path : Known → Path Finished) (dev : Option ℕ) (task : Task) : Type 0 where
+pub record StandsFor (known : Knowledge) (path : Known → Path Finished) (dev : Option ℕ) (task : Task) : Type 0 where
   pub follows : task_left known.geometry (known_in known) task ≡ path (known_in known)
   pub fresh : task_progress task ≡ AtStart
   pub fits : TaskFits known.geometry task
@@ -60,4 +60,4 @@ pub record Follows (known : Knowledge) (path : Known → Path Finished) (dev : O
 -- a task stands for the whole path of an operation
 abbrev pub Begins : Knowledge → Partitions → Op → Task → Type 0
 Begins known partitions op task =
-    Follows known (λ k. operation_path known.geometry partitions k op) (read_device op) task
+    StandsFor known (λ k. operation_path known.geometry partitions k op) (read_device op) task

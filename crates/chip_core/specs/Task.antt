@@ -36,8 +36,8 @@ abbrev pub erased_from : Known → ℕ → Path Finished
 erased_from k block = Then (EraseEvent block) (λ outcome. answer k (done_or EraseFailed outcome))
 
 -- a page that was decoded, by its counts and its image
-abbrev pub decoding_of : PageRead → List ℕ → Decoding
-decoding_of read image =
+abbrev pub decoding_from : PageRead → List ℕ → Decoding
+decoding_from read image =
     record { image = image; corrected = read.corrected; greatest = read.greatest; failed = read.failed }
 
 -- a read whose reply this is, and whose counts are added to those of a device
@@ -45,7 +45,7 @@ abbrev pub counted_read : Known → ℕ → PageKind → PageRead → List ℕ �
 counted_read k dev kind read image =
     Over (record {
       reply = Page kind read image;
-      known = record k { statistics = with_statistics k.statistics dev (decoding_of read image) };
+      known = record k { statistics = with_statistics k.statistics dev (decoding_from read image) };
     })
 
 -- the path that a task stands for, where this is known of the chip

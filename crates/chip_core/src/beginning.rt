@@ -8,7 +8,7 @@ ghost use Rattle.nand_model.specs.Sizes.{page_count, raw_len};
 ghost use Rattle.nand_model.specs.declared.words.Op.TheVariants.{Stats as AsksStats};
 ghost use Rattle.command_model.specs.Taken.{IsTaken};
 ghost use Rattle.chip_core.specs.Begin.{HasDevice, read_device};
-ghost use Rattle.chip_core.specs.Beginning.{Begins, Follows, erase_from, in_range, on_page, raw_read_from, raw_write_from, read_from, state_from, write_from};
+ghost use Rattle.chip_core.specs.Beginning.{Begins, StandsFor, erase_from, in_range, on_page, raw_read_from, raw_write_from, read_from, state_from, write_from};
 
 use crate::knowledge::Knowledge;
 use crate::task::Task;
@@ -65,7 +65,7 @@ fn page_of(g: &Geometry, parts: &Parts, dev: u32, page: u32) -> Option<u32>
 // A read of a page through its code.
 fn read(alloc: Global, known: &Knowledge, dev: u32, page: Option<u32>) -> Result<Task, AllocError>
     requires { IfSome page (λ p. p < page_count known.now.geometry) }
-    ensures { IfOk result (λ task. Follows known.now (λ k. in_range k page (read_from known.now.geometry k dev)) (Some dev) task) }
+    ensures { IfOk result (λ task. StandsFor known.now (λ k. in_range k page (read_from known.now.geometry k dev)) (Some dev) task) }
 {
     let Some(page) = page else {
         return Ok(Task::AtOnce(Reply::OutOfRange));
@@ -85,7 +85,7 @@ fn write<C: PageCode>(
 ) -> Result<Task, AllocError>
     requires page { IfSome page (λ p. p < page_count known.now.geometry) }
     requires filled { FillsPlaces known.now.geometry body.now free.now }
-    ensures { IfOk result (λ task. Follows known.now (λ k. in_range k page (write_from known.now.geometry k body.now free.now)) None task) }
+    ensures { IfOk result (λ task. StandsFor known.now (λ k. in_range k page (write_from known.now.geometry k body.now free.now)) None task) }
 {
     let Some(page) = page else {
         return Ok(Task::AtOnce(Reply::OutOfRange));
@@ -131,7 +131,7 @@ fn put(image: &mut [u8], body: &[u8], free: &[u8])
 // A read of a page as it stands.
 fn raw_read(alloc: Global, known: &Knowledge, page: Option<u32>) -> Result<Task, AllocError>
     requires { IfSome page (λ p. p < page_count known.now.geometry) }
-    ensures { IfOk result (λ task. Follows known.now (λ k. in_range k page (raw_read_from k)) None task) }
+    ensures { IfOk result (λ task. StandsFor known.now (λ k. in_range k page (raw_read_from k)) None task) }
 {
     let Some(page) = page else {
         return Ok(Task::AtOnce(Reply::OutOfRange));
@@ -149,7 +149,7 @@ fn raw_write(
 ) -> Result<Task, AllocError>
     requires page { IfSome page (λ p. p < page_count known.now.geometry) }
     requires whole { length image.now ≡ raw_len known.now.geometry }
-    ensures { IfOk result (λ task. Follows known.now (λ k. in_range k page (raw_write_from known.now.geometry k image.now)) None task) }
+    ensures { IfOk result (λ task. StandsFor known.now (λ k. in_range k page (raw_write_from known.now.geometry k image.now)) None task) }
 {
     let Some(page) = page else {
         return Ok(Task::AtOnce(Reply::OutOfRange));
@@ -168,7 +168,7 @@ fn raw_write(
 // An erase of a block.
 fn erase(known: &Knowledge, block: Option<u32>) -> Task
     requires { IfSome block (λ b. b < known.now.geometry.blocks) }
-    ensures { Follows known.now (λ k. in_range k block (erase_from k)) None result }
+    ensures { StandsFor known.now (λ k. in_range k block (erase_from k)) None result }
 {
     match block {
         None => Task::AtOnce(Reply::OutOfRange),
@@ -180,7 +180,7 @@ fn erase(known: &Knowledge, block: Option<u32>) -> Task
 // A question for the state of a block.
 fn is_bad(known: &Knowledge, block: Option<u32>) -> Task
     requires { IfSome block (λ b. b < known.now.geometry.blocks) }
-    ensures { Follows known.now (λ k. in_range k block (state_from k)) None result }
+    ensures { StandsFor known.now (λ k. in_range k block (state_from k)) None result }
 {
     match block {
         None => Task::AtOnce(Reply::OutOfRange),

@@ -1,6 +1,7 @@
 -- Theorems about commands, each as a statement that a function's contract can carry.
 use Rattle.std.specs.Prelude.{ℕ, ◌+◌, List, [], ◌∷◌, ◌-◌, ◌/◌, ◌≤◌, Bool, ⊤, length, ◌≡◌}
 use Rattle.command_model.specs.Command.{Script, End, Ask, script_of, block_size, Next, Do, Over, after_replies, next_in, cost_of}
+use Rattle.command_model.specs.Cost.{troubled_blocks}
 use Rattle.nand_model.specs.Partitions.{device_of}
 use Rattle.nand_model.specs.declared.words.Reply.{Reply}
 use Rattle.nand_model.specs.declared.words.Reply.TheVariants.{ProgramFailed, BadBlock}
@@ -28,12 +29,13 @@ troubles [] script = 0
 troubles (r ∷ replies) (End outcome) = 0
 troubles (r ∷ replies) (Ask op go_on) = trouble_of op r + troubles replies (go_on r)
 
--- Each block to which a nandwrite comes gives it at most one trouble, so that its cost with the number of its
--- blocks is a bound for every list of replies
+-- Each block to which a nandwrite comes gives it at most one trouble, so that its cost with these blocks as the
+-- allowance is a bound for every list of replies
 abbrev pub TroublesAreFew : Geometry → Type 0
 TroublesAreFew g =
     (dev blocks : ℕ) (mark raw oob pad : Bool) (off : ℕ) (bytes : List ℕ) (replies : List Reply) →
-    troubles replies (script_of g (NandWrite dev blocks mark raw oob pad off bytes)) ≤ blocks - off / block_size g
+    troubles replies (script_of g (NandWrite dev blocks mark raw oob pad off bytes))
+    ≤ troubled_blocks g (NandWrite dev blocks mark raw oob pad off bytes)
 
 -- nothing more is asked for
 abbrev pub IsOver : Next → Type 0

@@ -93,3 +93,14 @@ geometry_made page spare n blocks t bbt threshold sizes room =
 -- the bounds that each geometry keeps
 pub bounds : (g : Geometry) → Bounds g.page g.spare g.pages_per_block g.blocks g.t g.bbt g.threshold
 bounds g = bounds_of g.page g.spare g.pages_per_block g.blocks g.t g.bbt g.threshold g.in_bounds
+
+-- the pages of a block and the bytes of a page
+pub pages-some : (g : Geometry) → 1 ≤ g.pages_per_block
+pages-some g = elim (bounds g).block [ inl e ↦ rw e (omega arith) | inr e ↦ rw e (omega arith) ]
+
+pub pages-le : (g : Geometry) → g.pages_per_block ≤ 128
+pages-le g = elim (bounds g).block [ inl e ↦ rw e (omega arith) | inr e ↦ rw e (omega arith) ]
+
+pub page-some : (g : Geometry) → 1 ≤ g.page
+page-some g =
+    elim (bounds g).pages [ inl e ↦ omega (arith, e.0) | inr others ↦ elim others [ inl e ↦ omega (arith, e.0) | inr e ↦ omega (arith, e.0) ] ]

@@ -11,7 +11,7 @@ use Rattle.nand_model.specs.Page.{decoded, step_body, page_image, FillsPage}
 use Rattle.nand_model.specs.Chip.{ChipState, FaultModel, ChipEvent, PageState, after_trace, blank_page, new_page}
 use Rattle.nand_model.specs.Quiet.{word_flips}
 use Rattle.nand_model.specs.declared.geometry.Geometry.{Geometry}
-use Rattle.run_model.specs.ReadBack.{Past, Erased, Programmed, past_of, wrong_bits, ReadsBack}
+use Rattle.run_model.specs.ReadBack.{PagePast, Erased, Programmed, page_past, wrong_bits, ReadsBack}
 use Rattle.ecc_page.specs.Steps.{parity_stored}
 use Rattle.ecc_page.specs.Written.{GivesBack, IsNearImage}
 use Rattle.ecc_page.proofs.PageLemmas.{page-steps, parities-room}
@@ -96,9 +96,9 @@ from_decoding g image cells back = record {
 
 module _ {W : Type 0} (model : FaultModel W) (s : ChipState W) where
   close : (trace : List ChipEvent) (page : ℕ) (image : List ℕ) → IsFreshPage s.geometry (s.pages page)
-      → past_of model s page Erased trace ≡ Programmed image → IsClose s.geometry image ((after_trace model s trace).pages page)
+      → page_past model s page Erased trace ≡ Programmed image → IsClose s.geometry image ((after_trace model s trace).pages page)
   close trace page image fresh filled =
-      subst (λ (past : Past). KeepsPast s.geometry past ((after_trace model s trace).pages page)) filled
+      subst (λ (past : PagePast). KeepsPast s.geometry past ((after_trace model s trace).pages page)) filled
       (trace_keeps model s page Erased trace (fresh_keeps s.geometry (s.pages page) fresh))
 
   pub few_wrong : WrongBitsWereFlipped model s

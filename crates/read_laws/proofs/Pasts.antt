@@ -11,7 +11,7 @@ use Rattle.nand_model.specs.Chip.{PageState, ChipState, FaultModel, ChipEvent, C
 use Rattle.nand_model.specs.Quiet.{word_flips}
 use Rattle.nand_model.specs.declared.geometry.Geometry.{Geometry}
 use Rattle.nand_iface.proofs.FlashLemmas.{length-map_from}
-use Rattle.run_model.specs.ReadBack.{Past, Erased, Programmed, Unknown, after_program, past_after, past_of}
+use Rattle.run_model.specs.ReadBack.{PagePast, Erased, Programmed, Unknown, after_program, page_past_after, page_past}
 use Rattle.run_laws.proofs.Traces.{geometry_happens}
 use Rattle.read_laws.specs.Fresh.{IsFreshPage}
 use Rattle.read_laws.proofs.Bits.{bit_of-erased}
@@ -23,12 +23,12 @@ pub record IsClose (g : Geometry) (image : List ℕ) (page : PageState) : Type 0
   pub near : (s : ℕ) → s < step_count g → distance (word_at g page.cells s) (word_at g image s) ≤ word_flips g page.flips s
 
 -- what its past says of a page
-abbrev pub KeepsPast : Geometry → Past → PageState → Type 0
+abbrev pub KeepsPast : Geometry → PagePast → PageState → Type 0
 KeepsPast g Erased page = IsClose g (erased g) page
 KeepsPast g (Programmed image) page = IsClose g image page
 KeepsPast g Unknown page = length page.cells ≡ raw_len g
 
-whole_of : (g : Geometry) (past : Past) (page : PageState) → KeepsPast g past page → length page.cells ≡ raw_len g
+whole_of : (g : Geometry) (past : PagePast) (page : PageState) → KeepsPast g past page → length page.cells ≡ raw_len g
 whole_of g Erased page h = h.whole
 whole_of g (Programmed image) page h = h.whole
 whole_of g Unknown page h = h
@@ -66,7 +66,7 @@ flipped_close g image page bit close = record {
       omega arith;
 }
 
-flipped_keeps : (g : Geometry) (past : Past) (page : PageState) (bit : ℕ) → KeepsPast g past page → KeepsPast g past (flipped page bit)
+flipped_keeps : (g : Geometry) (past : PagePast) (page : PageState) (bit : ℕ) → KeepsPast g past page → KeepsPast g past (flipped page bit)
 flipped_keeps g Erased page bit h = flipped_close g (erased g) page bit h
 flipped_keeps g (Programmed image) page bit h = flipped_close g image page bit h
 flipped_keeps g Unknown page bit h = length-set page.cells (bit / 8) _ ∙ h
@@ -81,30 +81,30 @@ programmed_close g image page close = record {
 }
 
 -- a program that was good, on a page with this past
-good_keeps : (g : Geometry) (past : Past) (page : PageState) (image : List ℕ)
+good_keeps : (g : Geometry) (past : PagePast) (page : PageState) (image : List ℕ)
     → KeepsPast g past page → KeepsPast g (after_program past image true) (good_program page image)
 good_keeps g Erased page image h = programmed_close g image page h
 good_keeps g (Programmed old) page image h = length-map_from _ page.cells 0 ∙ h.whole
 good_keeps g Unknown page image h = length-map_from _ page.cells 0 ∙ h
 
 -- after one that was not, no past says more of a page than that it is whole
-torn_keeps : (g : Geometry) (past : Past) (page : PageState) (image : List ℕ) (done : DoneBits)
+torn_keeps : (g : Geometry) (past : PagePast) (page : PageState) (image : List ℕ) (done : DoneBits)
     → KeepsPast g past page → KeepsPast g Unknown (torn_program page image done)
 torn_keeps g past page image done h = length-map_from _ page.cells 0 ∙ whole_of g past page h
 
-after_failure : (past : Past) (image : List ℕ) → after_program past image false ≡ Unknown
+after_failure : (past : PagePast) (image : List ℕ) → after_program past image false ≡ Unknown
 after_failure Erased image = refl
 after_failure (Programmed old) image = refl
 after_failure Unknown image = refl
 
 -- ---- one page of a chip that changes
 -- the page asked for is the one that changes, or stays
-changed_if : (g : Geometry) (inside : Bool) (old new : PageState) (past after : Past) → KeepsPast g past old → KeepsPast g after new
+changed_if : (g : Geometry) (inside : Bool) (old new : PageState) (past after : PagePast) → KeepsPast g past old → KeepsPast g after new
     → KeepsPast g (if inside then after else past) (if inside then new else old)
 changed_if g true old new past after stays changes = changes
 changed_if g false old new past after stays changes = stays
 
-changed_page : (g : Geometry) (pages : ℕ → PageState) (p page : ℕ) (new : PageState) (past after : Past)
+changed_page : (g : Geometry) (pages : ℕ → PageState) (p page : ℕ) (new : PageState) (past after : PagePast)
     → KeepsPast g past (pages page) → (KeepsPast g past (pages p) → KeepsPast g after new)
     → KeepsPast g (if p == page then after else past) (with_page pages p new page)
 changed_page g pages p page new past after stays changes = elim (cases_eq p page) [
@@ -117,28 +117,28 @@ changed_page g pages p page new past after stays changes = elim (cases_eq p page
       (sym (ne_eqb p page other)) (sym (ne_eqb page p (λ e. other (sym e)))) stays
 ]
 
-same_past : (b : Bool) (past : Past) → (if b then past else past) ≡ past
+same_past : (b : Bool) (past : PagePast) → (if b then past else past) ≡ past
 same_past true past = refl
 same_past false past = refl
 
 module _ {W : Type 0} (model : FaultModel W) where
   -- a program that was torn
-  torn_program_keeps : (s : ChipState W) (p page : ℕ) (image : List ℕ) (past : Past) (done : DoneBits) → KeepsPast s.geometry past (s.pages page)
+  torn_program_keeps : (s : ChipState W) (p page : ℕ) (image : List ℕ) (past : PagePast) (done : DoneBits) → KeepsPast s.geometry past (s.pages page)
       → KeepsPast s.geometry (if p == page then Unknown else past) ((program_page model s p image (Some done)).pages page)
   torn_program_keeps s p page image past done h =
       changed_page s.geometry s.pages p page (torn_program (s.pages p) image done) past Unknown h (torn_keeps s.geometry past (s.pages p) image done)
 
-  program_keeps : (s : ChipState W) (p page : ℕ) (image : List ℕ) (past : Past) (failure : Option DoneBits) → KeepsPast s.geometry past (s.pages page)
+  program_keeps : (s : ChipState W) (p page : ℕ) (image : List ℕ) (past : PagePast) (failure : Option DoneBits) → KeepsPast s.geometry past (s.pages page)
       → KeepsPast s.geometry (if p == page then after_program past image (is_none failure) else past)
       ((counted model failure (program_page model s p image failure)).pages page)
   program_keeps s p page image past None h =
       changed_page s.geometry s.pages p page (good_program (s.pages p) image) past (after_program past image true) h
       (good_keeps s.geometry past (s.pages p) image)
   program_keeps s p page image past (Some done) h =
-      subst (λ (after : Past). KeepsPast s.geometry (if p == page then after else past) ((program_page model s p image (Some done)).pages page))
+      subst (λ (after : PagePast). KeepsPast s.geometry (if p == page then after else past) ((program_page model s p image (Some done)).pages page))
       (sym (after_failure past image)) (torn_program_keeps s p page image past done h)
 
-  erase_keeps : (s : ChipState W) (block page : ℕ) (past : Past) (failure : Option DoneBits) → KeepsPast s.geometry past (s.pages page)
+  erase_keeps : (s : ChipState W) (block page : ℕ) (past : PagePast) (failure : Option DoneBits) → KeepsPast s.geometry past (s.pages page)
       → KeepsPast s.geometry (if page / s.geometry.pages_per_block == block then (if is_none failure then Erased else Unknown) else past)
       ((counted model failure (erase_block model s block failure)).pages page)
   erase_keeps s block page past None h =
@@ -148,8 +148,8 @@ module _ {W : Type 0} (model : FaultModel W) where
       (torn_erase done (page % s.geometry.pages_per_block) (s.pages page)) past Unknown h
       (length-map_from _ (s.pages page).cells 0 ∙ whole_of s.geometry past (s.pages page) h)
 
-  event_keeps : (s : ChipState W) (page : ℕ) (past : Past) (e : ChipEvent) → KeepsPast s.geometry past (s.pages page)
-      → KeepsPast s.geometry (past_after model s page past e) ((happens model s e).pages page)
+  event_keeps : (s : ChipState W) (page : ℕ) (past : PagePast) (e : ChipEvent) → KeepsPast s.geometry past (s.pages page)
+      → KeepsPast s.geometry (page_past_after model s page past e) ((happens model s e).pages page)
   event_keeps s page past (Complete (ReadEvent p)) h = h
   event_keeps s page past (Complete (ProgramEvent p image)) h = program_keeps s p page image past (failure_of model s (ProgramCall p)) h
   event_keeps s page past (Complete (EraseEvent block)) h = erase_keeps s block page past (failure_of model s (EraseCall block)) h
@@ -157,15 +157,15 @@ module _ {W : Type 0} (model : FaultModel W) where
   event_keeps s page past (PowerCut (ProgramEvent p image) done) h = torn_program_keeps s p page image past done h
   event_keeps s page past (PowerCut (EraseEvent block) done) h = erase_keeps s block page past (Some done) h
   event_keeps s page past (Flipped p bit) h =
-      subst (λ (now : Past). KeepsPast s.geometry now ((happens model s (Flipped p bit)).pages page)) (same_past (p == page) past)
+      subst (λ (now : PagePast). KeepsPast s.geometry now ((happens model s (Flipped p bit)).pages page)) (same_past (p == page) past)
       (changed_page s.geometry s.pages p page (flipped (s.pages p) bit) past past h (flipped_keeps s.geometry past (s.pages p) bit))
 
-  pub trace_keeps : (s : ChipState W) (page : ℕ) (past : Past) (trace : List ChipEvent) → KeepsPast s.geometry past (s.pages page)
-      → KeepsPast s.geometry (past_of model s page past trace) ((after_trace model s trace).pages page)
+  pub trace_keeps : (s : ChipState W) (page : ℕ) (past : PagePast) (trace : List ChipEvent) → KeepsPast s.geometry past (s.pages page)
+      → KeepsPast s.geometry (page_past model s page past trace) ((after_trace model s trace).pages page)
   trace_keeps s page past [] h = h
   trace_keeps s page past (e ∷ trace) h =
       let now = happens model s e in
-      let later = past_after model s page past e in
+      let later = page_past_after model s page past e in
       let same : now.geometry ≡ s.geometry = geometry_happens model s e in
-      subst (λ (g : Geometry). KeepsPast g (past_of model now page later trace) ((after_trace model now trace).pages page)) same
+      subst (λ (g : Geometry). KeepsPast g (page_past model now page later trace) ((after_trace model now trace).pages page)) same
       (trace_keeps now page later trace (subst (λ (g : Geometry). KeepsPast g later (now.pages page)) (sym same) (event_keeps s page past e h)))

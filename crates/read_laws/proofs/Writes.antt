@@ -11,7 +11,7 @@ use Rattle.nand_model.specs.declared.words.Part.{Part}
 use Rattle.nand_model.specs.declared.words.Op.TheVariants.{Write}
 use Rattle.nand_model.specs.declared.words.Reply.{Reply}
 use Rattle.nand_model.specs.declared.words.Reply.TheVariants.{Done, OutOfRange, BadBlock, ProgramFailed}
-use Rattle.run_model.specs.ReadBack.{Past, Erased, Programmed, after_program, past_after, past_of}
+use Rattle.run_model.specs.ReadBack.{PagePast, Erased, Programmed, after_program, page_past_after, page_past}
 use Rattle.read_laws.specs.Laws.{DoneWritesFillPages}
 use Rattle.read_laws.proofs.Replies.{after-over}
 
@@ -21,15 +21,15 @@ good_from_done (Some done) e = cc
 
 module _ {W : Type 0} (model : FaultModel W) where
   -- flips alone leave a page's past as it is
-  flips_alone : (next : List Answer → Option PageEvent) (s : ChipState W) (seen : List Answer) (page : ℕ) (past : Past) (trace : List ChipEvent)
-      → next seen ≡ None → GoesAlong model next s seen trace → past_of model s page past trace ≡ past
+  flips_alone : (next : List Answer → Option PageEvent) (s : ChipState W) (seen : List Answer) (page : ℕ) (past : PagePast) (trace : List ChipEvent)
+      → next seen ≡ None → GoesAlong model next s seen trace → page_past model s page past trace ≡ past
   flips_alone next s seen page past [] none h = refl
   flips_alone next s seen page past (Complete e ∷ trace) none h = absurd (none-some e (sym none ∙ h.0))
   flips_alone next s seen page past (PowerCut e done ∷ trace) none h = absurd (none-some e (sym none ∙ h.0))
   flips_alone next s seen page past (Flipped p bit ∷ trace) none h = flips_alone next (happens model s (Flipped p bit)) seen page past trace none h
 
   programmed_past : (s : ChipState W) (page : ℕ) (image : List ℕ) → is_none (failure_of model s (ProgramCall page)) ≡ true
-      → past_after model s page Erased (Complete (ProgramEvent page image)) ≡ Programmed image
+      → page_past_after model s page Erased (Complete (ProgramEvent page image)) ≡ Programmed image
   programmed_past s page image good =
       ap₂ (λ (here whole : Bool). if here then after_program Erased image whole else Erased) (eq-eqb page page refl) good
 
@@ -46,7 +46,7 @@ module _ {W : Type 0} (model : FaultModel W) where
     -- a path along which Done leaves this image in an erased page
     abbrev Fills : ℕ → List ℕ → Path Finished → Type 0
     Fills page image path = (s : ChipState W) (trace : List ChipEvent) → GoesAlong model (next_event path) s [] trace
-        → result_of (after_answers (answers_of model s trace) path) ≡ Some finished → past_of model s page Erased trace ≡ Programmed image
+        → result_of (after_answers (answers_of model s trace) path) ≡ Some finished → page_past model s page Erased trace ≡ Programmed image
 
     refused : (page : ℕ) (image : List ℕ) (reply : Reply) → (reply ≡ Done → ⊥) → Fills page image (answer k reply)
     refused page image reply other s trace along over = absurd (other (same_reply reply (answers_of model s trace) over))
@@ -60,14 +60,14 @@ module _ {W : Type 0} (model : FaultModel W) where
     FillsBy page image s e trace =
         GoesAlong model (next_event (programs page image)) (happens model s (Complete e)) (answer_to model s e ∷ []) trace
         → result_of (after_answers (answers_of model s (Complete e ∷ trace)) (programs page image)) ≡ Some finished
-        → past_of model s page Erased (Complete e ∷ trace) ≡ Programmed image
+        → page_past model s page Erased (Complete e ∷ trace) ≡ Programmed image
 
     by_program : (page : ℕ) (image : List ℕ) (s : ChipState W) (trace : List ChipEvent) → FillsBy page image s (ProgramEvent page image) trace
     by_program page image s trace along over =
         let now : ChipState W = happens model s (Complete (ProgramEvent page image)) in
         let outcome : Answer = answer_to model s (ProgramEvent page image) in
         let replied = same_reply (done_or ProgramFailed outcome) (answers_of model now trace) over in
-        let past : Past = past_after model s page Erased (Complete (ProgramEvent page image)) in
+        let past : PagePast = page_past_after model s page Erased (Complete (ProgramEvent page image)) in
         flips_alone (next_event (programs page image)) now (outcome ∷ []) page past trace refl along
         ∙ programmed_past s page image (good_from_done (failure_of model s (ProgramCall page)) replied)
 

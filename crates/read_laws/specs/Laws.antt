@@ -12,7 +12,7 @@ use Rattle.nand_model.specs.declared.words.Reply.TheVariants.{Done}
 use Rattle.command_model.specs.Boot.{Boot}
 use Rattle.run_model.specs.Course.{Course}
 use Rattle.run_model.specs.History.{ChipBoot}
-use Rattle.run_model.specs.ReadBack.{Erased, Programmed, past_of, wrong_bits, ReadsBack, HasFewFlips, ReadsBackAlong}
+use Rattle.run_model.specs.ReadBack.{Erased, Programmed, page_past, wrong_bits, ReadsBack, HasFewFlips, ReadsBackAlong}
 use Rattle.run_model.specs.Run.{CoursesAreFaithful, RunsAreFaithful}
 use Rattle.read_laws.specs.Fresh.{IsFreshPage, IsFresh}
 
@@ -21,17 +21,17 @@ use Rattle.read_laws.specs.Fresh.{IsFreshPage, IsFresh}
 abbrev pub WrongBitsWereFlipped : {W : Type 0} → FaultModel W → ChipState W → Type 0
 WrongBitsWereFlipped model s =
     (trace : List ChipEvent) (page : ℕ) (image : List ℕ) → IsFreshPage s.geometry (s.pages page)
-        → length image ≡ raw_len s.geometry →
-    past_of model s page Erased trace ≡ Programmed image → (step : ℕ) → step < step_count s.geometry →
+    → length image ≡ raw_len s.geometry →
+    page_past model s page Erased trace ≡ Programmed image → (step : ℕ) → step < step_count s.geometry →
     wrong_bits s.geometry image ((after_trace model s trace).pages page).cells step
-        ≤ word_flips s.geometry ((after_trace model s trace).pages page).flips step
+    ≤ word_flips s.geometry ((after_trace model s trace).pages page).flips step
 
 -- From a page that is fresh, after any trace: where one good program has filled it, with few flips, it is read back.
 abbrev pub FilledPagesReadBack : {W : Type 0} → FaultModel W → ChipState W → Type 0
 FilledPagesReadBack model s =
     (trace : List ChipEvent) (page : ℕ) (body free : List ℕ) → IsFreshPage s.geometry (s.pages page)
-        → FillsPage s.geometry body free →
-    past_of model s page Erased trace ≡ Programmed (page_image s.geometry body free) →
+    → FillsPage s.geometry body free →
+    page_past model s page Erased trace ≡ Programmed (page_image s.geometry body free) →
     HasFewFlips s.geometry ((after_trace model s trace).pages page).flips →
     ReadsBack s.geometry (page_image s.geometry body free) ((after_trace model s trace).pages page).cells
 
@@ -39,9 +39,9 @@ FilledPagesReadBack model s =
 abbrev pub DoneWritesFillPages : {W : Type 0} → FaultModel W → ChipState W → Type 0
 DoneWritesFillPages model s =
     (partitions : Partitions) (known : Known) (dev page : ℕ) (body free : List ℕ) (trace : List ChipEvent)
-        (after : Known) (part : Part) →
+    (after : Known) (part : Part) →
     part_of partitions dev ≡ Some part → Performs model partitions s known (Write dev page body free) trace Done after →
-    past_of model s (chip_page s.geometry part page) Erased trace ≡ Programmed (page_image s.geometry body free)
+    page_past model s (chip_page s.geometry part page) Erased trace ≡ Programmed (page_image s.geometry body free)
 
 -- the notes of a course are a history of one thread, along which each answered read of a chip that was fresh
 -- gives back what was written

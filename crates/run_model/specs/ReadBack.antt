@@ -15,13 +15,13 @@ use Rattle.nand_model.specs.declared.words.Op.{Op}
 use Rattle.nand_model.specs.declared.words.Op.TheVariants.{Read}
 
 -- what a page has been through since it was made or last erased well: nothing, one good program, or anything else
-pub data Past : Type 0 where
-  Erased : Past
-  Programmed : (image : List ℕ) → Past
-  Unknown : Past
+pub data PagePast : Type 0 where
+  Erased : PagePast
+  Programmed : (image : List ℕ) → PagePast
+  Unknown : PagePast
 
 -- the past of a page after a program of it
-abbrev pub after_program : Past → List ℕ → Bool → Past
+abbrev pub after_program : PagePast → List ℕ → Bool → PagePast
 after_program Erased image true = Programmed image
 after_program Erased image false = Unknown
 after_program (Programmed old) image good = Unknown
@@ -29,23 +29,23 @@ after_program Unknown image good = Unknown
 
 module _ {W : Type 0} (model : FaultModel W) where
   -- the past of a page after an event of its chip
-  abbrev pub past_after : ChipState W → ℕ → Past → ChipEvent → Past
-  past_after s page past (Complete (ReadEvent p)) = past
-  past_after s page past (Complete (ProgramEvent p image)) =
+  abbrev pub page_past_after : ChipState W → ℕ → PagePast → ChipEvent → PagePast
+  page_past_after s page past (Complete (ReadEvent p)) = past
+  page_past_after s page past (Complete (ProgramEvent p image)) =
       if p == page then after_program past image (is_none (failure_of model s (ProgramCall p))) else past
-  past_after s page past (Complete (EraseEvent block)) =
+  page_past_after s page past (Complete (EraseEvent block)) =
       if page / s.geometry.pages_per_block == block then (if is_none (failure_of model s (EraseCall block))
       then Erased else Unknown) else past
-  past_after s page past (PowerCut (ReadEvent p) done) = past
-  past_after s page past (PowerCut (ProgramEvent p image) done) = if p == page then Unknown else past
-  past_after s page past (PowerCut (EraseEvent block) done) =
+  page_past_after s page past (PowerCut (ReadEvent p) done) = past
+  page_past_after s page past (PowerCut (ProgramEvent p image) done) = if p == page then Unknown else past
+  page_past_after s page past (PowerCut (EraseEvent block) done) =
       if page / s.geometry.pages_per_block == block then Unknown else past
-  past_after s page past (Flipped p bit) = past
+  page_past_after s page past (Flipped p bit) = past
 
   -- the past of a page after a trace
-  abbrev pub past_of : ChipState W → ℕ → Past → List ChipEvent → Past
-  past_of s page past [] = past
-  past_of s page past (e ∷ trace) = past_of (happens model s e) page (past_after s page past e) trace
+  abbrev pub page_past : ChipState W → ℕ → PagePast → List ChipEvent → PagePast
+  page_past s page past [] = past
+  page_past s page past (e ∷ trace) = page_past (happens model s e) page (page_past_after s page past e) trace
 
 -- in how many bits of a step's word the cells stand different from the image
 abbrev pub wrong_bits : Geometry → List ℕ → List ℕ → ℕ → ℕ
@@ -68,7 +68,7 @@ HasFewFlips g flips = (s : ℕ) → s < step_count g → word_flips g flips s �
 abbrev pub ProgrammedPagesReadBack : Geometry → List ℕ → List Weak → Type 0
 ProgrammedPagesReadBack g bad weak =
     (trace : List ChipEvent) (page : ℕ) (body free : List ℕ) → FillsPage g body free →
-    past_of sim_faults (new_chip g bad weak) page Erased trace ≡ Programmed (page_image g body free) →
+    page_past sim_faults (new_chip g bad weak) page Erased trace ≡ Programmed (page_image g body free) →
     HasFewFlips g ((after_trace sim_faults (new_chip g bad weak) trace).pages page).flips →
     ReadsBack g (page_image g body free) ((after_trace sim_faults (new_chip g bad weak) trace).pages page).cells
 
@@ -93,7 +93,7 @@ abbrev pub OperationReadsBack : {W : Type 0} → FaultModel W → ChipState W �
 OperationReadsBack {W} model fresh before operation =
     (flips rest : List ChipEvent) (page : ℕ) (body free : List ℕ) → FillsPage fresh.geometry body free →
     is_read operation.op ≡ true → events_in operation.trace ≡ flips ++ Complete (ReadEvent page) ∷ rest →
-    past_of model fresh page Erased (before ++ flips) ≡ Programmed (page_image fresh.geometry body free) →
+    page_past model fresh page Erased (before ++ flips) ≡ Programmed (page_image fresh.geometry body free) →
     HasFewFlips fresh.geometry ((after_trace model fresh (before ++ flips)).pages page).flips →
     IsReadBack fresh.geometry (page_image fresh.geometry body free) ((after_trace model fresh (before ++ flips)).pages
     page).cells operation.reply

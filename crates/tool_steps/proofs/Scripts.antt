@@ -4,7 +4,7 @@ use Rattle.std.specs.Prelude.{◌==◌, if◌then◌else◌}
 use Rattle.std.proofs.Math.Nat.{zero-div, zero-mod, sub-zero, mul-le-mul_left, div-lt_iff_lt-mul, mul_assoc, div_self, div-eq_of_lt, add-div_right, mod-lt}
 use Rattle.std.proofs.lemmas.List.{take_all}
 use Rattle.std.proofs.lemmas.Bool.Decides.{eqb_tells}
-use Rattle.nand_model.proofs.Bounds.{bounds}
+use Rattle.nand_model.proofs.Bounds.{bounds, page-some, pages-le, pages-some}
 use Rattle.nand_model.specs.Sizes.{parity_start}
 use Rattle.nand_model.specs.declared.geometry.Geometry.{Geometry}
 use Rattle.nand_model.specs.declared.words.BadMode.{BadMode}
@@ -19,19 +19,9 @@ use Rattle.tool_steps.specs.Steps.{is_over, handed, after_last, HasHad}
 use Rattle.tool_steps.specs.Work.{write_mode, unwritten, program_unit, read_left, look_left, dump_left}
 use Rattle.tool_steps.specs.declared.dumping.Dumping.{Dumping}
 
-pub pages_positive : (g : Geometry) → 1 ≤ g.pages_per_block
-pages_positive g = elim (bounds g).block [ inl e ↦ rw e (omega arith) | inr e ↦ rw e (omega arith) ]
-
-pub pages-le : (g : Geometry) → g.pages_per_block ≤ 128
-pages-le g = elim (bounds g).block [ inl e ↦ rw e (omega arith) | inr e ↦ rw e (omega arith) ]
-
 -- the marker and a byte beside it stand before the parities
 pub parity_start-low : (g : Geometry) → 2 ≤ parity_start g
 parity_start-low g = omega (arith, (bounds g).room)
-
-pub page_positive : (g : Geometry) → 1 ≤ g.page
-page_positive g =
-    elim (bounds g).pages [ inl e ↦ omega (arith, e.0) | inr others ↦ elim others [ inl e ↦ omega (arith, e.0) | inr e ↦ omega (arith, e.0) ] ]
 
 page_place-zero : (g : Geometry) → (0 == g.pages_per_block) ≡ false
 page_place-zero g = elim (bounds g).block [ inl e ↦ rw e refl | inr e ↦ rw e refl ]
@@ -45,14 +35,14 @@ write_pages-one g m unit block rest skipped failed = rw (page_place-zero g) (rw 
 -- a block of pages more
 touched-one : (g : Geometry) (first : ℕ) → blocks_touched g 1 first ≡ 1
 touched-one g first =
-    let h : 1 ≤ g.pages_per_block = pages_positive g in
+    let h : 1 ≤ g.pages_per_block = pages-some g in
     let same : first + 1 + (g.pages_per_block - 1) ≡ first + g.pages_per_block = omega arith in
     let more : (first + g.pages_per_block) / g.pages_per_block ≡ first / g.pages_per_block + 1 = add-div_right first h in
     rw same (rw more (omega arith))
 
 here-one : (g : Geometry) (first : ℕ) → min 1 (g.pages_per_block - first % g.pages_per_block) ≡ 1
 here-one g first =
-    let below : first % g.pages_per_block < g.pages_per_block = mod-lt first (pages_positive g) in
+    let below : first % g.pages_per_block < g.pages_per_block = mod-lt first (pages-some g) in
     omega arith
 
 -- the dump of the page at an offset
@@ -62,14 +52,14 @@ dump_at g dev off raw bad = record { dev = dev; page = off / g.page; raw = raw; 
 -- nanddump of one page
 pub script_of-dump : (g : Geometry) (dev blocks off : ℕ) (raw : Bool) (bad : BadMode)
     → script_of g (NandDump dev blocks off g.page raw false bad) ≡ dump_left g (dump_at g dev off raw bad)
-script_of-dump g dev blocks off raw bad = rw (div_self (page_positive g)) (rw (touched-one g (off / g.page)) (rw (here-one g (off / g.page)) refl))
+script_of-dump g dev blocks off raw bad = rw (div_self (page-some g)) (rw (touched-one g (off / g.page)) (rw (here-one g (off / g.page)) refl))
 
 -- a unit of data
 pub unit_count-one : (g : Geometry) (bytes : List ℕ) → 1 ≤ length bytes → length bytes ≤ g.page → unit_count g false bytes ≡ 1
 unit_count-one g bytes some one =
-    let same : length bytes + (g.page - 1) ≡ (length bytes - 1) + g.page = omega (arith, page_positive g) in
+    let same : length bytes + (g.page - 1) ≡ (length bytes - 1) + g.page = omega (arith, page-some g) in
     let none : (length bytes - 1) / g.page ≡ 0 = div-eq_of_lt (omega arith) in
-    rw same (rw (add-div_right (length bytes - 1) (page_positive g)) (rw none refl))
+    rw same (rw (add-div_right (length bytes - 1) (page-some g)) (rw none refl))
 
 -- nandwrite -p of one unit
 pub script_of-write : (g : Geometry) (dev blocks : ℕ) (raw pad : Bool) (bytes : List ℕ) → 1 ≤ length bytes → length bytes ≤ g.page
@@ -148,7 +138,7 @@ pub dumped_page-lt : (g : Geometry) (blocks off : ℕ) → blocks ≤ 32768 → 
 dumped_page-lt g blocks off few h =
     let regrouped : blocks * (g.pages_per_block * g.page) ≡ (blocks * g.pages_per_block) * g.page = sym (mul_assoc blocks g.pages_per_block g.page) in
     let inside : off < (blocks * g.pages_per_block) * g.page = rw (← regrouped) h in
-    let below : off / g.page < blocks * g.pages_per_block = (div-lt_iff_lt-mul (page_positive g)).1 inside in
+    let below : off / g.page < blocks * g.pages_per_block = (div-lt_iff_lt-mul (page-some g)).1 inside in
     let small : blocks * g.pages_per_block ≤ 4194304 = small_product blocks g.pages_per_block few (pages-le g) in
     omega arith
 
@@ -166,7 +156,7 @@ cost_of-write g dev blocks mark raw oob pad off bytes weak h =
 
 cost_of-dump : (g : Geometry) (dev blocks off len : ℕ) (raw oob : Bool) (bad : BadMode) (weak : ℕ) → DumpsOnePage g blocks off len oob
     → cost_of g (NandDump dev blocks off len raw oob bad) weak ≡ 2
-cost_of-dump g dev blocks off len raw oob bad weak h = rw h.one (rw (div_self (page_positive g)) (rw (touched-one g (off / g.page)) refl))
+cost_of-dump g dev blocks off len raw oob bad weak h = rw h.one (rw (div_self (page-some g)) (rw (touched-one g (off / g.page)) refl))
 
 pub cost_of-short : (g : Geometry) (command : Command) (weak : ℕ) → CanRun g command → cost_of g command weak ≡ short_cost g command weak
 cost_of-short g (FlashErase dev blocks no_scan start count) weak h = rw (h.from_first, h.to_end) (rw (sub-zero blocks) refl)

@@ -5,7 +5,7 @@ use Rattle.std.proofs.lemmas.Result.{IfOk-weaker}
 use Rattle.nand_model.specs.declared.words.Op.{Op}
 use Rattle.nand_model.specs.declared.words.Op.TheVariants.{RawWrite, Write}
 use Rattle.chip_core.specs.Begin.{HasDevice}
-use Rattle.chip_core.specs.Beginning.{Begins, Follows, in_range, raw_write_from, write_from}
+use Rattle.chip_core.specs.Beginning.{Begins, StandsFor, in_range, raw_write_from, write_from}
 use Rattle.chip_core.proofs.Ranges.{erase_goes, raw_write_goes, write_goes}
 use Rattle.chip_core.proofs.beginning.begin.Goals as goal
 
@@ -19,7 +19,7 @@ returns-in-Write g c =
     c.in-Write.is ∙ (λ i. Write c.in-Write.dev c.in-Write.page (sym c.as_slice.ensures i) (sym c.as_slice-in-Write.ensures i)) in
     let Goes : Op → Type 0 = λ op. IfOk c.write.result (λ task. Begins known c.args.parts.now op task) in
     subst Goes (sym is)
-    (IfOk-weaker c.write.result (λ task. Follows known (λ k. in_range k c.page_of-page.result (write_from known.geometry k body free)) None task)
+    (IfOk-weaker c.write.result (λ task. StandsFor known (λ k. in_range k c.page_of-page.result (write_from known.geometry k body free)) None task)
     (λ task. Begins known c.args.parts.now (Write c.in-Write.dev c.in-Write.page body free) task)
     (write_goes known found c.in-Write.dev c.in-Write.page c.page_of-page.result c.page_of-page.ensures.place body free) c.write.ensures)
 
@@ -33,7 +33,7 @@ returns-in-RawWrite g c =
     let place = c.page_of-page-in-RawWrite.result in
     let Goes : Op → Type 0 = λ op. IfOk c.raw_write.result (λ task. Begins known c.args.parts.now op task) in
     subst Goes (sym is)
-    (IfOk-weaker c.raw_write.result (λ task. Follows known (λ k. in_range k place (raw_write_from known.geometry k image)) None task)
+    (IfOk-weaker c.raw_write.result (λ task. StandsFor known (λ k. in_range k place (raw_write_from known.geometry k image)) None task)
     (λ task. Begins known c.args.parts.now (RawWrite c.in-RawWrite.dev c.in-RawWrite.page image) task)
     (raw_write_goes known found c.in-RawWrite.dev c.in-RawWrite.page place c.page_of-page-in-RawWrite.ensures.place image) c.raw_write.ensures)
 

@@ -1,5 +1,5 @@
 use Rattle.nand_model.specs.Partitions.{part_of}
-use Rattle.chip_core.proofs.Places.{pages-le}
+use Rattle.nand_model.proofs.Bounds.{pages-le}
 use Rattle.chip_core.proofs.Ranges.{page_place, page_there}
 use Rattle.chip_core.proofs.beginning.page_of.Goals as goal
 

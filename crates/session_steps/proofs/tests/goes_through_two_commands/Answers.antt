@@ -9,7 +9,7 @@ use Rattle.nand_model.specs.declared.words.Reply.TheVariants.{State}
 use Rattle.command_model.specs.Command.{Next, Do, Over, next_step}
 use Rattle.command_model.specs.Session.{SessionRun, without_finished, with_reply}
 use Rattle.command_model.specs.Runnable.{CanRun}
-use Rattle.tool_steps.proofs.Scripts.{pages_positive}
+use Rattle.nand_model.proofs.Bounds.{pages-some}
 use Rattle.session_steps.specs.Standing.{First}
 use Rattle.session_steps.specs.Mirrors.{CanAllRun}
 use Rattle.session_steps.proofs.Scripts.{none_finished, one_finished, not_finished}
@@ -30,7 +30,7 @@ module _ (g : Geometry) (page : g.page ≡ 2048) where
   dumps = record {
     size = (omega arith, omega arith);
     whole = zero-mod g.page;
-    in_device = rw page (omega (arith, pages_positive g));
+    in_device = rw page (omega (arith, pages-some g));
     one = sym page;
     body_only = refl;
   }

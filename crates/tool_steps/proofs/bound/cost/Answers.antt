@@ -1,5 +1,6 @@
 use Rattle.std.proofs.Common.{◌≡◌, ℕ, sym, subst, ap, ◌∙◌}
-use Rattle.tool_steps.proofs.Scripts.{pages-le, short_cost, cost_of-short}
+use Rattle.nand_model.proofs.Bounds.{pages-le}
+use Rattle.tool_steps.proofs.Scripts.{short_cost, cost_of-short}
 use Rattle.tool_steps.proofs.Ends.{command_ends, command_ends_at_last}
 use Rattle.nand_model.specs.declared.geometry.Geometry.{Geometry}
 use Rattle.nand_model.specs.declared.words.Command.{Command}

@@ -1,5 +1,6 @@
 use Rattle.std.proofs.Common.{◌*◌, ◌≤◌, arith}
-use Rattle.tool_steps.proofs.Scripts.{pages-le, small_product, parity_start-low}
+use Rattle.nand_model.proofs.Bounds.{pages-le}
+use Rattle.tool_steps.proofs.Scripts.{small_product, parity_start-low}
 use Rattle.tool_steps.proofs.writing.Writing.program.Goals as goal
 
 pub overflow_mul-page : goal.overflow_mul-page
