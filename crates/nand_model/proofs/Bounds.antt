@@ -1,11 +1,11 @@
 -- What the test of a geometry says of its numbers.
-use Rattle.std.proofs.Common.{◌≡◌, ℕ, ◌+◌, ◌-◌, ◌*◌, ◌/◌, ◌%◌, ◌<◌, ◌≤◌, ◌⊎◌, inl, inr, Bool, true, false, arith, refl, zero, suc}
+use Rattle.std.proofs.Common.{◌≡◌, ℕ, ◌+◌, ◌*◌, ◌%◌, ◌≤◌, ◌⊎◌, inl, inr, Bool, true, false, arith, refl}
 use Rattle.std.specs.Prelude.{◌&&◌, ◌||◌, not, ◌==◌, nat_le}
 use Rattle.std.proofs.lemmas.Bool.{and_parts, and_from, leb-true, le-leb, eqb-true}
 use Rattle.std.proofs.lemmas.Bool.Decides.{eqb_tells}
 use Rattle.code_model.specs.Code.{code_512, parity_len}
 use Rattle.nand_model.specs.declared.geometry.Geometry.{Geometry}
-use Rattle.nand_model.specs.Layout.{steps_in, has_page_size, has_block_count, has_sizes, has_room, is_geometry, IsGeometry, threshold_in_force}
+use Rattle.nand_model.specs.Layout.{steps_in, has_page_size, has_block_count, has_sizes, has_room, IsGeometry, threshold_in_force}
 
 pub or_parts : (x y : Bool) → (x || y) ≡ true → (x ≡ true) ⊎ (y ≡ true)
 or_parts true y h = inl refl

@@ -9,7 +9,8 @@ mod words;
 
 pub use bytes::Bytes;
 pub use geometry::{Geometry, GeometryError};
-pub use list::{BlockList, ItemList, SpanList};
+pub use item_list::ItemList;
+pub use list::{BlockList, SpanList, covers};
 pub use tear::{Tear, mix};
 pub use words::{
     BadMode, Choice, Command, CutAt, Ending, Event, Fairness, Flip, Note, Op, Origin, Outcome,

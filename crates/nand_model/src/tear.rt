@@ -2,7 +2,7 @@
 ghost use Rattle.std.specs.Prelude.{◌≡◌};
 ghost use Rattle.nand_model.specs.Seeds.{split_mix};
 
-use crate::SpanList;
+use crate::list::{SpanList, covers};
 
 /// Which bits of a torn program or erase were done. It is this project's own.
 #[derive(Drop)]
@@ -41,7 +41,7 @@ impl Tear {
                 let index = u64::from(page_in_block) * u64::from(raw_len) + u64::from(offset);
                 (mix(*seed, index) & 0xff) as u8
             }
-            Tear::Spans(spans) => { if spans.covers(offset) { 0xff } else { 0 } }
+            Tear::Spans(spans) => { if covers(spans, offset) { 0xff } else { 0 } }
         }
     }
 }
