@@ -56,10 +56,5 @@ impl Calls {
 fn has_number(numbers: &BlockList, number: u64) -> bool
     ensures { IsTrue result ↔ Contains numbers.now number }
 {
-    for n in 0..numbers.len() {
-        if u64::from(*numbers.get(n)) == number {
-            return true;
-        }
-    }
-    false
+    numbers.iter().any(|n| u64::from(*n) == number)
 }
