@@ -1,52 +1,13 @@
--- The flips of a page, after some are added to the log, dropped from it or counted.
-use Rattle.std.proofs.Common.{◌≡◌, ◌⊎◌, ℕ, suc, ◌+◌, ◌<◌, arith, refl, ap, sym, ◌∙◌, inl, inr, Bool, true, false, List, [], ◌∷◌, ◌++◌, length, map, take, slice_get, Some, if◌then◌else◌, append_assoc, append-nil}
+-- The flips of a page, after some are dropped from the log or counted.
+use Rattle.std.proofs.Common.{◌≡◌, ◌⊎◌, ℕ, suc, arith, refl, ap, sym, ◌∙◌, inl, inr, Bool, true, false, List, [], ◌∷◌, length, map, if◌then◌else◌}
 use Rattle.std.specs.Prelude.{◌==◌, ◌&&◌, ◌||◌, nat_le, nat_lt, count_by}
 use Rattle.std.specs.List.{filter}
 use Rattle.std.proofs.lemmas.Bool.{cases_lt}
 use Rattle.std.proofs.lemmas.Bool.Decides.{eqb_tells, nat_tests}
-use Rattle.std.proofs.lemmas.List.{map-append, take_more}
-use Rattle.std.proofs.lemmas.List.Elements.{filter-append}
 use Rattle.std.proofs.lemmas.List.Sums.{length-filter}
-use Rattle.std.proofs.lemmas.Option.{get_or_from_slice_get}
 use Rattle.nand_model.specs.Flips.{flips_between}
 use Rattle.chip_sim.specs.FlipLog.{flips_of}
 use Rattle.chip_sim.specs.declared.flip_log.FlippedBit.{FlippedBit}
-
--- the bit of a flip, where it is of a page
-abbrev bit_if : Bool → ℕ → List ℕ
-bit_if b bit = if b then bit ∷ [] else []
-
-one : (b : Bool) (flip : FlippedBit) → map (λ (f : FlippedBit). f.bit) (if b then flip ∷ [] else []) ≡ bit_if b flip.bit
-one true flip = refl
-one false flip = refl
-
--- one flip more
-flips_of-push : (flips : List FlippedBit) (flip : FlippedBit) (page : ℕ)
-    → flips_of (flips ++ flip ∷ []) page ≡ flips_of flips page ++ bit_if (flip.page == page) flip.bit
-flips_of-push flips flip page =
-    let of_page : FlippedBit → Bool = λ f. f.page == page in
-    let bit : FlippedBit → ℕ = λ f. f.bit in
-    ap (map bit) (filter-append of_page flips (flip ∷ []))
-    ∙ map-append bit (filter of_page flips) (filter of_page (flip ∷ []))
-    ∙ ap (λ bits. flips_of flips page ++ bits) (one (flip.page == page) flip)
-
--- one more bit of a page is added
-pub flips_of-more : (before now : List FlippedBit) (flip : FlippedBit) (bits : List ℕ) (n page : ℕ) → n < length bits → slice_get bits n ≡ Some flip.bit
-    → flips_of now page ≡ (if page == flip.page then flips_of before page ++ take n bits else flips_of before page)
-    → flips_of (now ++ flip ∷ []) page ≡ (if page == flip.page then flips_of before page ++ take (n + 1) bits else flips_of before page)
-flips_of-more before now flip bits n page more is_bit so_far =
-    let next : take (n + 1) bits ≡ take n bits ++ flip.bit ∷ [] =
-    take_more bits n 0 more ∙ ap (λ bit. take n bits ++ bit ∷ []) (get_or_from_slice_get bits n flip.bit 0 is_bit) in
-    elim (eqb_tells page flip.page) [
-      | inl same ↦
-          let here : (flip.page == page) ≡ true = grind (arith, nat_tests) in
-          let past : flips_of now page ≡ flips_of before page ++ take n bits = rw same.0 at so_far in
-          rw (flips_of-push now flip page, same.0, here, next, past) (append_assoc (flips_of before page) (take n bits) (flip.bit ∷ []))
-      | inr other ↦
-          let elsewhere : (flip.page == page) ≡ false = grind (arith, nat_tests) in
-          let past : flips_of now page ≡ flips_of before page = rw other.0 at so_far in
-          rw (flips_of-push now flip page, other.0, elsewhere, past) (append-nil (flips_of before page))
-    ]
 
 -- whether a page is none of those from one up to but not including another
 abbrev pub is_outside : ℕ → ℕ → ℕ → Bool

@@ -1,7 +1,6 @@
 -- The first page of a block of the chip is a page of the chip.
-use Rattle.std.proofs.Common.{◌≡◌, ℕ, ◌+◌, ◌*◌, ◌^◌, ◌<◌, ◌≤◌, arith, List, length, slice_get, All, Some, subst, inl, inr}
+use Rattle.std.proofs.Common.{ℕ, ◌+◌, ◌*◌, ◌^◌, ◌<◌, ◌≤◌, arith, inl, inr}
 use Rattle.std.proofs.Math.Nat.{mul-le-mul_right}
-use Rattle.std.proofs.lemmas.Option.{get_or_from_slice_get}
 use Rattle.nand_model.specs.Sizes.{page_count, first_page}
 use Rattle.nand_model.specs.declared.geometry.Geometry.{Geometry}
 use Rattle.nand_model.proofs.Bounds.{bounds}
@@ -14,11 +13,8 @@ pages_per_block-some g = elim ((bounds g).block) [ inl h ↦ omega arith | inr h
 pub block-there : (g : Geometry) (block : ℕ) → block < g.blocks → block * g.pages_per_block + g.pages_per_block ≤ page_count g
 block-there g block there = omega (arith, mul-le-mul_right g.pages_per_block there)
 
-pub first_page-there : (g : Geometry) (blocks : List ℕ) (n block : ℕ) → All (λ b. b < g.blocks) blocks → n < length blocks → slice_get blocks n ≡ Some block
-    → first_page g block < page_count g
-first_page-there g blocks n block all more is_block =
-    let there : block < g.blocks = subst (λ b. b < g.blocks) (get_or_from_slice_get blocks n block 0 is_block) (all n 0 more) in
-    omega (arith, block-there g block there, pages_per_block-some g)
+pub first_page-there : (g : Geometry) (block : ℕ) → block < g.blocks → first_page g block < page_count g
+first_page-there g block there = omega (arith, block-there g block there, pages_per_block-some g)
 
 -- and their numbers are small
 pub block_end-small : (g : Geometry) (block : ℕ) → block < g.blocks → block * g.pages_per_block + g.pages_per_block < 2 ^ 32

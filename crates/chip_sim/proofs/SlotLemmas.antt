@@ -1,19 +1,19 @@
 -- Slots after one of them, or those of a block, are changed.
-use Rattle.std.proofs.Common.{◌≡◌, ℕ, ◌+◌, ◌/◌, ◌<◌, arith, refl, ap, ◌∙◌, subst, inl, inr, Bool, true, false, List, [], length, take, slice_set, slice_get, slice_index_or, All, Option, Some, None, if◌then◌else◌}
-use Rattle.std.specs.Prelude.{◌==◌, ◌&&◌, ◌||◌, nat_le, nat_lt}
+use Rattle.std.proofs.Common.{◌≡◌, ℕ, ◌+◌, ◌/◌, ◌<◌, arith, refl, ap, sym, ◌∙◌, subst, inl, inr, Bool, true, false, List, [], ◌∷◌, length, slice_set, slice_index_or, All, Option, Some, None, if◌then◌else◌}
+use Rattle.std.specs.Prelude.{◌==◌, ◌&&◌, nat_le, nat_lt}
 use Rattle.std.specs.List.{list_any}
 use Rattle.std.proofs.lemmas.Bool.Decides.{eqb_tells, nat_tests}
 use Rattle.std.proofs.lemmas.List.{get_or-set_same, get_or-set_other, get_or_default, length-replicate, length-set}
-use Rattle.std.proofs.lemmas.List.Folds.{list_any_more}
-use Rattle.std.proofs.lemmas.Option.{get_or_from_slice_get}
-use Rattle.nand_model.specs.Chip.{new_page, with_page, with_block, good_program, blank_page, programmed}
-use Rattle.nand_model.specs.Sizes.{raw_len, first_page}
+use Rattle.std.proofs.lemmas.List.Elements.{All-head, All-rest, All-set}
+use Rattle.nand_model.specs.Chip.{PageState, new_page, with_page, with_block, good_program, blank_page, programmed}
+use Rattle.nand_model.specs.Sizes.{page_count, raw_len, first_page}
 use Rattle.nand_model.specs.declared.geometry.Geometry.{Geometry}
 use Rattle.chip_sim.specs.Blanks.{blank_cells}
 use Rattle.chip_sim.specs.Slots.{IsWholeSlot, cells_of, page_of, slot_at}
 use Rattle.chip_sim.specs.declared.page.Page.{Page}
 use Rattle.nand_iface.proofs.FlashLemmas.{length-map_from}
 use Rattle.chip_sim.proofs.Erasing.{in_block}
+use Rattle.chip_sim.proofs.Placing.{first_page-there}
 
 abbrev pub Slot : Type 0
 Slot = Option Page
@@ -86,32 +86,55 @@ erase-pages g old new flips kept block page some cleared forgotten =
 abbrev pub factory_bad : Geometry → Page
 factory_bad g = record { cells = slice_set (blank_cells (raw_len g)) g.page 0; flipped_since = false }
 
-or_true : (b : Bool) → (b || true) ≡ true
-or_true true = refl
-or_true false = refl
+same_page : (b : Bool) (page : PageState) → (if b then page else page) ≡ page
+same_page true page = refl
+same_page false page = refl
 
-or_false : (b : Bool) → (b || false) ≡ b
-or_false true = refl
-or_false false = refl
-
--- one more factory-bad block
-pub new_page-more : (g : Geometry) (slots : List Slot) (bad : List ℕ) (n block : ℕ)
-    → n < length bad → slice_get bad n ≡ Some block → first_page g block < length slots
-    → ((page : ℕ) → page_of (raw_len g) [] (slot_at slots page) ≡ new_page g (take n bad) page)
-    → (page : ℕ) → page_of (raw_len g) [] (slot_at (slice_set slots (first_page g block) (Some (factory_bad g))) page) ≡ new_page g (take (n + 1) bad) page
-new_page-more g slots bad n block more is_block there so_far page =
-    let at : ℕ = first_page g block in
-    let before : Bool = list_any (λ b. first_page g b == page) (take n bad) in
-    let now : list_any (λ b. first_page g b == page) (take (n + 1) bad) ≡ (before || (first_page g block == page)) =
-    list_any_more (λ b. first_page g b == page) bad n 0 more ∙ ap (λ b. before || (first_page g b == page)) (get_or_from_slice_get bad n block 0 is_block) in
+-- one more factory-bad block is marked, and no longer left to mark
+new_page-marked : (g : Geometry) (slots : List Slot) (block : ℕ) (left : List ℕ) → first_page g block < length slots → (page : ℕ)
+    → (if list_any (λ b. first_page g b == page) left
+    then page_of (raw_len g) [] (Some (factory_bad g))
+    else page_of (raw_len g) [] (slot_at (slice_set slots (first_page g block) (Some (factory_bad g))) page))
+    ≡ (if list_any (λ b. first_page g b == page) (block ∷ left)
+    then page_of (raw_len g) [] (Some (factory_bad g))
+    else page_of (raw_len g) [] (slot_at slots page))
+new_page-marked g slots block left there page =
     elim (eqb_tells page (first_page g block)) [
       | inl same ↦
           let here : (first_page g block == page) ≡ true = grind (arith, nat_tests) in
-          rw (now, slot_at-set slots (first_page g block) page (Some (factory_bad g)) there, same.0, here, or_true before) refl
+          rw (slot_at-set slots (first_page g block) page (Some (factory_bad g)) there, same.0, here)
+          (same_page (list_any (λ b. first_page g b == page) left) (page_of (raw_len g) [] (Some (factory_bad g))))
       | inr other ↦
           let elsewhere : (first_page g block == page) ≡ false = grind (arith, nat_tests) in
-          rw (now, slot_at-set slots (first_page g block) page (Some (factory_bad g)) there, other.0, elsewhere, or_false before) (so_far page)
+          rw (slot_at-set slots (first_page g block) page (Some (factory_bad g)) there, other.0, elsewhere) refl
     ]
 
 pub factory_bad-whole : (g : Geometry) → IsWholeSlot (raw_len g) (Some (factory_bad g))
 factory_bad-whole g = length-set (blank_cells (raw_len g)) g.page 0 ∙ length-replicate (raw_len g) 0xff
+
+-- new slots of which factory-bad blocks are marked, but for those that are left to mark
+pub record Marked (g : Geometry) (bad : List ℕ) (slots : List Slot) (left : List ℕ) : Type 0 where
+  pub count : length slots ≡ page_count g
+  pub whole : All (IsWholeSlot (raw_len g)) slots
+  pub blocks : All (λ block. block < g.blocks) left
+  pub pages : (page : ℕ) → (if list_any (λ b. first_page g b == page) left
+      then page_of (raw_len g) [] (Some (factory_bad g))
+      else page_of (raw_len g) [] (slot_at slots page)) ≡ new_page g bad page
+
+-- one more is marked
+pub one_marked : (g : Geometry) (bad : List ℕ) (slots : List Slot) (left : List ℕ) (block : ℕ) (rest : List ℕ) (page : Page) → Marked g bad slots left
+    → left ≡ block ∷ rest → page ≡ factory_bad g → Marked g bad (slice_set slots (first_page g block) (Some page)) rest
+one_marked g bad slots left block rest page so_far is_left is_bad =
+    let inside : block < g.blocks = All-head (λ b. b < g.blocks) block rest (subst (All (λ b. b < g.blocks)) is_left so_far.blocks) in
+    let there : first_page g block < length slots = rw so_far.count (first_page-there g block inside) in
+    rw is_bad
+    (record {
+      count = length-set slots (first_page g block) (Some (factory_bad g)) ∙ so_far.count;
+      whole = All-set (IsWholeSlot (raw_len g)) slots (first_page g block) (Some (factory_bad g)) (factory_bad-whole g) so_far.whole;
+      blocks = All-rest (λ b. b < g.blocks) block rest left is_left so_far.blocks;
+      pages = λ p. new_page-marked g slots block rest there p
+          ∙ ap (λ bs. if list_any (λ b. first_page g b == p) bs
+          then page_of (raw_len g) [] (Some (factory_bad g))
+          else page_of (raw_len g) [] (slot_at slots p)) (sym is_left)
+          ∙ so_far.pages p;
+    })

@@ -54,8 +54,7 @@ impl FlipLog {
         ensures flips { (p : ℕ) → flips_of self.new.flips p ≡ (if p == page then flips_of self.old.flips p ++ bits.now else flips_of self.old.flips p) }
         ensures room { self.old.room ≡ self.new.room + length bits.now }
     {
-        for n in 0..bits.len() {
-            let bit = *bits.get(n);
+        for &bit in bits {
             self.flips.push_reserved(FlippedBit { page, bit });
         }
     }

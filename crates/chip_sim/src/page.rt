@@ -49,8 +49,8 @@ fn turn_bits(cells: &mut [u8], bits: &BlockList)
     requires { All (λ bit. bit < 8 * length cells.old) bits.now }
     ensures { cells.new ≡ fold with_bit_turned cells.old bits.now }
 {
-    for n in 0..bits.len() {
-        turn_bit(cells, *bits.get(n));
+    for bit in bits {
+        turn_bit(cells, *bit);
     }
 }
 

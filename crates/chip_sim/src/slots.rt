@@ -47,8 +47,8 @@ pub fn new_slots(
 {
     let pages_per_block = g.pages_per_block as usize;
     let mut slots = empty_slots(alloc, g.blocks as usize * pages_per_block)?;
-    for n in 0..bad.len() {
-        let first_page = *bad.get(n) as usize * pages_per_block;
+    for &block in bad {
+        let first_page = block as usize * pages_per_block;
         slots[first_page] = Some(factory_bad_page(alloc, g)?);
     }
     Ok(slots)
