@@ -66,6 +66,10 @@ programs_left (IsAttaching scan) = 0
 programs_left Resting = 0
 programs_left (Working task) = programs_of task
 
+-- the greatest page room: what an operation in flight may still program fits beside it in 32 bits
+abbrev pub most_page_room : ℕ
+most_page_room = 4294967288
+
 -- an attach knows whether the chip is quiet
 abbrev pub KnowsQuiet : {W : Type 0} → ChipState W → Phase → Type 0
 KnowsQuiet s (IsAttaching scan) = scan.quiet_now ≡ is_quiet s.geometry s.pages

@@ -1,5 +1,5 @@
 // One chip.
-ghost use Rattle.std.specs.Prelude.{◌≡◌, ◌≤◌, ◌+◌, length, None, true, option_map, IsSome, IfSome, IfOk, OnOk, OnErr, is_some};
+ghost use Rattle.std.specs.Prelude.{◌≡◌, ◌≤◌, ◌+◌, min, length, None, true, option_map, IsSome, IfSome, IfOk, OnOk, OnErr, is_some};
 ghost use Rattle.nand_model.specs.Chip.{Complete, after_trace, flip_events, happens};
 ghost use Rattle.chip_paths.specs.ChipRun.{name_of, bad_blocks_in};
 ghost use Rattle.nand_model.specs.Counts.{HasRisen};
@@ -9,7 +9,7 @@ ghost use Rattle.nand_model.specs.declared.words.Fairness.TheVariants.{Plain};
 ghost use Rattle.nand_model.specs.Flips.{FitsBits};
 ghost use Rattle.chip_paths.specs.Stage.{Rests, failure_told, finished_in, first_stage, is_attached, is_resting, is_working, pending_note_after, note_of_attach, stage_after, stage_begun, stage_event, stage_statistics, stage_table};
 ghost use Rattle.chip_core.specs.Begin.{CanBegin};
-ghost use Rattle.chip_core.specs.Phase.{AttachFits, KnowsQuiet, KnowsQuiet-prop, PhaseFits, PhaseFits-prop, pending_note_in, phase_stage, programs_left};
+ghost use Rattle.chip_core.specs.Phase.{AttachFits, KnowsQuiet, KnowsQuiet-prop, PhaseFits, PhaseFits-prop, most_page_room, pending_note_in, phase_stage, programs_left};
 ghost use Rattle.chip_core.specs.Markers.{marker_page};
 ghost use Rattle.chip_core.specs.declared.phase.Phase.TheVariants.{Attaching, Resting};
 
@@ -23,6 +23,9 @@ use nand_iface::{Event, Fairness, Flash, Note, Op, Origin, PageCode, Reply, Stat
 use nand_model::{BlockList, Geometry};
 use std::alloc::{AllocError, Global};
 use std::mem;
+
+/// The greatest page room: what an operation in flight may still program fits beside it in 32 bits.
+const MOST_PAGE_ROOM: u32 = 4_294_967_288;
 
 /// A chip with its attach or its operation, which is held from its begin to its answer. It has no tables on flash.
 ///
@@ -42,6 +45,7 @@ pub struct Chip<F: Flash, C: PageCode> {
     ghost without_tables: { (F.state flash).geometry.bbt ≡ 0 },
     ghost quiet: { KnowsQuiet (F.state flash) phase } by { KnowsQuiet-prop (F.state flash) phase },
     ghost fits: { PhaseFits known.geometry known.sums phase } by { PhaseFits-prop known.geometry known.sums phase },
+    ghost few: { page_room ≤ most_page_room },
     ghost room: { page_room + programs_left phase ≤ F.room flash },
 }
 
@@ -88,9 +92,10 @@ impl<F: Flash, C: PageCode> Chip<F, C> {
         }
     }
 
-    /// Makes the page room at least `pages` and the bits at least `bits`, and leaves all else as it is. Where memory runs out, neither is less than before.
+    /// Makes the page room at least `pages`, up to 2^32 - 8 pages, and the bits at least `bits`, and leaves all else as it is. Where memory runs out, neither
+    /// is less than before.
     pub fn reserve(&mut self, pages: u32, bits: u32) -> Result<(), AllocError>
-        ensures page_room { OnOk result (pages ≤ chip_page_room self.new) }
+        ensures page_room { OnOk result (min pages most_page_room ≤ chip_page_room self.new) }
         ensures bits { OnOk result (bits ≤ chip_bits self.new) }
         ensures no_less { chip_page_room self.old ≤ chip_page_room self.new }
         ensures no_fewer_bits { chip_bits self.old ≤ chip_bits self.new }
@@ -98,11 +103,9 @@ impl<F: Flash, C: PageCode> Chip<F, C> {
         ensures stage { chip_stage self.new ≡ chip_stage self.old }
         ensures pending_note { chip_pending_note self.new ≡ chip_pending_note self.old }
     {
-        let page_room = pages.max(self.page_room);
-        let room = page_room
-            .checked_add(self.phase.programs())
-            .ok_or(AllocError)?;
-        self.flash.reserve(room, bits)?;
+        let page_room = pages.min(MOST_PAGE_ROOM).max(self.page_room);
+        self.flash
+            .reserve(page_room + self.phase.programs(), bits)?;
         self.page_room = page_room;
         Ok(())
     }
@@ -194,11 +197,7 @@ impl<F: Flash, C: PageCode> Chip<F, C> {
     {
         self.known.expect(op)?;
         let task = begin(self.alloc, &self.code, &self.known, parts, op)?;
-        let room = self
-            .page_room
-            .checked_add(task.programs())
-            .ok_or(AllocError)?;
-        self.flash.reserve(room, 0)?;
+        self.flash.reserve(self.page_room + task.programs(), 0)?;
         self.phase = Phase::Working(task);
         Ok(())
     }

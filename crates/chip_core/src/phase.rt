@@ -1,5 +1,5 @@
 // What a chip is at.
-ghost use Rattle.std.specs.Prelude.{◌≡◌};
+ghost use Rattle.std.specs.Prelude.{◌≡◌, ◌≤◌};
 
 use crate::scan::Scan;
 use crate::task::Task;
@@ -20,7 +20,8 @@ impl Phase {
 
     /// The pages that may still be programmed.
     pub fn programs(&self) -> u32
-        ensures { result ≡ programs_left self.now }
+        ensures count { result ≡ programs_left self.now }
+        ensures few { result ≤ 7 }
     {
         match self {
             Phase::Attaching(_) => 0,

@@ -67,7 +67,8 @@ impl Task {
 
     /// The pages that may still be programmed.
     pub fn programs(&self) -> u32
-        ensures { result ≡ programs_of self.now }
+        ensures count { result ≡ programs_of self.now }
+        ensures few { result ≤ 7 }
     {
         match self {
             Task::Programming { .. } => 1,

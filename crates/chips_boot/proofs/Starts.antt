@@ -1,6 +1,6 @@
 -- A controller can be started on a plan.
 use Rattle.std.proofs.Common.{◌≡◌, ℕ, zero, suc, ◌+◌, ◌-◌, ◌*◌, ◌<◌, ◌≤◌, inl, inr, Bool, true, false, List, [], ◌∷◌, ◌++◌, length, Some, None, refl, ap, sym, subst, ◌∙◌, arith, length-append}
-use Rattle.std.specs.Prelude.{All, codes, flat_map, if◌then◌else◌, map, option_map, unwrap_or, slice_get, slice_index_or, sum_by, ◌==◌}
+use Rattle.std.specs.Prelude.{All, codes, decimal, flat_map, if◌then◌else◌, map, option_map, unwrap_or, slice_get, slice_index_or, sum_by, ◌==◌}
 use Rattle.std.proofs.Math.Nat.{sub-zero}
 use Rattle.std.proofs.lemmas.Bool.{le-ltb}
 use Rattle.std.proofs.lemmas.List.Elements.{All-cons, All-head, All-nil, All-tail, All-weaker}
@@ -25,12 +25,12 @@ use Rattle.report_model.proofs.Checked.{this_passes}
 use Rattle.command_model.specs.Runnable.{CanRun, IsDeviceSize}
 use Rattle.tool_steps.proofs.Scripts.{cost_of-short}
 use Rattle.tool_steps.proofs.Ends.{all_troubled}
-use Rattle.several_chip_plan.specs.SeveralChips.{IsChip, IsCommand, IsFlip, IsPageOffset, IsPlan, IsSeveralChipPlan, blocks_of, chip_of, chip_text, data_text, command_of, command_text, flip_text, geometry_of, plan_text, schedule_text, session_text, sizes_of}
+use Rattle.several_chip_plan.specs.SeveralChips.{IsChip, IsCommand, IsFlip, IsPageOffset, IsPlan, IsSeveralChipPlan, blocks_of, chip_of, chip_text, data_text, command_of, command_text, flip_text, geometry_of, plan_text, schedule_text, session_text, sizes_of, spaced_number}
 use Rattle.several_chip_plan.specs.declared.lines.ChipLines.{ChipLines}
 use Rattle.several_chip_plan.specs.declared.lines.CommandLine.{CommandLine}
 use Rattle.several_chip_plan.specs.declared.lines.CommandLine.TheVariants.{RawWrite, NandWrite, RawDump, NandDump, NandDumpAt, FlashErase, IsBad, Stats}
 use Rattle.several_chip_plan.specs.declared.lines.PlanLines.{PlanLines}
-use Rattle.run_model.specs.Start.{CanRunBoot, CanStart, IsOfDevice, IsOnChip, IsOnFlash, IsPlain}
+use Rattle.run_model.specs.Start.{AreFewFlips, CanRunBoot, CanStart, IsOfDevice, IsOnChip, IsOnFlash, IsPlain}
 use Rattle.chips_boot.specs.Ready.{the_boot, the_chips}
 use Rattle.chips_boot.proofs.Devices.{length-parts_by, part_at, part_for, parts_by}
 use Rattle.chips_boot.proofs.Sessions.{session_for, sessions_by}
@@ -326,11 +326,55 @@ flips_on_flash plan legal =
     subst (All (IsOnFlash (the_chips plan))) (sym (flips_of-all plan.flips))
     (All-weaker (IsFlip plan.chips) (IsOnFlash (the_chips plan)) (flip_on_flash plan.chips legal.chips) plan.flips legal.flips)
 
+-- a text of pieces, none of them empty, is at least as long as there are pieces
+long_enough : {A : Type 0} (text : A → List ℕ) (xs : List A) → ((x : A) → 1 ≤ length (text x)) → length xs ≤ length (flat_map text xs)
+long_enough text [] some = omega arith
+long_enough text (x ∷ xs) some = omega (arith, long_enough text xs some, some x, length-append (text x) (flat_map text xs))
+
+-- and than each of them
+each_within : {A : Type 0} (text : A → List ℕ) (xs : List A) (most : ℕ) → length (flat_map text xs) ≤ most → All (λ x. length (text x) ≤ most) xs
+each_within text [] most h = All-nil (λ x. length (text x) ≤ most)
+each_within text (x ∷ xs) most h =
+    let both = length-append (text x) (flat_map text xs) in
+    All-cons (λ y. length (text y) ≤ most) x xs (omega (arith, both, h)) (each_within text xs most (omega (arith, both, h)))
+
+spaced-some : (n : ℕ) → 1 ≤ length (spaced_number n)
+spaced-some n = omega (arith, length-append (codes " ") (decimal n))
+
+-- the line of a flip is at least as long as it has bits
+flip-long : (flip : Flip) → length flip.bits + 1 ≤ length (flip_text flip)
+flip-long flip =
+    let numbers : List ℕ = flip.page ∷ flip.before ∷ flip.bits in
+    let many = long_enough spaced_number (flip.page ∷ flip.before ∷ flip.bits) spaced-some in
+    let outer = length-append (codes "flip 0." ++ decimal flip.chip ++ flat_map spaced_number (flip.page ∷ flip.before ∷ flip.bits)) (10 ∷ []) in
+    let inner = length-append (codes "flip 0." ++ decimal flip.chip) (flat_map spaced_number (flip.page ∷ flip.before ∷ flip.bits)) in
+    omega (arith, many, outer, inner)
+
+-- the flips of a short text are few
+few_flips : (flips : List Flip) → length (flat_map flip_text flips) ≤ 8192 → AreFewFlips flips
+few_flips flips short = record {
+  count = omega (arith, long_enough flip_text flips (λ flip. omega (arith, flip-long flip)));
+  bits = All-weaker (λ (flip : Flip). length (flip_text flip) ≤ 8192) (λ (flip : Flip). length flip.bits ≤ 32768)
+      (λ flip h. omega (arith, h, flip-long flip)) flips (each_within flip_text flips 8192 short);
+}
+
 -- the text of the sessions is within the text of the plan
 sessions_short : (a sessions schedule : List ℕ) → length sessions ≤ length (a ++ sessions ++ schedule)
 sessions_short a sessions schedule =
     let outer = length-append (a ++ sessions) schedule in
     let inner = length-append a sessions in omega (arith, outer, inner)
+
+-- and so is that of the flips
+flips_short : (a flips sessions schedule : List ℕ) → length flips ≤ length (a ++ flips ++ sessions ++ schedule)
+flips_short a flips sessions schedule =
+    let outer = length-append (a ++ flips ++ sessions) schedule in
+    let middle = length-append (a ++ flips) sessions in
+    let inner = length-append a flips in omega (arith, outer, middle, inner)
+
+-- the text of a plan up to its flips
+abbrev text_to_flips : PlanLines → List ℕ
+text_to_flips plan =
+    line (codes "nandlab 1") ++ line (codes "controller") ++ flat_map chip_text plan.chips ++ data_text plan.payload ++ line (codes "boot")
 
 -- the text of a plan up to its sessions
 abbrev text_before : PlanLines → List ℕ
@@ -352,6 +396,8 @@ can_start bytes plan h =
     let short = h.short in
     let is_text = ap length h.text in
     let within : length (flat_map session_text plan.sessions) ≤ length (plan_text plan) = sessions_short (text_before plan) (flat_map session_text plan.sessions) (schedule_text plan.schedule) in
+    let flips_within : length (flat_map flip_text plan.flips) ≤ length (plan_text plan) = flips_short (text_to_flips plan) (flat_map flip_text plan.flips)
+    (flat_map session_text plan.sessions) (schedule_text plan.schedule) in
     let many = length-starts plan.chips in
     let few = legal.chip_count.1 in
     record {
@@ -359,6 +405,7 @@ can_start bytes plan h =
       plain = without_tables plan.chips;
       parts = parts_on_chips plan.chips plan.payload legal.chips;
       flips = flips_on_flash plan legal;
+      few_flips = subst AreFewFlips (sym (flips_of-all plan.flips)) (few_flips plan.flips (omega (arith, short, is_text, flips_within)));
       uncut = refl;
       devices = all_of_sessions plan.chips plan.payload legal.chips legal.payload_fits (IsOfDevice (devices_by plan.chips)) (λ command good. good.of_device) 0 plan.sessions legal.commands;
       runnable = can_run plan legal;

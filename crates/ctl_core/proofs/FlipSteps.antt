@@ -1,17 +1,19 @@
 -- The flips that are due, one after the other, and the room that they take.
 use Rattle.std.proofs.Common.{◌≡◌, ◌<◌, ◌≤◌, ◌+◌, arith, ℕ, zero, suc, Bool, true, false, cond, List, [], ◌∷◌, length, drop, map, Some, refl, ap, sym, ◌∙◌, subst, get_or, add-one}
-use Rattle.std.specs.Prelude.{slice_get, filter, fold, option_and_then, All, IsSome}
+use Rattle.std.specs.Prelude.{slice_get, filter, fold, option_and_then, All, IsSome, not}
 use Rattle.std.proofs.Math.ListN.{set}
 use Rattle.std.proofs.Math.Seq.{drop-cons}
 use Rattle.std.proofs.lemmas.Bool.{eq-eqb, ne_eqb}
 use Rattle.std.proofs.lemmas.List.{length-drop}
-use Rattle.std.proofs.lemmas.List.Sums.{sum_by-cons}
+use Rattle.std.proofs.lemmas.List.Filters.{length-filter_both, sum_by-filter_both}
+use Rattle.std.proofs.lemmas.List.Sums.{sum_by-cons, sum_by-le}
 use Rattle.std.proofs.lemmas.Option.{slice_get_within, get_or_from_slice_get}
 use Rattle.nand_model.specs.Flips.{is_due, due_flips}
 use Rattle.nand_iface.specs.declared.flash.Flash.{Ghosts}
 use Rattle.nand_model.specs.Chip.{PageEvent}
 use Rattle.nand_model.specs.declared.words.Flip.{Flip}
 use Rattle.chip_paths.specs.Stage.{stage_event}
+use Rattle.run_model.specs.Start.{AreFewFlips}
 use Rattle.ctl_core.specs.declared.board.Slot.{Slot}
 use Rattle.ctl_core.specs.Board.{HasRoom, slot_state}
 use Rattle.ctl_core.specs.Flips.{CanFlip, bit_count, slot_flip, slot_flips_before}
@@ -58,6 +60,15 @@ counted_here flips event n flip at is =
     let here = due_here flips event n flip at is in
     let longer : length (flip ∷ due_flips (drop (n + 1) flips) event) ≡ 1 + length (due_flips (drop (n + 1) flips) event) = omega arith in
     (ap length here ∙ longer, ap bit_count here ∙ sum_by-cons (λ (f : Flip). length f.bits) flip (due_flips (drop (n + 1) flips) event))
+
+-- flips that are due are few where all flips are
+pub few_due : (flips : List Flip) (event : ℕ) → AreFewFlips flips
+    → (length (due_flips flips event) ≤ 65536) × (bit_count (due_flips flips event) ≤ 2147483648)
+few_due flips event few =
+    let kept = length-filter_both (is_due event) (λ flip. not (is_due event flip)) (λ flip. refl) flips in
+    let turned = sum_by-filter_both (is_due event) (λ flip. not (is_due event flip)) (λ flip. refl) (λ (flip : Flip). length flip.bits) flips in
+    let all = sum_by-le (λ (flip : Flip). length flip.bits) 32768 flips few.bits in
+    (omega (arith, kept, few.count), omega (arith, turned, all, few.count))
 
 -- what holds of all items once one of them is changed
 all_set : {A : Type 0} (P Q : A → Type 0) (xs : List A) (k : ℕ) (x new : A) → slice_get xs k ≡ Some x → (P x → Q new) → ((y : A) → P y → Q y) → All P xs

@@ -3,6 +3,7 @@ ghost use Rattle.std.specs.Prelude.{◌≡◌, ◌≤◌, ◌<◌, ◌+◌, ◌-
 ghost use Rattle.nand_model.specs.Chip.{ChipState, PageEvent};
 ghost use Rattle.chip_paths.specs.ChipRun.{name_of};
 ghost use Rattle.chip_paths.specs.Stage.{stage_event, failure_told, finished_in, is_attached, is_resting, is_working};
+ghost use Rattle.run_model.specs.Start.{AreFewFlips};
 ghost use Rattle.chip_core.specs.Begin.{CanBegin};
 ghost use Rattle.chip_core.specs.Chip.{chip_stage};
 ghost use Rattle.ctl_core.specs.SlotState.{SlotState, is_held_by, after_event, after_begin, after_answer, with_note_written, failure_notes, pending_notes, noted};
@@ -148,6 +149,7 @@ impl<F: Flash, C: PageCode> Board<F, C> {
         requires room { 2 ≤ self.old.notes.room }
         requires number { self.old.events < 2 ^ 32 - 1 }
         requires flips { All (CanFlip (slot_states self.old)) faults.now }
+        requires few_flips { AreFewFlips faults.now }
         ensures did { (c : SlotState F.FaultState) (e : PageEvent) →
             slice_get (slot_flips_before F.fault_model faults.now (self.old.events + 1) (slot_states self.old)) k ≡ Some c → stage_event c.stage ≡ Some e →
             OnOk result (DidEvent faults.now k c e self.old self.new) }

@@ -1,8 +1,9 @@
 // The flips that are due before an event.
-ghost use Rattle.std.specs.Prelude.{◌≡◌, ◌+◌, ℕ, All, length, map, OnOk, OnErr, IfSome};
+ghost use Rattle.std.specs.Prelude.{◌≡◌, ◌≤◌, ◌+◌, ℕ, All, length, map, OnOk, OnErr};
 ghost use Rattle.ctl_core.specs.Board.{HasRoom, slot_state};
 ghost use Rattle.ctl_core.specs.Flips.{CanFlip, bit_count, slot_flip, slot_flips_before};
 ghost use Rattle.nand_model.specs.Flips.{due_flips};
+ghost use Rattle.run_model.specs.Start.{AreFewFlips};
 
 use crate::board::Slot;
 use fault_plan::{Faults, Flip};
@@ -15,7 +16,8 @@ pub fn make_due_flips<F: Flash, C: PageCode>(
     faults: &Faults,
     event: u32,
 ) -> Result<(), AllocError>
-    requires { All (CanFlip (map slot_state slots.old.items)) faults.now }
+    requires there { All (CanFlip (map slot_state slots.old.items)) faults.now }
+    requires few { AreFewFlips faults.now }
     ensures made { OnOk result (map slot_state slots.new.items ≡ slot_flips_before F.fault_model faults.now event (map slot_state slots.old.items)) }
     ensures no_memory { OnErr result (map slot_state slots.new.items ≡ map slot_state slots.old.items) }
 {
@@ -30,30 +32,34 @@ fn reserve_for<F: Flash, C: PageCode>(
     faults: &Faults,
     event: u32,
 ) -> Result<(), AllocError>
+    requires { AreFewFlips faults.now }
     ensures room { OnOk result (All (HasRoom (length (due_flips faults.now event)) (bit_count (due_flips faults.now event))) slots.new.items) }
     ensures same { map slot_state slots.new.items ≡ map slot_state slots.old.items }
 {
-    let (pages, bits) = due_counts(faults, event).ok_or(AllocError)?;
+    let (pages, bits) = due_counts(faults, event);
     for k in 0..slots.len() {
         slots[k].chip.reserve(pages, bits)?;
     }
     Ok(())
 }
 
-// How many flips are due before an event, and how many bits they turn. None comes only where one of these numbers passes 32 bits.
-fn due_counts(faults: &Faults, event: u32) -> Option<(u32, u32)>
-    ensures { IfSome result (λ counts. (counts.0 ≡ length (due_flips faults.now event)) × (counts.1 ≡ bit_count (due_flips faults.now event))) }
+// How many flips are due before an event, and how many bits they turn.
+fn due_counts(faults: &Faults, event: u32) -> (u32, u32)
+    requires { AreFewFlips faults.now }
+    ensures pages { result.0 ≡ length (due_flips faults.now event) }
+    ensures bits { result.1 ≡ bit_count (due_flips faults.now event) }
+    ensures few { result.0 ≤ 65536 }
 {
     let mut pages = 0u32;
     let mut bits = 0u32;
     for n in 0..faults.len() {
         let one = faults.flip(n);
         if one.before == event {
-            pages = pages.checked_add(1)?;
-            bits = bits.checked_add(u32::try_from(one.bits.len()).ok()?)?;
+            pages += 1;
+            bits += one.bits.len() as u32;
         }
     }
-    Some((pages, bits))
+    (pages, bits)
 }
 
 // Makes the flips that are due before an event, in the order of their lines.

@@ -1,5 +1,5 @@
 -- The boots of the tests can be started on two small chips.
-use Rattle.std.proofs.Common.{◌≡◌, ◌<◌, ◌≤◌, arith, ℕ, zero, suc, true, false, List, [], ◌∷◌, Some, refl, ap, sym, subst, subst₂, get_or}
+use Rattle.std.proofs.Common.{◌≡◌, ◌<◌, ◌≤◌, arith, ℕ, zero, suc, true, false, List, [], ◌∷◌, Some, refl, ap, sym, subst, subst₂, get_or, length}
 use Rattle.std.specs.Prelude.{slice_get, All}
 use Rattle.nand_model.specs.Flips.{FitsBits}
 use Rattle.nand_model.specs.Chip.{ChipState}
@@ -87,13 +87,14 @@ module _ {W : Type 0} where
         (x.0, x.1, subst (λ g. FitsBits g flip.page flip.bits) (sym x.2) (record { page_there = f.page; bits_there = f.bits_there }))
 
     -- a boot of these sessions can be started
-    can_start : (flips : List Flip) (sessions : List (ℕ × List Command)) → All IsSmallFlip flips → AllAre (IsOfDevice small_parts) sessions
+    can_start : (flips : List Flip) (sessions : List (ℕ × List Command)) → All IsSmallFlip flips → length flips ≤ 65536 → AllAre (IsOfDevice small_parts) sessions
         → CanRunBoot (boot_of flips sessions) pair → AreAscending sessions → boot_cost (boot_of flips sessions) pair ≤ 16777216 → CanStart (boot_of flips sessions) pair
-    can_start flips sessions small devices runnable ascending cheap = record {
+    can_start flips sessions small few devices runnable ascending cheap = record {
       few = omega arith;
       plain = all_two IsPlain (sized s) (sized t) refl refl;
       parts = all_two (IsOnChip pair) (first_block 0) (first_block 1) (sized s, refl, (omega arith, omega arith)) (sized t, refl, (omega arith, omega arith));
       flips = λ k d h. on_flash (get_or flips k d) (small k d h);
+      few_flips = record { count = few; bits = λ k d h. (small k d h).few };
       uncut = refl;
       devices = devices;
       runnable = runnable;
@@ -102,7 +103,7 @@ module _ {W : Type 0} where
     }
 
     small_can : CanStart (boot_of [] small_sessions) pair
-    small_can = can_start [] small_sessions (λ k d h. absurd (omega arith))
+    small_can = can_start [] small_sessions (λ k d h. absurd (omega arith)) (omega arith)
         (small_all (IsOfDevice small_parts) (λ dev h. device dev h (erasing dev) refl refl) (λ dev h. device dev h (asking dev) refl refl))
         (small_all (λ c. CanRun (sizes_of (boot_of [] small_sessions) pair c) c) (λ dev h. erases) (λ dev h. asks)) ascending (omega arith)
       where
@@ -111,8 +112,8 @@ module _ {W : Type 0} where
         device (suc zero) h command e n = (first_block 1, ap (part_of small_parts) e, n)
         device (suc (suc dev)) h command e n = absurd (omega arith)
 
-    reading_can : (flips : List Flip) → All IsSmallFlip flips → CanStart (boot_of flips reading_sessions) pair
-    reading_can flips small = can_start flips reading_sessions small
+    reading_can : (flips : List Flip) → All IsSmallFlip flips → length flips ≤ 65536 → CanStart (boot_of flips reading_sessions) pair
+    reading_can flips small few = can_start flips reading_sessions small few
         (reading_all (IsOfDevice small_parts) (first_block 0, refl, refl))
         (reading_all (λ c. CanRun (sizes_of (boot_of flips reading_sessions) pair c) c) dumps) alone (omega arith)
 
@@ -126,5 +127,6 @@ on_pair (s ∷ t ∷ u ∷ rest) boot h can = absurd h
 pub small_starts : {W : Type 0} (starts : List (ChipState W)) → ArePairOfSmall starts → CanStart (boot_of [] small_sessions) starts
 small_starts starts h = on_pair starts (boot_of [] small_sessions) h (λ s t. small_can s t)
 
-pub reading_starts : {W : Type 0} (starts : List (ChipState W)) (flips : List Flip) → ArePairOfSmall starts → All IsSmallFlip flips → CanStart (boot_of flips reading_sessions) starts
-reading_starts starts flips h small = on_pair starts (boot_of flips reading_sessions) h (λ s t. reading_can s t flips small)
+pub reading_starts : {W : Type 0} (starts : List (ChipState W)) (flips : List Flip) → ArePairOfSmall starts → All IsSmallFlip flips → length flips ≤ 65536
+    → CanStart (boot_of flips reading_sessions) starts
+reading_starts starts flips h small few = on_pair starts (boot_of flips reading_sessions) h (λ s t. reading_can s t flips small few)

@@ -1,5 +1,5 @@
 -- Boots of two chips with one device each: two sessions that erase and ask, and one that dumps a page.
-use Rattle.std.specs.Prelude.{◌≡◌, ◌<◌, ℕ, true, false, List, [], ◌∷◌, All, refl}
+use Rattle.std.specs.Prelude.{◌≡◌, ◌<◌, ℕ, true, false, List, [], ◌∷◌, All, refl, ◌≤◌, length}
 use Rattle.nand_model.specs.Chip.{ChipState}
 use Rattle.nand_model.specs.Partitions.{Partitions}
 use Rattle.nand_model.specs.declared.geometry.Geometry.{Geometry}
@@ -55,6 +55,7 @@ pub record IsSmallFlip (flip : Flip) : Type 0 where
   pub chip : flip.chip < 2
   pub page : flip.page < 512
   pub bits_there : All (λ bit. bit < 16896) flip.bits
+  pub few : length flip.bits ≤ 32768
 
 -- a boot of these flips and sessions
 abbrev pub boot_of : List Flip → List (ℕ × List Command) → Boot

@@ -1,5 +1,5 @@
 // Flips between the events of a controller, seen by dumps and attach notes.
-ghost use Rattle.std.specs.Prelude.{All, IfOk};
+ghost use Rattle.std.specs.Prelude.{◌≡◌, ◌≤◌, All, IfOk, length};
 ghost use Rattle.ctl_tests.specs.Small.{IsSmallFlip};
 
 use crate::driving::{attach_all, take_turn};
@@ -37,9 +37,7 @@ fn flip_of(alloc: Global, one: Turned) -> Result<Flip, Fail>
         return Err("there is no such bit".into());
     }
     let mut bits = BlockList::new(alloc);
-    if let Err((_, refused)) = bits.push(one.bit) {
-        return Err(refused.into());
-    }
+    bits.append(one.bit)?;
     Ok(Flip {
         chip: one.chip,
         page: one.page,
@@ -50,7 +48,8 @@ fn flip_of(alloc: Global, one: Turned) -> Result<Flip, Fail>
 
 // The flips of these bits, in this order.
 fn faults_of(alloc: Global, flips: &[Turned]) -> Result<Faults, Fail>
-    ensures { IfOk result (λ faults. All IsSmallFlip faults) }
+    ensures small { IfOk result (λ faults. All IsSmallFlip faults) }
+    ensures count { IfOk result (λ faults. length faults ≡ length flips.now) }
 {
     let mut faults = Faults::new(alloc);
     for one in flips {
@@ -91,7 +90,9 @@ fn tells(history: &History, quiet: [bool; 2], seen: [u8; 3]) -> bool {
 }
 
 // Attaches two chips of eight blocks, by events 1 to 8 and 9 to 16, and dumps the first page of chip 0 by events 17, 18 and 19. Whether that is told.
-fn shows(alloc: Global, flips: &[Turned], quiet: [bool; 2], seen: [u8; 3]) -> Result<bool, Fail> {
+fn shows(alloc: Global, flips: &[Turned], quiet: [bool; 2], seen: [u8; 3]) -> Result<bool, Fail>
+    requires { length flips.now ≤ 65536 }
+{
     let mut core = reading_core(alloc, faults_of(alloc, flips)?)?;
     attach_all(&mut core)?;
     for _ in 0..9u32 {

@@ -1,5 +1,5 @@
 // A controller of two small chips with one device each.
-ghost use Rattle.std.specs.Prelude.{◌≡◌, ◌<◌, ◌++◌, ◌∷◌, [], All, length, map, IfOk, OnOk};
+ghost use Rattle.std.specs.Prelude.{◌≡◌, ◌<◌, ◌≤◌, ◌++◌, ◌∷◌, [], All, length, map, IfOk, OnOk};
 ghost use Rattle.chip_sim.specs.State.{sim_state};
 ghost use Rattle.tool_steps.specs.Boot.{with_command};
 ghost use Rattle.ctl_tests.specs.Small.{IsSmall, IsSmallFlip, ArePairOfSmall, asking, boot_of, dumping, erasing, reading_sessions, small_parts, small_sessions, small_sizes};
@@ -23,7 +23,8 @@ pub fn small_core(alloc: Global) -> Result<Core<SimChip, EccPage>, Fail> {
 
 /// A controller of the same chips and devices with these flips. Session 0 dumps the first page of device 0 three times, by its cells alone.
 pub fn reading_core(alloc: Global, faults: Faults) -> Result<Core<SimChip, EccPage>, Fail>
-    requires { All IsSmallFlip faults }
+    requires small { All IsSmallFlip faults }
+    requires few { length faults ≤ 65536 }
 {
     let boot = reading_boot(alloc, faults)?;
     let flashes = small_flashes(alloc)?;
@@ -57,19 +58,9 @@ fn small_flashes(alloc: Global) -> Result<FlashList<SimChip>, Fail>
     ensures { IfOk result (λ flashes. ArePairOfSmall (map sim_state flashes)) }
 {
     let mut flashes = FlashList::new(alloc);
-    put(&mut flashes, small_chip(alloc)?)?;
-    put(&mut flashes, small_chip(alloc)?)?;
+    flashes.append(small_chip(alloc)?)?;
+    flashes.append(small_chip(alloc)?)?;
     Ok(flashes)
-}
-
-// Adds a chip.
-fn put(flashes: &mut FlashList<SimChip>, chip: SimChip) -> Result<(), AllocError>
-    ensures { OnOk result (flashes.new ≡ flashes.old ++ chip ∷ []) }
-{
-    match flashes.push(chip) {
-        Ok(()) => Ok(()),
-        Err((_, refused)) => Err(refused),
-    }
 }
 
 // One device of one block on each chip.

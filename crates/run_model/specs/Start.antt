@@ -38,12 +38,18 @@ abbrev pub IsOnFlash : {W : Type 0} → List (ChipState W) → Flip → Type 0
 IsOnFlash {W} starts flip = (s : ChipState W) × (slice_get starts flip.chip ≡ Some s)
     × FitsBits s.geometry flip.page flip.bits
 
+-- flips that the room of a chip can hold at once: at most 65,536, of at most 32,768 bits each
+pub record AreFewFlips (flips : List Flip) : Type 0 where
+  pub count : length flips ≤ 65536
+  pub bits : All (λ (flip : Flip). length flip.bits ≤ 32768) flips
+
 -- a controller of chips in these states can be started on its part of a boot
 pub record CanStart {W : Type 0} (boot : Boot) (starts : List (ChipState W)) : Type 0 where
   pub few : length starts ≤ 8
   pub plain : All IsPlain starts
   pub parts : All (IsOnChip starts) boot.partitions.parts
   pub flips : All (IsOnFlash starts) boot.flips
+  pub few_flips : AreFewFlips boot.flips
   pub uncut : boot.cut ≡ None
   pub devices : All (λ (s : ℕ × List Command). All (IsOfDevice boot.partitions) s.1) boot.sessions
   pub runnable : CanRunBoot boot starts

@@ -1,27 +1,37 @@
-use Rattle.std.proofs.Common.{◌≡◌, ◌+◌, ℕ, arith, length, drop, Some, Result, Ok, Err, ap, sym, ◌∙◌}
-use Rattle.std.specs.Result.{OkIff, result_ok}
+use Rattle.std.proofs.Common.{◌≡◌, ◌≤◌, ◌+◌, arith, length, drop, ap, sym, ◌∙◌}
 use Rattle.std.proofs.lemmas.Bool.{eq-eqb, ne_eqb}
 use Rattle.nand_model.specs.Flips.{due_flips}
 use Rattle.ctl_core.specs.Flips.{bit_count}
-use Rattle.ctl_core.proofs.FlipSteps.{counted_here, due_later}
+use Rattle.ctl_core.proofs.FlipSteps.{counted_here, due_later, few_due}
 use Rattle.ctl_core.proofs.flips.due_counts.Goals as goal
-use Rattle.ctl_core.proofs.flips.due_counts.Goals.{then-one-event+in_ok-pages+in_ok-ok+in_ok-bits, else-one-event}
+use Rattle.ctl_core.proofs.flips.due_counts.Goals.{then-one-event, else-one-event}
 
--- the number that was converted
-converted : {E : Type 0} (r : Result ℕ E) (P : Type 0) (n v : ℕ) → OkIff r P n → Some v ≡ result_ok r → v ≡ n
-converted (Ok x) P n v h e = let same : v ≡ x = cc in same ∙ h.1
-converted (Err e) P n v h f = cc
+pub overflow_add-pages : goal.overflow_add-pages
+overflow_add-pages c =
+    let few = few_due c.args.faults.now c.args.event c.requires in
+    let here = counted_here c.args.faults.now c.args.event c.loop-n.n c.flip-one.result.now c.flip-one.ensures (eq-eqb _ _ c.if-one-event.true) in
+    omega (arith, few.0, here.0, c.loop-n.invariant.pages_so_far)
+
+pub overflow_cast-bits : goal.overflow_cast-bits
+overflow_cast-bits c =
+    let few = few_due c.args.faults.now c.args.event c.requires in
+    let here = counted_here c.args.faults.now c.args.event c.loop-n.n c.flip-one.result.now c.flip-one.ensures (eq-eqb _ _ c.if-one-event.true) in
+    omega (arith, few.1, here.1, c.len.ensures, c.loop-n.invariant.bits_so_far)
+
+pub overflow_add-bits : goal.overflow_add-bits
+overflow_add-bits c =
+    let few = few_due c.args.faults.now c.args.event c.requires in
+    let here = counted_here c.args.faults.now c.args.event c.loop-n.n c.flip-one.result.now c.flip-one.ensures (eq-eqb _ _ c.if-one-event.true) in
+    omega (arith, few.1, here.1, c.len.ensures, c.loop-n.invariant.bits_so_far)
 
 pub loop-n-preserved : goal.loop-n-preserved
 loop-n-preserved c =
     elim c.if-one-event.branch [
-      | then-one-event+in_ok-pages+in_ok-ok+in_ok-bits w ↦
+      | then-one-event w ↦
           let here = counted_here c.args.faults.now c.args.event c.loop-n.n c.flip-one.result.now c.flip-one.ensures (eq-eqb _ _ w.if-one-event.true) in
-          let own : w.in_ok-ok.field-0 ≡ length c.flip-one.result.now.bits = converted w.try_from.result _ w.len.result w.in_ok-ok.field-0 w.try_from.ensures
-          w.in_ok-ok.ensures.value ∙ w.len.ensures in
           record {
-            pages_so_far = omega (arith, w.pages-is, w.in_ok-pages.ensures.1, here.0, c.loop-n.invariant.pages_so_far);
-            bits_so_far = omega (arith, w.bits-is, w.in_ok-bits.ensures.1, own, here.1, c.loop-n.invariant.bits_so_far);
+            pages_so_far = omega (arith, w.pages-is, here.0, c.loop-n.invariant.pages_so_far);
+            bits_so_far = omega (arith, w.bits-is, w.len.ensures, here.1, c.loop-n.invariant.bits_so_far);
           }
       | else-one-event w ↦
           let later = due_later c.args.faults.now c.args.event c.loop-n.n c.flip-one.result.now c.flip-one.ensures (ne_eqb _ _ w.if-one-event.false) in
@@ -32,3 +42,8 @@ loop-n-preserved c =
                 (λ b. b + bit_count (due_flips (drop c.loop-n.n c.args.faults.now) c.args.event)) w.bits-is ∙ c.loop-n.invariant.bits_so_far;
           }
     ]
+
+pub returns-clause-few : goal.returns-clause-few
+returns-clause-few c =
+    let few = few_due c.args.faults.now c.args.event c.requires in
+    omega (arith, few.0, c.loop-n.invariant.pages_so_far)

@@ -8,4 +8,4 @@ use Rattle.ctl_tests.proofs.small.reading_core.Goals as goal
 pub start-requires : goal.start-requires
 start-requires c =
     subst (λ (boot : Boot). CanStart boot (map sim_state c.in_ok-flashes.flashes)) (sym c.in_ok-boot.ensures)
-    (reading_starts (map sim_state c.in_ok-flashes.flashes) c.args.faults c.in_ok-flashes.ensures c.requires)
+    (reading_starts (map sim_state c.in_ok-flashes.flashes) c.args.faults c.in_ok-flashes.ensures c.requires.small c.requires.few)

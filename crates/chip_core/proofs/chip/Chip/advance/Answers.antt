@@ -41,6 +41,7 @@ invariant_of-self-in-Working g c =
             there = λ dev counted. work.there dev (sym c.advance-left.ensures.counted ∙ counted);
             small = λ dev counted. work.small dev (sym c.advance-left.ensures.counted ∙ counted);
           };
+      few = chip.few;
       room = omega (arith, room, c.advance-left.ensures.room);
     }
 

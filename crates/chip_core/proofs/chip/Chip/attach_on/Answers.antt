@@ -54,3 +54,6 @@ returns-else-scan-self-clause-pending_note g c =
     (sym (pending_note known.geometry known.states c.args.scan.next (marker_page (g.F.Flash.state c.args.self.now.flash) c.args.scan.next)
     c.requires.fits.scan_fits.next
     known.all_there (c.args.scan.quiet_so_far && c.args.scan.quiet_now) last))
+
+pub invariant_of-self-else-scan-self-clause-few : goal.invariant_of-self-else-scan-self-clause-few
+invariant_of-self-else-scan-self-clause-few g c = c.args.self.now.few

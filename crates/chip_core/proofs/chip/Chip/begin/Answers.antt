@@ -1,4 +1,6 @@
-use Rattle.std.proofs.Common.{sym, ◌∙◌}
+use Rattle.std.proofs.Common.{◌≡◌, arith, ap, sym, subst, ◌∙◌}
+use Rattle.nand_model.specs.Chip.{ChipState}
+use Rattle.chip_core.specs.Phase.{KnowsQuiet}
 use Rattle.chip_core.specs.Begin.{read_device}
 use Rattle.chip_core.specs.Sums.{stats_in}
 use Rattle.chip_core.proofs.Answering.{rests_fit, small_at}
@@ -8,11 +10,12 @@ pub invariant_of-self-in-Break-branch-3 : goal.invariant_of-self-in-Break-branch
 invariant_of-self-in-Break-branch-3 g c =
     let chip = c.args.self.now in
     record {
-      sizes = chip.sizes ∙ sym c.expect.ensures.geometry;
-      without_tables = chip.without_tables;
-      quiet = chip.quiet;
+      sizes = ap (λ (s : ChipState g.F.Flash.FaultState). s.geometry) c.reserve.ensures.state ∙ chip.sizes ∙ sym c.expect.ensures.geometry;
+      without_tables = subst (λ (s : ChipState g.F.Flash.FaultState). s.geometry.bbt ≡ 0) (sym c.reserve.ensures.state) chip.without_tables;
+      quiet = subst (λ (s : ChipState g.F.Flash.FaultState). KnowsQuiet s chip.phase) (sym c.reserve.ensures.state) chip.quiet;
       fits = rests_fit chip.known c.expect.new.self.geometry c.expect.new.self.sums chip.phase c.requires.rests;
-      room = chip.room;
+      few = chip.few;
+      room = omega (arith, chip.room, c.reserve.ensures.no_less);
     }
 
 pub invariant_of-self-2-clause-fits : goal.invariant_of-self-2-clause-fits

@@ -7,6 +7,7 @@ use Rattle.nand_model.specs.declared.words.Event.{Event}
 use Rattle.chip_core.specs.Chip.{chip_stage}
 use Rattle.chip_paths.specs.Stage.{stage_event, finished_in}
 use Rattle.session_steps.specs.Standing.{number_of}
+use Rattle.run_model.specs.Start.{AreFewFlips}
 use Rattle.ctl_core.specs.Board.{slot_states, past_of}
 use Rattle.ctl_core.specs.Flips.{CanFlip}
 use Rattle.ctl_core.specs.SlotState.{SlotState}
@@ -38,6 +39,9 @@ do_event-requires-clause-event g c =
 
 pub do_event-requires-clause-number : goal.do_event-requires-clause-number
 do_event-requires-clause-number g c = few_events (past_of c.args.journal.now) c.args.self.now c.requires.turn.on_course
+
+pub do_event-requires-clause-few_flips : goal.do_event-requires-clause-few_flips
+do_event-requires-clause-few_flips g c = subst AreFewFlips (sym c.faults.ensures) c.requires.turn.on_course.conditions.few_flips
 
 pub do_event-requires-clause-flips : goal.do_event-requires-clause-flips
 do_event-requires-clause-flips g c =

@@ -7,6 +7,7 @@ use Rattle.ctl_core.specs.Answer.{attach_answer}
 use Rattle.ctl_core.specs.SlotState.{SlotState}
 use Rattle.ctl_core.specs.Past.{Past, starts_of, sizes_in, course_of, with_attach}
 use Rattle.ctl_core.specs.declared.board.Board.{Board}
+use Rattle.run_model.specs.Start.{AreFewFlips}
 use Rattle.ctl_core.specs.Board.{past_of, slot_states}
 use Rattle.ctl_core.specs.Flips.{CanFlip}
 use Rattle.ctl_core.proofs.Limits.{few_slots, few_events, few_attaches, few_to_attach, attached_there}
@@ -48,6 +49,9 @@ do_event-requires-clause-event g c =
 
 pub do_event-requires-clause-number : goal.do_event-requires-clause-number
 do_event-requires-clause-number g c = few_events (past_of c.self.inside.journal) c.self.inside.board c.self.invariant
+
+pub do_event-requires-clause-few_flips : goal.do_event-requires-clause-few_flips
+do_event-requires-clause-few_flips g c = subst AreFewFlips (sym c.faults.ensures) c.self.invariant.conditions.few_flips
 
 pub do_event-requires-clause-flips : goal.do_event-requires-clause-flips
 do_event-requires-clause-flips g c =
