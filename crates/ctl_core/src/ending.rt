@@ -39,9 +39,7 @@ pub fn stop_all<F: Flash, C: PageCode>(
     let mut flashes = FlashList::new(alloc);
     for slot in slots {
         let Slot { chip, .. } = slot;
-        if let Err((_, refused)) = flashes.push(chip.stop()) {
-            return Err(refused);
-        }
+        flashes.append(chip.stop())?;
     }
     Ok(flashes)
 }
@@ -57,9 +55,7 @@ pub fn end_all(
     let mut ends = OutcomeList::new(alloc);
     for session in sessions {
         let end = session.finish(notes, false)?;
-        if let Err((_, refused)) = ends.push(end) {
-            return Err(refused);
-        }
+        ends.append(end)?;
     }
     Ok(ends)
 }
@@ -76,9 +72,7 @@ pub fn all_statistics<F: Flash, C: PageCode>(
     let mut stats = StatsList::new(alloc);
     for n in 0..parts.len() {
         let dev = parts.first() + n as u32;
-        if let Err((_, refused)) = stats.push((dev, statistics(slots, parts, dev))) {
-            return Err(refused);
-        }
+        stats.append((dev, statistics(slots, parts, dev)))?;
     }
     Ok(stats)
 }

@@ -13,7 +13,7 @@ const TEXT: &[u8] = b"nandlab 1\n";
 fn numbers(alloc: Global, of: &[u32]) -> Result<BlockList, AllocError> {
     let mut list = BlockList::new(alloc);
     for number in of {
-        list.push(*number).map_err(|refused| refused.1)?;
+        list.append(*number)?;
     }
     Ok(list)
 }

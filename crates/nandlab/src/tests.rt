@@ -30,7 +30,7 @@ const ONES: &str = "ffffffffffffffffffffffffffffffffffffffffffffffffffffffffffff
 fn numbers(alloc: Global, of: &[u32]) -> Result<BlockList, AllocError> {
     let mut list = BlockList::new(alloc);
     for number in of {
-        list.push(*number).map_err(|refused| refused.1)?;
+        list.append(*number)?;
     }
     Ok(list)
 }

@@ -12,6 +12,6 @@ loop-n-preserved g c =
     let statistics : ℕ → ℕ × Stats = λ dev. (dev, slot_statistics_at (map slot_state c.args.slots.now) (chip_of c.args.parts.now dev) dev) in
     let one : (c.first.result + c.loop-n.n, c.statistics.result) ≡ statistics (c.args.parts.now.first + c.loop-n.n) =
     (λ d. (c.first.result + c.loop-n.n, c.statistics.ensures d)) ∙ ap (λ n. statistics (n + c.loop-n.n)) c.first.ensures in
-    c.in_default.ensures.ok ∙ (λ d. c.loop-n.invariant d ++ one d ∷ [])
+    c.in_ok-append.ensures.ok ∙ (λ d. c.loop-n.invariant d ++ one d ∷ [])
     ∙ sym (mapped_push statistics (numbers_from c.args.parts.now.first c.loop-n.n) (c.args.parts.now.first + c.loop-n.n))
     ∙ ap (map statistics) (sym (one_number_more c.args.parts.now.first c.loop-n.n))
