@@ -5,4 +5,6 @@ mod Holding
 mod EndedTexts
 mod BootText
 mod PlanTurns
+mod OneBoot
 mod PlanRuns
+mod Exiting

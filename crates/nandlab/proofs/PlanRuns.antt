@@ -1,5 +1,5 @@
 -- The run of a several-chip plan: its controller can be started, and what the controller leaves is what the report is made of.
-use Rattle.std.proofs.Common.{◌≡◌, ◌<◌, ◌≤◌, ◌+◌, ◌⊎◌, inl, inr, ℕ, zero, suc, Bool, true, false, cond, not, List, [], ◌∷◌, ◌++◌, length, map, take, Some, refl, ap, sym, ◌∙◌, subst, arith, zero-add, get_or}
+use Rattle.std.proofs.Common.{◌≡◌, ◌<◌, ◌≤◌, ◌+◌, ◌⊎◌, inl, inr, ℕ, zero, suc, Bool, true, false, cond, not, List, [], ◌∷◌, ◌++◌, length, map, Some, refl, ap, sym, ◌∙◌, subst, arith, zero-add, get_or, append_assoc}
 use Rattle.std.specs.Prelude.{slice_get, option_map, All, Contains, ◌==◌, count_by}
 use Rattle.std.proofs.lemmas.Bool.{cases_eq, eq-eqb, ne_eqb}
 use Rattle.std.proofs.lemmas.List.Elements.{All-weaker}
@@ -28,7 +28,6 @@ use Rattle.run_laws.proofs.Sessions.{number_stays}
 use Rattle.plan_model.specs.Plan.{ChipPlan, devices_of, new_chips, sessions_from}
 use Rattle.report_model.specs.Report.{geometry_in, report_text}
 use Rattle.command_model.specs.Reads.{reads_of}
-use Rattle.report_model.proofs.Printed.{take_next}
 use Rattle.several_chip_plan.specs.SeveralChips.{IsPlan, boot_of, chip_of, geometry_of, plan_of, session_of, sizes_of as sizes_by}
 use Rattle.several_chip_plan.specs.declared.lines.ChipLines.{ChipLines}
 use Rattle.several_chip_plan.specs.declared.lines.CommandLine.{CommandLine}
@@ -44,9 +43,10 @@ use Rattle.ctl_core.proofs.LastStates.{mapped_push}
 use Rattle.ctl_core.proofs.Sessions.{one_number_each}
 use Rattle.session_run.specs.Replay.{IsReplayed, rounds_after, session_numbers}
 use Rattle.session_run.proofs.Once.{replayed_once}
-use Rattle.nandlab.specs.Answer.{IsHistory, IsReplay, IsReportOfPlan}
+use Rattle.headline_model.specs.Headline.{IsReplayOf}
 use Rattle.nandlab.specs.Ends.{ends_by, stats_by, stats_of}
 use Rattle.nandlab.specs.Run.{EndsRun}
+use Rattle.nandlab.proofs.OneBoot.{IsOwnCourse, OwnHistory, one_history, one_replay, one_run}
 use Rattle.nandlab.proofs.PlanTurns.{numbered, replay_turns-rounds}
 
 number_there : (m n k : ℕ) → k < n → slice_get (numbers_from m n) k ≡ Some (m + k)
@@ -194,28 +194,25 @@ module _ (plan : PlanLines) (notes : List Note) (ends : List EndOfSession) (stat
       ∙ ap (λ devices. stats_by 0 devices (length plan.sessions) run.course.notes) (length-parts_by 0 plan.chips)
       ∙ ap (stats_by 0 (length plan.chips) (length plan.sessions)) (sym run.notes_are)
 
-  as_replayed : (course : Course SimFaults) → IsReplay plan course → IsReplayed sim_faults (the_boot plan) (the_chips plan) plan.schedule course
-  as_replayed course replay = record {
-    attaches = replay.whole.attaches;
-    rounds = replay.rounds;
-    steps = replay.whole.steps ∙ ap (course_after sim_faults (the_boot plan) (the_chips plan) replay.whole.attaches)
-        (replay_turns-rounds plan replay.rounds legal.schedule);
-    over = replay.whole.over;
+  as_replayed : (course : Course SimFaults) (rounds : ℕ) → IsOwnCourse plan rounds course
+      → IsReplayed sim_faults (the_boot plan) (the_chips plan) plan.schedule course
+  as_replayed course rounds whole = record {
+    attaches = whole.attaches;
+    rounds = rounds;
+    steps = whole.steps ∙ ap (course_after sim_faults (the_boot plan) (the_chips plan) whole.attaches) (replay_turns-rounds plan rounds legal.schedule);
+    over = whole.over;
   }
 
-  is_replay : IsReplay plan run.course
-  is_replay = record {
-    rounds = run.replayed.rounds;
-    whole = record {
-      attaches = run.replayed.attaches;
-      steps = run.replayed.steps ∙ ap (course_after sim_faults (the_boot plan) (the_chips plan) run.replayed.attaches)
-          (sym (replay_turns-rounds plan run.replayed.rounds legal.schedule));
-      over = run.replayed.over;
-    };
+  own_course : IsOwnCourse plan run.replayed.rounds run.course
+  own_course = record {
+    attaches = run.replayed.attaches;
+    steps = run.replayed.steps ∙ ap (course_after sim_faults (the_boot plan) (the_chips plan) run.replayed.attaches)
+        (sym (replay_turns-rounds plan run.replayed.rounds legal.schedule));
+    over = run.replayed.over;
   }
 
-  is_history : IsHistory plan run.course
-  is_history = subst (IsHistory plan) (sym run.replayed.steps) (record {
+  own_history : OwnHistory plan run.course
+  own_history = subst (OwnHistory plan) (sym run.replayed.steps) (record {
     lives = found.lives;
     log = found.log;
     counted = found.counted;
@@ -232,26 +229,22 @@ module _ (plan : PlanLines) (notes : List Note) (ends : List EndOfSession) (stat
       found : CoursesAreFaithful sim_faults (the_boot plan) (the_chips plan) run.replayed.attaches turns
       found = read.faithful
 
-  -- the text of these notes is the report of the plan
-  pub run_report : (text : List ℕ) → text ≡ report_text (plan_of plan) ((notes ∷ []) ∷ []) → IsReportOfPlan plan text
+  -- the text of these notes is the report of the plan's replay
+  pub run_report : (text : List ℕ) → text ≡ report_text (plan_of plan) ((notes ∷ []) ∷ []) → IsReplayOf (plan_of plan) text
   run_report text printed = record {
-    course = run.course;
-    replay = is_replay;
-    only = λ other replay. replayed_once sim_faults (the_boot plan) (the_chips plan) one plan.schedule run.course other run.replayed
-        (as_replayed other replay);
-    history = is_history;
+    courses = (run.course ∷ []) ∷ [];
+    replay = record { rounds = run.replayed.rounds; run = one_run plan run.replayed.rounds run.course own_course };
+    only = one_replay plan run.course (λ other rounds whole. replayed_once sim_faults (the_boot plan) (the_chips plan) one plan.schedule run.course other
+        run.replayed (as_replayed other rounds whole));
+    histories = one_history plan run.course own_history;
     printed = printed ∙ ap (λ ns. report_text (plan_of plan) ((ns ∷ []) ∷ [])) run.notes_are;
   }
 
 -- one more new chip
-pub one_flash_more : {A : Type 0} (state : A → ChipState SimFaults) (flashes : List A) (flash : A) (chips : List ChipLines) (n : ℕ) (chip : ChipLines)
-    → slice_get chips n ≡ Some chip
-    → map state flashes ≡ new_chips (map chip_of (take n chips)) → state flash ≡ new_chip (geometry_of chip) [] []
-    → map state (flashes ++ flash ∷ []) ≡ new_chips (map chip_of (take (n + 1) chips))
-one_flash_more state flashes flash chips n chip at so_far is =
-    mapped_push state flashes flash ∙ ap (λ xs. xs ++ state flash ∷ []) so_far ∙ ap (λ s. new_chips (map chip_of (take n chips)) ++ s ∷ []) is
-    ∙ sym (chips_push (take n chips) chip) ∙ ap (λ xs. new_chips (map chip_of xs)) (sym (take_next chips n chip at))
-  where
-    chips_push : (xs : List ChipLines) (x : ChipLines) → new_chips (map chip_of (xs ++ x ∷ []))
-        ≡ new_chips (map chip_of xs) ++ new_chip (geometry_of x) [] [] ∷ []
-    chips_push xs x = ap new_chips (mapped_push chip_of xs x) ∙ mapped_push (λ (c : ChipPlan). new_chip c.geometry c.bad c.weak) (map chip_of xs) (chip_of x)
+pub one_flash_more : {A : Type 0} (state : A → ChipState SimFaults) (flashes : List A) (flash : A) (chip : ChipLines) (left : List ChipLines)
+    (all : List (ChipState SimFaults)) → map state flashes ++ new_chips (map chip_of (chip ∷ left)) ≡ all → state flash ≡ new_chip (geometry_of chip) [] []
+    → map state (flashes ++ flash ∷ []) ++ new_chips (map chip_of left) ≡ all
+one_flash_more state flashes flash chip left all so_far is =
+    ap (λ xs. xs ++ new_chips (map chip_of left)) (mapped_push state flashes flash)
+    ∙ append_assoc (map state flashes) (state flash ∷ []) (new_chips (map chip_of left))
+    ∙ ap (λ s. map state flashes ++ s ∷ new_chips (map chip_of left)) is ∙ so_far

@@ -2,6 +2,7 @@
 #![tactic(auto)]
 
 mod answer;
+mod exit;
 mod outcomes;
 mod print;
 mod report;
@@ -11,6 +12,7 @@ mod status;
 mod tests;
 mod top;
 
+pub use exit::exit_status;
 use lab_outside::{StdSink, StdSource};
 pub use status::{Status, code};
 use std::process::ExitCode;
@@ -18,12 +20,6 @@ use std::{env, io};
 pub use top::serial_top;
 
 fn main(rt: HostRuntime) -> io::Result<ExitCode> {
-    let mut words = Vec::new(rt.alloc());
-    for word in env::args(&rt)?.skip(1) {
-        words.push(word)?;
-    }
-    let mut source = StdSource::new(rt.reader());
-    let mut sink = StdSink::new(io::writer(&rt));
-    let status = serial_top(rt.alloc(), &words, &mut source, &mut sink);
-    Ok(ExitCode::from(code(status)))
+    let (mut source, mut sink) = (StdSource::new(rt.reader()), StdSink::new(io::writer(&rt)));
+    Ok(ExitCode::from(exit_status(rt.alloc(), env::args(&rt)?, &mut source, &mut sink)))
 }

@@ -4,7 +4,7 @@ ghost use Rattle.report_model.specs.Report.{geometry_in, report_text};
 ghost use Rattle.several_chip_plan.specs.SeveralChips.{IsPlan, boot_of, plan_of};
 ghost use Rattle.run_model.specs.Start.{CanStart};
 ghost use Rattle.chips_boot.specs.Ready.{the_boot, the_chips};
-ghost use Rattle.nandlab.specs.Answer.{IsReportOfPlan};
+ghost use Rattle.headline_model.specs.Headline.{IsReplayOf};
 ghost use Rattle.nandlab.specs.Ends.{ended_texts, ends_by, stats_by};
 
 use crate::outcomes::{put_devices, put_session};
@@ -61,7 +61,7 @@ fn boot_report(
 pub fn report(alloc: Global, plan: &PlanLines) -> Result<Bytes, AllocError>
     requires legal { IsPlan plan.now }
     requires ready { CanStart (the_boot plan.now) (the_chips plan.now) }
-    ensures { IfOk result (IsReportOfPlan plan.now) }
+    ensures { IfOk result (IsReplayOf (plan_of plan.now)) }
 {
     let ended = run_plan(alloc, plan)?;
     boot_report(alloc, plan, &ended.notes, &ended.outcomes, &ended.stats)

@@ -1,10 +1,10 @@
 // The top call.
-ghost use Rattle.std.specs.Prelude.{◌≡◌, ◌<◌, ◌≤◌, ◌⊎◌, ℕ, List, true, false, Some, map, string_bytes, length, IfSome};
+ghost use Rattle.std.specs.Prelude.{◌≡◌, ◌<◌, ◌≤◌, ◌⊎◌, ℕ, List, true, false, Some, length, IfSome};
 ghost use Rattle.std.specs.Io.KnownBytes.{IsAtEnd, append_known};
 ghost use Rattle.several_chip_plan.specs.SeveralChips.{IsOfTheForm};
 ghost use Rattle.lab_outside.specs.Outside.{TookPrefix};
 ghost use Rattle.nand_model.specs.Counts.{HasRisen};
-ghost use Rattle.nandlab.specs.Answer.{accepts, most_bytes, Holds};
+ghost use Rattle.nandlab.specs.Answer.{is_served, most_bytes, IsCalm, IsRefused, Leaves};
 
 use crate::answer::answer_plan;
 use crate::status::Status;
@@ -20,7 +20,7 @@ const MOST_BYTES: usize = 16_777_216;
 
 // Whether the words are the one word `replay`.
 fn are_accepted(words: &Vec<String>) -> bool
-    ensures { result ≡ accepts (map string_bytes words.now.items) }
+    ensures { result ≡ is_served words.now.items }
 {
     match words.as_slice() {
         [word] => word.as_str() == "replay",
@@ -51,25 +51,29 @@ pub fn serial_top<S: Source, K: Sink>(
     source: &mut S,
     sink: &mut K,
 ) -> Status
-    ensures usage { result ≡ Status.Usage → accepts (map string_bytes words.now.items) ≡ false }
-    ensures refused_words { accepts (map string_bytes words.now.items) ≡ false
-        → ((result ≡ Status.Usage) ⊎ (result ≡ Status.WriteFault)) × (S.left source.new ≡ S.left source.old) × (S.faults source.new ≡ S.faults source.old) }
+    // The words.
+    ensures usage { result ≡ Status.Usage → is_served words.now.items ≡ false }
+    ensures refused { is_served words.now.items ≡ false → (result ≡ Status.Usage) ⊎ (result ≡ Status.WriteFault) }
+    ensures unread { is_served words.now.items ≡ false
+        → (S.left source.new ≡ S.left source.old) × (S.faults source.new ≡ S.faults source.old) }
 
-    ensures plan_refused { result ≡ Status.PlanRefused → IfSome (S.left source.old) (λ bytes. (most_bytes < length bytes) ⊎ (IsOfTheForm bytes → ⊥)) }
-    ensures refused_at_end { result ≡ Status.PlanRefused → IfSome (S.left source.old) (λ bytes. length bytes ≤ most_bytes → IsAtEnd (S.left source.new)) }
+    // The bytes.
     ensures fine { result ≡ Status.Fine → IsAtEnd (S.left source.new) × IfSome (S.left source.old) IsOfTheForm }
+    ensures plan_refused { result ≡ Status.PlanRefused → IfSome (S.left source.old) IsRefused }
+    ensures refused_at_end { result ≡ Status.PlanRefused
+        → IfSome (S.left source.old) (λ bytes. length bytes ≤ most_bytes → IsAtEnd (S.left source.new)) }
+    ensures complete { is_served words.now.items ≡ true
+        → IsCalm (S.faults source.old) (S.faults source.new) → IsCalm (K.faults sink.old) (K.faults sink.new)
+        → (bytes : List ℕ) → S.left source.old ≡ Some bytes → IsOfTheForm bytes
+        → (result ≡ Status.Fine) ⊎ (result ≡ Status.Memory) }
+    ensures written { (bytes before : List ℕ) → S.left source.old ≡ Some bytes → K.held sink.old ≡ Some before
+        → Leaves words.now.items bytes result before (K.held sink.new) }
 
+    // The faults.
     ensures read_fault { result ≡ Status.ReadFault → HasRisen (S.faults source.old) (S.faults source.new) }
     ensures ended_by_fault { S.faults source.old < S.faults source.new → result ≡ Status.ReadFault }
     ensures write_fault { result ≡ Status.WriteFault → HasRisen (K.faults sink.old) (K.faults sink.new) }
     ensures counts { (S.faults source.old ≤ S.faults source.new) × (K.faults sink.old ≤ K.faults sink.new) }
-
-    ensures complete { accepts (map string_bytes words.now.items) ≡ true → IfSome (S.left source.old) IsOfTheForm
-        → (HasRisen (S.faults source.old) (S.faults source.new) → ⊥) → (HasRisen (K.faults sink.old) (K.faults sink.new) → ⊥)
-        → (bytes : List ℕ) → S.left source.old ≡ Some bytes → length bytes ≤ most_bytes → (result ≡ Status.Fine) ⊎ (result ≡ Status.Memory) }
-
-    ensures written { (bytes before : List ℕ) → S.left source.old ≡ Some bytes → K.held sink.old ≡ Some before
-        → (after : List ℕ) × (K.held sink.new ≡ Some after) × Holds (map string_bytes words.now.items) bytes result before after }
 {
     if !are_accepted(words) {
         return written(sink, USAGE, Status::Usage);
