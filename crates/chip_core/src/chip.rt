@@ -104,8 +104,7 @@ impl<F: Flash, C: PageCode> Chip<F, C> {
         ensures pending_note { chip_pending_note self.new ≡ chip_pending_note self.old }
     {
         let page_room = pages.min(MOST_PAGE_ROOM).max(self.page_room);
-        self.flash
-            .reserve(page_room + self.phase.programs(), bits)?;
+        self.flash.reserve(page_room + self.phase.programs(), bits)?;
         self.page_room = page_room;
         Ok(())
     }

@@ -1,5 +1,5 @@
 -- The run of a several-chip plan: its controller can be started, and what the controller leaves is what the report is made of.
-use Rattle.std.proofs.Common.{◌≡◌, ◌<◌, ◌≤◌, ◌+◌, ◌⊎◌, inl, inr, ℕ, zero, suc, Bool, true, false, cond, not, List, [], ◌∷◌, ◌++◌, length, map, Some, refl, ap, sym, ◌∙◌, subst, arith, zero-add, get_or, append_assoc}
+use Rattle.std.proofs.Common.{◌≡◌, ◌<◌, ◌≤◌, ◌+◌, ◌⊎◌, inl, inr, ℕ, zero, suc, Bool, true, false, cond, not, List, [], ◌∷◌, ◌++◌, length, map, take, Some, refl, ap, sym, ◌∙◌, subst, arith, zero-add, get_or, append_assoc}
 use Rattle.std.specs.Prelude.{slice_get, option_map, All, Contains, ◌==◌, count_by}
 use Rattle.std.proofs.lemmas.Bool.{cases_eq, eq-eqb, ne_eqb}
 use Rattle.std.proofs.lemmas.List.Elements.{All-weaker}
@@ -28,6 +28,7 @@ use Rattle.run_laws.proofs.Sessions.{number_stays}
 use Rattle.plan_model.specs.Plan.{ChipPlan, devices_of, new_chips, sessions_from}
 use Rattle.report_model.specs.Report.{geometry_in, report_text}
 use Rattle.command_model.specs.Reads.{reads_of}
+use Rattle.report_model.proofs.Printed.{take_next}
 use Rattle.several_chip_plan.specs.SeveralChips.{IsPlan, boot_of, chip_of, geometry_of, plan_of, session_of, sizes_of as sizes_by}
 use Rattle.several_chip_plan.specs.declared.lines.ChipLines.{ChipLines}
 use Rattle.several_chip_plan.specs.declared.lines.CommandLine.{CommandLine}
@@ -241,10 +242,14 @@ module _ (plan : PlanLines) (notes : List Note) (ends : List EndOfSession) (stat
   }
 
 -- one more new chip
-pub one_flash_more : {A : Type 0} (state : A → ChipState SimFaults) (flashes : List A) (flash : A) (chip : ChipLines) (left : List ChipLines)
-    (all : List (ChipState SimFaults)) → map state flashes ++ new_chips (map chip_of (chip ∷ left)) ≡ all → state flash ≡ new_chip (geometry_of chip) [] []
-    → map state (flashes ++ flash ∷ []) ++ new_chips (map chip_of left) ≡ all
-one_flash_more state flashes flash chip left all so_far is =
-    ap (λ xs. xs ++ new_chips (map chip_of left)) (mapped_push state flashes flash)
-    ∙ append_assoc (map state flashes) (state flash ∷ []) (new_chips (map chip_of left))
-    ∙ ap (λ s. map state flashes ++ s ∷ new_chips (map chip_of left)) is ∙ so_far
+pub one_flash_more : {A : Type 0} (state : A → ChipState SimFaults) (flashes : List A) (flash : A) (chips : List ChipLines) (n : ℕ) (chip : ChipLines)
+    → slice_get chips n ≡ Some chip
+    → map state flashes ≡ new_chips (map chip_of (take n chips)) → state flash ≡ new_chip (geometry_of chip) [] []
+    → map state (flashes ++ flash ∷ []) ≡ new_chips (map chip_of (take (n + 1) chips))
+one_flash_more state flashes flash chips n chip at so_far is =
+    mapped_push state flashes flash ∙ ap (λ xs. xs ++ state flash ∷ []) so_far ∙ ap (λ s. new_chips (map chip_of (take n chips)) ++ s ∷ []) is
+    ∙ sym (chips_push (take n chips) chip) ∙ ap (λ xs. new_chips (map chip_of xs)) (sym (take_next chips n chip at))
+  where
+    chips_push : (xs : List ChipLines) (x : ChipLines) → new_chips (map chip_of (xs ++ x ∷ []))
+        ≡ new_chips (map chip_of xs) ++ new_chip (geometry_of x) [] [] ∷ []
+    chips_push xs x = ap new_chips (mapped_push chip_of xs x) ∙ mapped_push (λ (c : ChipPlan). new_chip c.geometry c.bad c.weak) (map chip_of xs) (chip_of x)

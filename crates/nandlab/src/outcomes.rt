@@ -275,8 +275,9 @@ fn put_device(alloc: Global, out: &mut Bytes, dev: u32, stats: &Stats) -> Result
 pub fn put_devices(alloc: Global, out: &mut Bytes, stats: &StatsList) -> Result<(), AllocError>
     ensures { OnOk result (out.new ≡ out.old ++ flat_map device_text stats.now) }
 {
-    for (dev, stats) in stats {
-        put_device(alloc, out, *dev, stats)?;
+    for n in 0..stats.len() {
+        let device = stats.get(n);
+        put_device(alloc, out, device.0, &device.1)?;
     }
     Ok(())
 }

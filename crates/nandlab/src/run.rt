@@ -17,14 +17,22 @@ use several_chip_plan::{ChipLines, PlanLines};
 use std::alloc::{AllocError, Global};
 use tool_steps::FlashList;
 
+// Adds a chip.
+fn add_flash(flashes: &mut FlashList<SimChip>, chip: SimChip) -> Result<(), AllocError>
+    ensures { OnOk result (flashes.new ≡ flashes.old ++ chip ∷ []) }
+{
+    flashes.push(chip).map_err(|refused| refused.1)
+}
+
 // The new chips of these lines.
 fn new_flashes(alloc: Global, chips: &ItemList<ChipLines>) -> Result<FlashList<SimChip>, AllocError>
     ensures { IfOk result (λ flashes. map sim_state flashes ≡ new_chips (map chip_of chips.now)) }
 {
     let none_bad = BlockList::new(alloc);
     let mut flashes = FlashList::new(alloc);
-    for chip in chips {
-        flashes.append(SimChip::new(alloc, sizes_of_chip(chip), &none_bad)?)?;
+    for n in 0..chips.len() {
+        let chip = SimChip::new(alloc, sizes_of_chip(chips.get(n)), &none_bad)?;
+        add_flash(&mut flashes, chip)?;
     }
     Ok(flashes)
 }

@@ -35,8 +35,8 @@ fn take_turns<F: Flash, C: PageCode>(
     ensures same { IsOfTheSameStart core.old core.new }
     ensures attaches { core.new.attaches ≡ core.old.attaches }
 {
-    for session in sessions {
-        core.turn(*session)?;
+    for n in 0..sessions.len() {
+        core.turn(*sessions.get(n))?;
     }
     Ok(())
 }
