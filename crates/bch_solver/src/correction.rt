@@ -11,11 +11,11 @@ use crate::locator::solve;
 use crate::search::correct;
 use crate::syndrome::syndromes;
 use bch_register::remainder_of_word;
-use binary_field::BinaryField;
+use binary_field::FieldProducts;
 use u256::U256;
 
 // The parity bits of a code: the degree of its generator.
-fn parity_bits<F: BinaryField>(strength: u32) -> u32
+fn parity_bits<F: FieldProducts>(strength: u32) -> u32
     requires { strength ≤ 16 }
     ensures value { result ≡ F.DEGREE * strength }
     ensures small { result ≤ 224 }
@@ -36,7 +36,7 @@ fn remainder_of(word: &[u8], body_len: usize, generator: U256, degree: u32) -> U
 }
 
 // Turns over the bits of a word of `count` bits in which a code word for `strength` errors differs, where one lies within `strength` bits, and says how many. Where none is so near, the word may become one that is no code word.
-fn correct_word<F: BinaryField>(
+fn correct_word<F: FieldProducts>(
     strength: u32,
     word_remainder: U256,
     word: &mut [u8],
@@ -63,7 +63,7 @@ fn correct_word<F: BinaryField>(
 }
 
 /// Decodes a word in place: a body of `body_len` bytes, and then its parity with the padding bits in its last byte. Some(n): the word is the nearest code word, in which n bits were wrong, and the padding is as received. None: no code word lies within `strength` bits, and the word is left as it may be.
-pub fn decode_word<F: BinaryField>(
+pub fn decode_word<F: FieldProducts>(
     strength: u32,
     generator: U256,
     body_len: usize,

@@ -3,7 +3,7 @@ ghost use Rattle.std.specs.Prelude.{◌≡◌, ◌≢◌, ◌<◌, ◌≤◌, �
 ghost use Rattle.bch_solver.specs.Rows.{AllBelow, SolvesKey, syndrome_at};
 
 use crate::rows::{Row, first_row, first_value, reduce_all};
-use binary_field::{BinaryField, inverse};
+use binary_field::FieldProducts;
 
 /// A monic polynomial over the field: coefficient l is that of x^l, and those above the degree are 0.
 #[derive(Clone, Copy)]
@@ -28,7 +28,7 @@ fn locator_of(row: &Row, degree: usize) -> Locator
 }
 
 /// The monic polynomial of least degree, at most `count`, whose sums with the first `count` runs of the syndromes are 0 (the key equation). The syndromes are counted from 1. None: there is no such polynomial.
-pub fn solve<F: BinaryField>(count: usize, syndromes: &[u16; 32]) -> Option<Locator>
+pub fn solve<F: FieldProducts>(count: usize, syndromes: &[u16; 32]) -> Option<Locator>
     requires room { count < 17 }
     requires small_syndromes { AllBelow (2 ^ F.DEGREE) syndromes.now }
     ensures solved { IfSome result (λ r. (r.degree ≤ count)
@@ -47,7 +47,7 @@ pub fn solve<F: BinaryField>(count: usize, syndromes: &[u16; 32]) -> Option<Loca
         match first_value(&row, count) {
             None => return Some(locator_of(&row, degree)),
             Some(place) => {
-                inverses[degree] = inverse::<F>(row[place]);
+                inverses[degree] = F::inverse(row[place]);
                 pivots[degree] = place;
                 rows[degree] = row;
             }

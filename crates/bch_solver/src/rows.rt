@@ -3,13 +3,13 @@ ghost use Rattle.std.specs.Prelude.{◌≡◌, ◌≢◌, ◌<◌, ◌≤◌, �
 ghost use Rattle.code_model.specs.Binary.{times};
 ghost use Rattle.bch_solver.specs.Rows.{AllBelow, AddsScaled, Reduces, Holds, HasMonic, IsTable, syndrome_at};
 
-use binary_field::{BinaryField, product};
+use binary_field::FieldProducts;
 
 /// A row: 16 values, and the 17 coefficients of the polynomial that they belong to.
 pub type Row = [u16; 33];
 
 // Adds a multiple of one row to another.
-fn add_scaled<F: BinaryField>(target: &mut Row, source: &Row, factor: u16)
+fn add_scaled<F: FieldProducts>(target: &mut Row, source: &Row, factor: u16)
     requires small_factor { factor < 2 ^ F.DEGREE }
     requires small_target { AllBelow (2 ^ F.DEGREE) target.old }
     requires small_source { AllBelow (2 ^ F.DEGREE) source.now }
@@ -17,12 +17,12 @@ fn add_scaled<F: BinaryField>(target: &mut Row, source: &Row, factor: u16)
     ensures small { AllBelow (2 ^ F.DEGREE) target.new }
 {
     for i in 0..33 {
-        target[i] ^= product::<F>(factor, source[i]);
+        target[i] ^= F::product(factor, source[i]);
     }
 }
 
 // Takes the value at `pivot` off by a multiple of the source, whose value there has the inverse `inverse`.
-fn reduce<F: BinaryField>(target: &mut Row, source: &Row, pivot: usize, inverse: u16)
+fn reduce<F: FieldProducts>(target: &mut Row, source: &Row, pivot: usize, inverse: u16)
     requires in_row { pivot < 33 }
     requires small_target { AllBelow (2 ^ F.DEGREE) target.old }
     requires small_source { AllBelow (2 ^ F.DEGREE) source.now }
@@ -32,12 +32,12 @@ fn reduce<F: BinaryField>(target: &mut Row, source: &Row, pivot: usize, inverse:
     ensures gone { slice_index target.new pivot ≡ 0 }
     ensures small { AllBelow (2 ^ F.DEGREE) target.new }
 {
-    let factor = product::<F>(target[pivot], inverse);
+    let factor = F::product(target[pivot], inverse);
     add_scaled::<F>(target, source, factor);
 }
 
 // Takes the first `count` rows off, so that the target is 0 at the place of each.
-pub fn reduce_all<F: BinaryField>(
+pub fn reduce_all<F: FieldProducts>(
     target: &mut Row,
     rows: &[Row; 17],
     pivots: &[usize; 17],
@@ -61,7 +61,7 @@ pub fn reduce_all<F: BinaryField>(
 }
 
 // The row of x^degree: the syndromes from there on.
-pub fn first_row<F: BinaryField>(syndromes: &[u16; 32], degree: usize) -> Row
+pub fn first_row<F: FieldProducts>(syndromes: &[u16; 32], degree: usize) -> Row
     requires room { degree < 17 }
     requires small_syndromes { AllBelow (2 ^ F.DEGREE) syndromes.now }
     ensures small { AllBelow (2 ^ F.DEGREE) result }

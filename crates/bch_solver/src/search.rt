@@ -8,10 +8,10 @@ ghost use Rattle.bch_solver.specs.Words.{Turned};
 ghost use Rattle.bch_solver.specs.Rows.{AllBelow, polynomial_of};
 
 use crate::locator::Locator;
-use binary_field::{BinaryField, product};
+use binary_field::FieldProducts;
 
 // The value of a polynomial at x.
-fn value_of<F: BinaryField>(locator: &Locator, x: u16) -> u16
+fn value_of<F: FieldProducts>(locator: &Locator, x: u16) -> u16
     requires room { locator.now.degree < 17 }
     requires small_x { x < 2 ^ F.DEGREE }
     requires small_locator { AllBelow (2 ^ F.DEGREE) locator.now.coefficients }
@@ -21,7 +21,7 @@ fn value_of<F: BinaryField>(locator: &Locator, x: u16) -> u16
 {
     let mut sum = 0u16;
     for i in 0..locator.degree + 1 {
-        sum = locator.coefficients[locator.degree - i] ^ product::<F>(x, sum);
+        sum = locator.coefficients[locator.degree - i] ^ F::product(x, sum);
     }
     sum
 }
@@ -36,7 +36,7 @@ fn flip(bytes: &mut [u8], place: usize)
 }
 
 /// Turns over each of the first `count` bits at whose power of x the locator is 0, and says how many. The last of these bits has the power 0.
-pub fn correct<F: BinaryField>(bytes: &mut [u8], count: usize, locator: &Locator) -> u32
+pub fn correct<F: FieldProducts>(bytes: &mut [u8], count: usize, locator: &Locator) -> u32
     requires room { count ≤ 8 * length bytes.old }
     requires below_order { count < 2 ^ F.DEGREE }
     requires small_degree { locator.now.degree < 17 }
@@ -55,7 +55,7 @@ pub fn correct<F: BinaryField>(bytes: &mut [u8], count: usize, locator: &Locator
             flip(bytes, count - 1 - k);
             flips += 1;
         }
-        power = product::<F>(power, 2);
+        power = F::product(power, 2);
     }
     flips
 }

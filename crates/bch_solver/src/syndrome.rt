@@ -3,11 +3,11 @@ ghost use Rattle.std.specs.Prelude.{◌≡◌, ◌<◌, ◌≤◌, ◌^◌, ℕ,
 ghost use Rattle.code_model.specs.Binary.{power, value_at};
 ghost use Rattle.bch_solver.specs.Rows.{AllBelow};
 
-use binary_field::{BinaryField, product};
+use binary_field::FieldProducts;
 use u256::U256;
 
 // The value at x of a polynomial of degree below `degree`, where bit k is the coefficient of x^k.
-fn value_of_bits<F: BinaryField>(polynomial: U256, degree: u32, x: u16) -> u16
+fn value_of_bits<F: FieldProducts>(polynomial: U256, degree: u32, x: u16) -> u16
     requires degree { degree ≤ 256 }
     requires small { polynomial < 2 ^ degree }
     requires small_x { x < 2 ^ F.DEGREE }
@@ -16,7 +16,7 @@ fn value_of_bits<F: BinaryField>(polynomial: U256, degree: u32, x: u16) -> u16
 {
     let mut sum = 0u16;
     for k in 0u32..degree {
-        sum = product::<F>(sum, x);
+        sum = F::product(sum, x);
         if polynomial.bit(degree - 1 - k) {
             sum ^= 1;
         }
@@ -25,7 +25,7 @@ fn value_of_bits<F: BinaryField>(polynomial: U256, degree: u32, x: u16) -> u16
 }
 
 /// The values of a polynomial of degree below `degree`, where bit k is the coefficient of x^k, at x, x^2 and so on to x^32: the syndromes of a word whose remainder it is.
-pub fn syndromes<F: BinaryField>(polynomial: U256, degree: u32) -> [u16; 32]
+pub fn syndromes<F: FieldProducts>(polynomial: U256, degree: u32) -> [u16; 32]
     requires degree { degree ≤ 256 }
     requires small { polynomial < 2 ^ degree }
     ensures small { AllBelow (2 ^ F.DEGREE) result }
@@ -36,7 +36,7 @@ pub fn syndromes<F: BinaryField>(polynomial: U256, degree: u32) -> [u16; 32]
     let mut power = 2u16;
     for j in 0..32 {
         all[j] = value_of_bits::<F>(polynomial, degree, power);
-        power = product::<F>(power, 2);
+        power = F::product(power, 2);
     }
     all
 }

@@ -17,6 +17,23 @@ pub trait BinaryField {
     ghost small: { DEGREE ≤ 14 };
 }
 
+/// A field with a product and an inverse of its own, for code that is written once over both: by bits, as `product` and `inverse` are, or by tables.
+pub trait FieldProducts: BinaryField {
+    /// The product of two elements, of degree below `DEGREE` each.
+    fn product(a: u16, b: u16) -> u16
+        requires left { a < 2 ^ Self.DEGREE }
+        requires right { b < 2 ^ Self.DEGREE }
+        ensures value { result ≡ times Self.DEGREE Self.MODULUS a b }
+        ensures small { result < 2 ^ Self.DEGREE };
+
+    /// The inverse of an element other than 0.
+    fn inverse(a: u16) -> u16
+        requires not_zero { 0 < a }
+        requires small { a < 2 ^ Self.DEGREE }
+        ensures value { times Self.DEGREE Self.MODULUS a result ≡ 1 }
+        ensures small { result < 2 ^ Self.DEGREE };
+}
+
 /// The product by x of an element, of degree below `F::DEGREE`.
 pub fn doubled<F: BinaryField>(a: u16) -> u16
     requires { a < 2 ^ F.DEGREE }

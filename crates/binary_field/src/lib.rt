@@ -4,7 +4,7 @@
 mod field;
 mod laws;
 
-pub use field::{BinaryField, doubled, inverse, logarithm, power_of_x, product};
+pub use field::{BinaryField, FieldProducts, doubled, inverse, logarithm, power_of_x, product};
 pub use laws::{inverse_laws, power_laws, product_laws, sum_laws};
 
 #[cfg(test)]
