@@ -1,0 +1,65 @@
+use Rattle.std.proofs.Common.{◌≡◌, ◌≤◌, ◌+◌, ◌*◌, ◌++◌, ◌∙◌, ℕ, List, length, take, sym, ap, subst, arith}
+use Rattle.std.proofs.lemmas.List.{length-append, length-take-le}
+use Rattle.std.proofs.Math.Seq.{take-append_seam}
+use Rattle.code_model.specs.Bits.{bit_of, bits_of}
+use Rattle.code_model.specs.Word.{distance}
+use Rattle.code_model.specs.Code.{code_512, IsNearest}
+use Rattle.code_model.proofs.ByteLemmas.{length-bits_of}
+use Rattle.code_model.proofs.NearestLemmas.{near_code_words-equal, code_512-bch}
+use Rattle.bch_solver.specs.Words.{code_over, word_of}
+use Rattle.bch_solver.proofs.BitsLemmas.{word_of-joined, bit_of-joined}
+use Rattle.bch_decode.specs.Answers.{step_word}
+use Rattle.bch_decode.specs.declared.decoder.Decoded.TheVariants.{Corrected}
+use Rattle.bch_quick.proofs.decoder.decode_quick.Goals as goal
+
+-- the word that was copied in
+word_before : (t : ℕ) (bytes step parity : List ℕ) → length step ≡ 512 → bytes ≡ step ++ parity → word_of (code_over 13 0x201b t 512) bytes ≡ step_word t step parity
+word_before t bytes step parity len e = ap (word_of (code_over 13 0x201b t 512)) e ∙ word_of-joined 13 0x201b t 512 step parity len
+
+-- what is copied back of a buffer that begins with the decoded word
+copied_back : (word rest both : List ℕ) (end : ℕ) → length word ≡ end → both ≡ take end (word ++ rest) → both ≡ word
+copied_back word rest both end len e = e ∙ ap (λ n. take n (word ++ rest)) (sym len) ∙ take-append_seam word rest
+
+nearest_as : (t : ℕ) (w w' c c' : List ℕ) (d : ℕ) → w ≡ w' → c ≡ c' → IsNearest (code_512 t) w c d → IsNearest (code_512 t) w' c' d
+nearest_as t w w' c c' d ew ec h = subst (λ (v : List ℕ). IsNearest (code_512 t) w' v d) ec (subst (λ (v : List ℕ). IsNearest (code_512 t) v c d) ew h)
+
+-- the bytes of step and parity at the end
+written : (c : goal.After-slice_known-in-Some-1) → c.part.new.step ++ c.part.new.parity ≡ c.decode_guessed.new.word
+written c =
+    copied_back c.decode_guessed.new.word _ (c.part.new.step ++ c.part.new.parity) (512 + length c.args.parity.now)
+    (c.decode_guessed.auto.word ∙ ap length c.joined-word.ensures ∙ length-append c.args.step.now c.args.parity.now ∙ ap (λ n. n + length c.args.parity.now) c.told-step) c.part.ensures
+
+pub returns-in-Some-clause-decodes : goal.returns-in-Some-clause-decodes
+returns-in-Some-clause-decodes c =
+    let before = word_before c.args.t _ c.args.step.now c.args.parity.now c.told-step c.joined-word.ensures in
+    let after = word_before c.args.t c.decode_guessed.new.word c.part.new.step c.part.new.parity c.part.array_long (sym (written c)) in
+    nearest_as c.args.t _ _ _ _ c.in-Some.wrong before after c.in-Some.ensures.nearest
+
+-- the bits of a word
+step_word-long : (t : ℕ) (step parity : List ℕ) → length step ≡ 512 → 13 * t ≤ 8 * length parity → length (step_word t step parity) ≡ 4096 + 13 * t
+step_word-long t step parity len room =
+    let first = length-bits_of step in
+    let all = length-bits_of parity in
+    let last : length (take (13 * t) (bits_of parity)) ≡ 13 * t = length-take-le (13 * t) (bits_of parity) (omega arith) in
+    length-append (bits_of step) (take (13 * t) (bits_of parity)) ∙ omega arith
+
+-- a nearest code word is the only one
+nearest_only : (t : ℕ) (w c v : List ℕ) (d n : ℕ) → t ≤ 16 → length w ≡ 4096 + 13 * t → IsNearest (code_512 t) w c d → IsNearest (code_512 t) w v n → (d ≡ n) × (c ≡ v)
+nearest_only t w c v d n few long x y =
+    let same : c ≡ v = near_code_words-equal (code_512 t) (code_512-bch t few) w c v long x.word y.word
+    (let h = x.near in let k = x.apart in omega arith) (let h = y.near in let k = y.apart in omega arith) in
+    (sym x.apart ∙ ap (distance w) same ∙ y.apart, same)
+
+pub returns-in-Some-clause-finds : goal.returns-in-Some-clause-finds
+returns-in-Some-clause-finds c = λ word n nearest.
+    let t = c.args.t in
+    let room = c.requires.room in
+    let long = step_word-long t c.args.step.now c.args.parity.now c.told-step (omega arith) in
+    let only = nearest_only t _ _ _ _ _ c.requires.strength.1 long (returns-in-Some-clause-decodes c) nearest in
+    (ap Corrected only.0, only.1)
+
+pub returns-in-Some-clause-padding : goal.returns-in-Some-clause-padding
+returns-in-Some-clause-padding c = λ k h.
+    let same = c.in-Some.ensures.padding (8 * 512 + k) (omega arith) in
+    sym (bit_of-joined c.part.new.step c.part.new.parity 512 k c.part.array_long) ∙ ap (λ bytes. bit_of bytes (8 * 512 + k)) (written c) ∙ same
+    ∙ ap (λ bytes. bit_of bytes (8 * 512 + k)) c.joined-word.ensures ∙ bit_of-joined c.args.step.now c.args.parity.now 512 k c.told-step

@@ -1,0 +1,33 @@
+// The decoder by a search, with products by tables.
+ghost use Rattle.std.specs.Prelude.{◌≡◌, ◌<◌, ◌≤◌, ◌+◌, ◌*◌, ◌/◌, ◌++◌, ℕ, List, length, take};
+ghost use Rattle.code_model.specs.Bits.{bit_of};
+ghost use Rattle.code_model.specs.Code.{code_512, IsNearest, Decodes};
+ghost use Rattle.bch_decode.specs.Answers.{answer_of, step_word};
+
+use crate::copies::{joined, part};
+use bch_decode::Decoded;
+use bch_solver::decode_word;
+use gf2_poly::generator;
+use gf13_tables::TableField13;
+
+/// Decodes a step in place by its parity, as `bch_decode::decode` does, by the same search.
+pub(crate) fn decode_searched(t: u32, step: &mut [u8; 512], parity: &mut [u8]) -> Decoded
+    requires strength { (0 < t) × (t ≤ 16) }
+    requires room { length parity.old ≡ (13 * t + 7) / 8 }
+    ensures decodes { Decodes (code_512 t) (step_word t step.old parity.old)
+        (answer_of result (step_word t step.new parity.new)) }
+    ensures finds { (c : List ℕ) (n : ℕ) → IsNearest (code_512 t) (step_word t step.old parity.old) c n
+        → (result ≡ Decoded.Corrected n) × (step_word t step.new parity.new ≡ c) }
+    ensures padding { (k : ℕ) → 13 * t ≤ k → bit_of parity.new k ≡ bit_of parity.old k }
+    ensures unchanged { result ≡ Decoded.Failed → (step.new ≡ step.old) × (parity.new ≡ parity.old) }
+{
+    let end = 512 + parity.len();
+    let mut word = joined(step, parity);
+    match decode_word::<TableField13>(t, generator(t).bits(), 512, &mut word[..end]) {
+        None => Decoded::Failed,
+        Some(wrong) => {
+            part(&word[..end], step, parity);
+            Decoded::Corrected(wrong)
+        }
+    }
+}

@@ -1,0 +1,117 @@
+// A word in one run of bytes: 512 bytes of a step, and then its parity.
+ghost use Rattle.std.specs.Prelude.{◌≡◌, ◌≢◌, ◌<◌, ◌≤◌, ◌*◌, ◌+◌, ◌-◌, ◌/◌, ℕ, length, IsTrue, IfSome};
+ghost use Rattle.code_model.specs.Bits.{bit_of, bits_from};
+ghost use Rattle.code_model.specs.Code.{code_512, IsCodeWord, IsNearest};
+ghost use Rattle.code_model.specs.Word.{distance};
+ghost use Rattle.bch_solver.specs.Words.{word_of};
+
+use crate::encoder::put_parity_quick;
+use bch_guess::likely_places;
+
+// Whether two parities are the same but for the last bits.
+fn is_same(own: &[u8], parity: &[u8], padding: u32) -> bool
+    requires long { length own.now ≡ length parity.now }
+    requires some { 0 < length parity.now }
+    requires padding { padding < 8 }
+    ensures { IsTrue result → (k : ℕ) → k + padding < 8 * length parity.now → bit_of own.now k ≡ bit_of parity.now k }
+{
+    let last = parity.len() - 1;
+    for i in 0..last {
+        if own[i] != parity[i] {
+            return false;
+        }
+    }
+    own[last] >> padding == parity[last] >> padding
+}
+
+// Writes the parity of a word's step, and tells whether the word has it.
+fn is_code_word(t: u32, word: &[u8], own: &mut [u8]) -> bool
+    requires strength { (0 < t) × (t ≤ 16) }
+    requires whole { length word.now ≡ 512 + (13 * t + 7) / 8 }
+    requires room { length own.old ≡ (13 * t + 7) / 8 }
+    ensures { IsTrue result → IsCodeWord (code_512 t) (word_of (code_512 t) word.now) }
+{
+    let padding = 8 * own.len() as u32 - 13 * t;
+    put_parity_quick(t, &word[..512], own);
+    is_same(own, &word[512..], padding)
+}
+
+// Turns one bit over.
+fn flip(bytes: &mut [u8], place: usize)
+    requires { place < 8 * length bytes.old }
+    ensures turned { bit_of bytes.new place ≡ 1 - bit_of bytes.old place }
+    ensures others { (k : ℕ) → k ≢ place → bit_of bytes.new k ≡ bit_of bytes.old k }
+{
+    bytes[place / 8] ^= 128u8 >> (place % 8);
+}
+
+// Turns over the bits of these degrees among the first `count` bits, the last of which has the degree 0, and tells whether the degrees were below `count` and rose.
+fn turn_over(bytes: &mut [u8], count: usize, degrees: &[u16]) -> bool
+    requires room { count ≤ 8 * length bytes.old }
+    ensures distance { IsTrue result → length degrees.now ≡ distance (bits_from bytes.old 0 count) (bits_from bytes.new 0 count) }
+    ensures padding { (k : ℕ) → count ≤ k → bit_of bytes.new k ≡ bit_of bytes.old k }
+{
+    let mut seen = 0usize;
+    for degree in degrees {
+        let degree = *degree as usize;
+        if degree < seen || degree >= count {
+            return false;
+        }
+        flip(bytes, count - 1 - degree);
+        seen = degree + 1;
+    }
+    true
+}
+
+// Turns over the bits of these degrees, and tests the word that comes out.
+fn is_put_right(t: u32, word: &mut [u8], degrees: &[u16], own: &mut [u8]) -> bool
+    requires strength { (0 < t) × (t ≤ 16) }
+    requires whole { length word.old ≡ 512 + (13 * t + 7) / 8 }
+    requires few { length degrees.now ≤ t }
+    requires room { length own.old ≡ (13 * t + 7) / 8 }
+    ensures nearest { IsTrue result → IsNearest (code_512 t) (word_of (code_512 t) word.old) (word_of (code_512 t) word.new) (length degrees.now) }
+    ensures padding { (k : ℕ) → 4096 + 13 * t ≤ k → bit_of word.new k ≡ bit_of word.old k }
+{
+    turn_over(word, 4096 + 13 * t as usize, degrees) && is_code_word(t, word, own)
+}
+
+// What is left of a word by its own parity, in place of that parity: 0 in the padding bits.
+fn take_off(own: &mut [u8], parity: &[u8], padding: u32)
+    requires long { length own.old ≡ length parity.now }
+    requires some { 0 < length parity.now }
+    requires padding { padding < 8 }
+{
+    for i in 0..own.len() {
+        own[i] ^= parity[i];
+    }
+    let last = own.len() - 1;
+    own[last] = (own[last] >> padding) << padding;
+}
+
+/// Decodes a word in place where a guess of its wrong bits is right. Some(n): the word is the nearest code word, in which n bits were wrong, and the padding is as received. None: nothing is known, and the word is left as it may be.
+pub(crate) fn decode_guessed(t: u32, word: &mut [u8]) -> Option<u32>
+    requires strength { (0 < t) × (t ≤ 16) }
+    requires whole { length word.old ≡ 512 + (13 * t + 7) / 8 }
+    ensures nearest { IfSome result (IsNearest (code_512 t) (word_of (code_512 t) word.old) (word_of (code_512 t) word.new)) }
+    ensures padding { (k : ℕ) → 4096 + 13 * t ≤ k → bit_of word.new k ≡ bit_of word.old k }
+{
+    let len = word.len() - 512;
+    let mut own = [0u8; 26];
+    if is_code_word(t, word, &mut own[..len]) {
+        return Some(0);
+    }
+    take_off(&mut own[..len], &word[512..], 8 * len as u32 - 13 * t);
+    match likely_places(t, 4096 + 13 * t as usize, &own[..len]) {
+        None => None,
+        Some(found) => {
+            if found.count > t as usize {
+                return None;
+            }
+            if is_put_right(t, word, &found.places[..found.count], &mut own[..len]) {
+                Some(found.count as u32)
+            } else {
+                None
+            }
+        }
+    }
+}

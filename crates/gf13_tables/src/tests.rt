@@ -1,0 +1,28 @@
+ghost use Rattle.std.specs.Prelude.{◌<◌};
+
+use super::*;
+use binary_field::FieldProducts;
+
+// Products and inverses from outside, and each logarithm of the table.
+#[test]
+fn agrees_with_values_from_outside(rt: HostRuntime) {
+    let products = [
+        (0x0000, 0x1fff, 0x0000),
+        (0x0001, 0x1234, 0x1234),
+        (0x0002, 0x1000, 0x001b),
+        (0x1fff, 0x1fff, 0x151a),
+        (0x0e68, 0x1428, 0x0d8a),
+        (0x077c, 0x1be3, 0x170c),
+    ];
+    for (a, b, product) in products {
+        assert!(rt; a < 8192 && b < 8192, "in the field");
+        assert_eq!(rt; TableField13::product(a, b), product, "{a} times {b}");
+    }
+    for (a, inverse) in [(0x0001, 0x0001), (0x0002, 0x100d), (0x1fff, 0x1741)] {
+        assert!(rt; 0 < a && a < 8192, "in the field");
+        assert_eq!(rt; TableField13::inverse(a), inverse, "inverse of {a}");
+    }
+    for a in 1u16..8192 {
+        assert_eq!(rt; power_of(likely_logarithm(a)), a, "logarithm of {a}");
+    }
+}
