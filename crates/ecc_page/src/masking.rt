@@ -3,7 +3,7 @@ ghost use Rattle.std.specs.Prelude.{◌≡◌, ◌<◌, ◌≤◌, length, map, 
 ghost use Rattle.code_model.specs.Bits.{xor_bytes};
 ghost use Rattle.code_model.specs.Code.{code_512, mask_of, parity_len};
 
-use bch_encode::parity;
+use bch_quick::parity_quick;
 
 /// Writes the mask of the code that corrects t wrong bits, from 1 to 16, into (13 t + 7) / 8 bytes: the complement, padding bits too, of the parity of 512 bytes 0xFF. With it the stored parity of an erased step is 0xFF, as in nand_ecc's software BCH.
 pub fn mask(t: u32, out: &mut [u8])
@@ -11,7 +11,7 @@ pub fn mask(t: u32, out: &mut [u8])
     requires room { length out.old ≡ parity_len (code_512 t) }
     ensures { out.new ≡ mask_of (code_512 t) }
 {
-    parity(t, &[0xff; 512], out);
+    parity_quick(t, &[0xff; 512], out);
     complement(out);
 }
 

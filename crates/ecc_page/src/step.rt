@@ -4,8 +4,8 @@ ghost use Rattle.code_model.specs.Code.{code_512, mask_of, parity_len};
 ghost use Rattle.ecc_page.specs.Steps.{parity_stored, read_of};
 
 use crate::masking::put_mask;
-use bch_decode::{Decoded, decode};
-use bch_encode::parity;
+use bch_decode::Decoded;
+use bch_quick::{decode_quick, parity_quick};
 
 // The s-th step of a body.
 pub(crate) fn step_at(body: &[u8], s: usize) -> [u8; 512]
@@ -24,7 +24,7 @@ pub(crate) fn encode_step(t: u32, mask: &[u8], step: &[u8; 512], out: &mut [u8])
     requires room { length out.old ≡ parity_len (code_512 t) }
     ensures { out.new ≡ parity_stored t step.now }
 {
-    parity(t, step, out);
+    parity_quick(t, step, out);
     put_mask(out, mask);
 }
 
@@ -42,7 +42,7 @@ pub(crate) fn decode_step(t: u32, mask: &[u8], step: &mut [u8], stored: &mut [u8
     let mut bytes = [0u8; 512];
     bytes.copy_from_slice(step);
     put_mask(stored, mask);
-    let decoded = decode(t, &mut bytes, stored);
+    let decoded = decode_quick(t, &mut bytes, stored);
     put_mask(stored, mask);
     step.copy_from_slice(&bytes);
     match decoded {

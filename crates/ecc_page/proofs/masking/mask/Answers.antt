@@ -5,4 +5,4 @@ use Rattle.ecc_page.proofs.masking.mask.Goals as goal
 
 pub returns : goal.returns
 unfolding mask_of
-returns c = c.complement.ensures ∙ ap (map (λ byte. bit_xor byte 0xff)) c.parity.ensures.parity
+returns c = c.complement.ensures ∙ ap (map (λ byte. bit_xor byte 0xff)) c.parity_quick.ensures.parity
