@@ -5,4 +5,4 @@ mod register;
 mod word;
 
 pub use register::divide;
-pub use word::{parity_number, put_parity, remainder_of_word};
+pub use word::{number_of, parity_number, put_parity, remainder_of_word};

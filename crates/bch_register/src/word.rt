@@ -27,8 +27,8 @@ pub fn parity_number(body: &[u8], generator: U256, degree: u32) -> U256
     divide(body, aligned(generator, degree)) >> (256 - degree)
 }
 
-// The number that bytes spell, the highest first.
-fn number_of(bytes: &[u8]) -> U256
+/// The number that bytes spell, the highest first.
+pub fn number_of(bytes: &[u8]) -> U256
     requires { length bytes.now ≤ 32 }
     ensures { result ≡ number_from 0 (bits_of bytes.now) }
 {

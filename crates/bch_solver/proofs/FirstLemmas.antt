@@ -7,7 +7,7 @@ use Rattle.code_model.proofs.BinaryLemmas.{times-zero, times_comm, times-one}
 use Rattle.bch_solver.specs.Rows.{syndrome_at}
 use Rattle.code_model.specs.Binary.{IsPrimitive}
 
-zeros : (n k : ℕ) → get_or {A = ℕ} (replicate n 0) k 0 ≡ 0
+pub zeros : (n k : ℕ) → get_or {A = ℕ} (replicate n 0) k 0 ≡ 0
 zeros zero k = refl
 zeros (suc n) zero = refl
 zeros (suc n) (suc k) = zeros n k

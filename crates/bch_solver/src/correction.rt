@@ -15,7 +15,7 @@ use binary_field::FieldProducts;
 use u256::U256;
 
 // The parity bits of a code: the degree of its generator.
-fn parity_bits<F: FieldProducts>(strength: u32) -> u32
+pub(crate) fn parity_bits<F: FieldProducts>(strength: u32) -> u32
     requires { strength ≤ 16 }
     ensures value { result ≡ F.DEGREE * strength }
     ensures small { result ≤ 224 }

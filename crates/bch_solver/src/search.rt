@@ -11,7 +11,7 @@ use crate::locator::Locator;
 use binary_field::FieldProducts;
 
 // The value of a polynomial at x.
-fn value_of<F: FieldProducts>(locator: &Locator, x: u16) -> u16
+pub(crate) fn value_of<F: FieldProducts>(locator: &Locator, x: u16) -> u16
     requires room { locator.now.degree < 17 }
     requires small_x { x < 2 ^ F.DEGREE }
     requires small_locator { AllBelow (2 ^ F.DEGREE) locator.now.coefficients }
