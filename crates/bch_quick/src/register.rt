@@ -3,9 +3,12 @@ ghost use Rattle.std.specs.Prelude.{◌≡◌, ◌<◌, ◌≤◌, ◌*◌, ◌+
 ghost use Rattle.code_model.specs.Binary.{remainder};
 ghost use Rattle.code_model.specs.Bits.{bits_of, bytes_of};
 ghost use Rattle.code_model.specs.Code.{code_512, parity_number};
+ghost use Rattle.code_model.specs.Generator.{generator_of};
 ghost use Rattle.code_model.specs.Word.{number_from};
+ghost use Rattle.bch_decode.specs.Answers.{step_word};
 ghost use Rattle.bch_tables.specs.Rows.{aligned, AreRows, AreWideRows};
 
+use bch_register::number_of;
 use bch_tables::{middle_rows, narrow_rows, wide_rows};
 use u256::U256;
 
@@ -136,6 +139,17 @@ pub(crate) fn parity_number_quick(t: u32, body: &[u8]) -> U256
     } else {
         wide(t, body) >> (256 - 13 * t)
     }
+}
+
+/// The remainder of the word of a step and its parity by the generator.
+pub(crate) fn remainder_quick(t: u32, step: &[u8; 512], parity: &[u8]) -> U256
+    requires strength { (0 < t) × (t ≤ 16) }
+    requires room { length parity.now ≡ (13 * t + 7) / 8 }
+    ensures value { result ≡ remainder (13 * t) (generator_of 13 0x201b t) (number_from 0 (step_word t step.now parity.now)) }
+    ensures small { result < 2 ^ (13 * t) }
+{
+    let padding = 8 * parity.len() as u32 - 13 * t;
+    parity_number_quick(t, step) ^ (number_of(parity) >> padding)
 }
 
 /// Writes a number of `degree` bits into (degree + 7) / 8 bytes, the highest first, with 0 in the padding bits of the last byte.

@@ -1,5 +1,5 @@
 // A word in one run of bytes: 512 bytes of a step, and then its parity.
-ghost use Rattle.std.specs.Prelude.{◌≡◌, ◌≢◌, ◌<◌, ◌≤◌, ◌*◌, ◌+◌, ◌-◌, ◌/◌, ℕ, length, IsTrue, IfSome};
+ghost use Rattle.std.specs.Prelude.{◌≡◌, ◌≢◌, ◌<◌, ◌≤◌, ◌*◌, ◌+◌, ◌-◌, ◌/◌, ℕ, length, IsTrue, IfOk};
 ghost use Rattle.code_model.specs.Bits.{bit_of, bits_from};
 ghost use Rattle.code_model.specs.Code.{code_512, IsCodeWord, IsNearest};
 ghost use Rattle.code_model.specs.Word.{distance};
@@ -88,29 +88,29 @@ fn take_off(own: &mut [u8], parity: &[u8], padding: u32)
     own[last] = (own[last] >> padding) << padding;
 }
 
-/// Decodes a word in place where a guess of its wrong bits is right. Some(n): the word is the nearest code word, in which n bits were wrong, and the padding is as received. None: nothing is known, and the word is left as it may be.
-pub(crate) fn decode_guessed(t: u32, word: &mut [u8]) -> Option<u32>
+/// Decodes a word in place where a guess of its wrong bits is right. Ok(n): the word is the nearest code word, in which n bits were wrong, and the padding is as received. Err: nothing is known, and the word is left as it may be; the number is the greatest degree of the guess, which may lie outside the word, or 0.
+pub(crate) fn decode_guessed(t: u32, word: &mut [u8]) -> Result<u32, u32>
     requires strength { (0 < t) × (t ≤ 16) }
     requires whole { length word.old ≡ 512 + (13 * t + 7) / 8 }
-    ensures nearest { IfSome result (IsNearest (code_512 t) (word_of (code_512 t) word.old) (word_of (code_512 t) word.new)) }
+    ensures nearest { IfOk result (IsNearest (code_512 t) (word_of (code_512 t) word.old) (word_of (code_512 t) word.new)) }
     ensures padding { (k : ℕ) → 4096 + 13 * t ≤ k → bit_of word.new k ≡ bit_of word.old k }
 {
     let len = word.len() - 512;
     let mut own = [0u8; 26];
     if is_code_word(t, word, &mut own[..len]) {
-        return Some(0);
+        return Ok(0);
     }
     take_off(&mut own[..len], &word[512..], 8 * len as u32 - 13 * t);
     match likely_places(t, 4096 + 13 * t as usize, &own[..len]) {
-        None => None,
+        None => Err(0),
         Some(found) => {
-            if found.count > t as usize {
-                return None;
+            if found.count > t as usize || found.count == 0 {
+                return Err(0);
             }
             if is_put_right(t, word, &found.places[..found.count], &mut own[..len]) {
-                Some(found.count as u32)
+                Ok(found.count as u32)
             } else {
-                None
+                Err(u32::from(found.places[found.count - 1]))
             }
         }
     }

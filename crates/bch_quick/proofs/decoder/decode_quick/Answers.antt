@@ -24,16 +24,16 @@ nearest_as : (t : ℕ) (w w' c c' : List ℕ) (d : ℕ) → w ≡ w' → c ≡ c
 nearest_as t w w' c c' d ew ec h = subst (λ (v : List ℕ). IsNearest (code_512 t) w' v d) ec (subst (λ (v : List ℕ). IsNearest (code_512 t) v c d) ew h)
 
 -- the bytes of step and parity at the end
-written : (c : goal.After-slice_known-in-Some-1) → c.part.new.step ++ c.part.new.parity ≡ c.decode_guessed.new.word
+written : (c : goal.After-slice_known-in-Ok-1) → c.part.new.step ++ c.part.new.parity ≡ c.decode_guessed.new.word
 written c =
     copied_back c.decode_guessed.new.word _ (c.part.new.step ++ c.part.new.parity) (512 + length c.args.parity.now)
     (c.decode_guessed.auto.word ∙ ap length c.joined-word.ensures ∙ length-append c.args.step.now c.args.parity.now ∙ ap (λ n. n + length c.args.parity.now) c.told-step) c.part.ensures
 
-pub returns-in-Some-clause-decodes : goal.returns-in-Some-clause-decodes
-returns-in-Some-clause-decodes c =
+pub returns-in-Ok-clause-decodes : goal.returns-in-Ok-clause-decodes
+returns-in-Ok-clause-decodes c =
     let before = word_before c.args.t _ c.args.step.now c.args.parity.now c.told-step c.joined-word.ensures in
     let after = word_before c.args.t c.decode_guessed.new.word c.part.new.step c.part.new.parity c.part.array_long (sym (written c)) in
-    nearest_as c.args.t _ _ _ _ c.in-Some.wrong before after c.in-Some.ensures.nearest
+    nearest_as c.args.t _ _ _ _ c.in-Ok.wrong before after c.in-Ok.ensures.nearest
 
 -- the bits of a word
 step_word-long : (t : ℕ) (step parity : List ℕ) → length step ≡ 512 → 13 * t ≤ 8 * length parity → length (step_word t step parity) ≡ 4096 + 13 * t
@@ -50,16 +50,16 @@ nearest_only t w c v d n few long x y =
     (let h = x.near in let k = x.apart in omega arith) (let h = y.near in let k = y.apart in omega arith) in
     (sym x.apart ∙ ap (distance w) same ∙ y.apart, same)
 
-pub returns-in-Some-clause-finds : goal.returns-in-Some-clause-finds
-returns-in-Some-clause-finds c = λ word n nearest.
+pub returns-in-Ok-clause-finds : goal.returns-in-Ok-clause-finds
+returns-in-Ok-clause-finds c = λ word n nearest.
     let t = c.args.t in
     let room = c.requires.room in
     let long = step_word-long t c.args.step.now c.args.parity.now c.told-step (omega arith) in
-    let only = nearest_only t _ _ _ _ _ c.requires.strength.1 long (returns-in-Some-clause-decodes c) nearest in
+    let only = nearest_only t _ _ _ _ _ c.requires.strength.1 long (returns-in-Ok-clause-decodes c) nearest in
     (ap Corrected only.0, only.1)
 
-pub returns-in-Some-clause-padding : goal.returns-in-Some-clause-padding
-returns-in-Some-clause-padding c = λ k h.
-    let same = c.in-Some.ensures.padding (8 * 512 + k) (omega arith) in
+pub returns-in-Ok-clause-padding : goal.returns-in-Ok-clause-padding
+returns-in-Ok-clause-padding c = λ k h.
+    let same = c.in-Ok.ensures.padding (8 * 512 + k) (omega arith) in
     sym (bit_of-joined c.part.new.step c.part.new.parity 512 k c.part.array_long) ∙ ap (λ bytes. bit_of bytes (8 * 512 + k)) (written c) ∙ same
     ∙ ap (λ bytes. bit_of bytes (8 * 512 + k)) c.joined-word.ensures ∙ bit_of-joined c.args.step.now c.args.parity.now 512 k c.told-step
