@@ -1,11 +1,8 @@
 // Words near which no code word lies: their locator has a root outside the word, or fewer roots than its degree.
-ghost use Rattle.std.specs.Prelude.{◌≡◌, ◌<◌, ◌≤◌, ◌*◌, ◌-◌, ◌^◌, ℕ, List, length, IsTrue, slice_index};
-ghost use Rattle.code_model.specs.Binary.{times, power};
-ghost use Rattle.code_model.specs.Poly.{Every, value};
-ghost use Rattle.code_model.proofs.KeyEquation.{ArePlaces};
+ghost use Rattle.std.specs.Prelude.{◌≡◌, ◌<◌, ◌≤◌, ◌*◌, ◌^◌, ℕ, IsTrue, slice_index};
 ghost use Rattle.bch_solver.specs.Words.{HasNoneNear};
-ghost use Rattle.bch_solver.specs.Rows.{AllBelow, polynomial_of};
-ghost use Rattle.bch_solver.specs.Residues.{value_17, IsModulus};
+ghost use Rattle.bch_solver.specs.Rows.{AllBelow};
+ghost use Rattle.bch_solver.specs.Residues.{IsModulus, IsRootBeyond, LacksRoots};
 
 use crate::correction::parity_bits;
 use crate::locator::{Locator, solve};
@@ -19,8 +16,8 @@ use u256::U256;
 fn has_root_beyond<F: FieldProducts>(locator: &Locator, count: usize, degree: u32) -> bool
     requires room { locator.now.degree < 17 }
     requires small_locator { AllBelow (2 ^ F.DEGREE) locator.now.coefficients }
-    ensures { IsTrue result → (count ≤ degree) × (degree < 2 ^ F.DEGREE - 1) × (value (times F.DEGREE F.MODULUS)
-        (polynomial_of locator.now.coefficients locator.now.degree) (power F.DEGREE F.MODULUS 2 degree) ≡ 0) }
+    ensures { IsTrue result
+        → IsRootBeyond F.DEGREE F.MODULUS count degree locator.now.degree locator.now.coefficients }
 {
     if (degree as usize) < count || degree >= (1 << F::DEGREE) - 1 {
         return false;
@@ -44,8 +41,8 @@ fn is_one(residue: &Residue) -> bool
 // Whether x^(2^m - 1) modulo the locator is not 1, where the field has 2^m elements: then the locator has fewer roots other than 0 than its degree.
 fn lacks_roots<F: FieldProducts>(locator: &Locator) -> bool
     requires locator { IsModulus F.DEGREE locator.now.degree locator.now.coefficients }
-    ensures { IsTrue result → (xs : List ℕ) → ArePlaces (2 ^ F.DEGREE) xs → length xs ≡ locator.now.degree
-        → Every (λ x. value_17 F.DEGREE F.MODULUS locator.now.coefficients x ≡ 0) xs → ⊥ }
+    ensures { IsTrue result
+        → LacksRoots F.DEGREE F.MODULUS locator.now.degree locator.now.coefficients }
 {
     let mut power = [0u16; 17];
     power[0] = 1;

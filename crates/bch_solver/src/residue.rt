@@ -1,7 +1,7 @@
 // Polynomials modulo a locator.
 ghost use Rattle.std.specs.Prelude.{◌≡◌, ◌<◌, ◌^◌, ℕ};
 ghost use Rattle.code_model.specs.Binary.{times};
-ghost use Rattle.bch_solver.specs.Residues.{value_17, IsModulus, IsResidue};
+ghost use Rattle.bch_solver.specs.Residues.{value_17, square_times, IsModulus, IsResidue};
 
 use crate::locator::Locator;
 use binary_field::FieldProducts;
@@ -34,7 +34,7 @@ pub fn squared_up<F: FieldProducts>(residue: &Residue, locator: &Locator) -> Res
     ensures residue { IsResidue F.DEGREE locator.now.degree result }
     ensures value { (x : ℕ) → value_17 F.DEGREE F.MODULUS locator.now.coefficients x ≡ 0
         → let v = value_17 F.DEGREE F.MODULUS residue.now x in
-        value_17 F.DEGREE F.MODULUS result x ≡ times F.DEGREE F.MODULUS x (times F.DEGREE F.MODULUS v v) }
+        value_17 F.DEGREE F.MODULUS result x ≡ square_times F.DEGREE F.MODULUS v x }
 {
     let mut sum = [0u16; 17];
     for i in 0..locator.degree {

@@ -40,8 +40,8 @@ returns-then-has_root_beyond g c = λ beyond. λ w word bits long rem near.
     let r = found m f p t e w word s (λ l. slice_index cs l) c.requires.strength c.in-Some.ensures.solved.0 bits near.bits (sym near.long) (omega arith) near.code near.near syn
     c.in-Some.ensures.solved.1 c.in-Some.ensures.least in
     let at = c.has_root_beyond.ensures beyond in
-    let inside = different_from_place m f p d w word (sym near.long) at.1 (omega arith) (r.2 (power m f 2 d) (power-lt m f p 2 d) at.2) in
-    let far = at.0 in
+    let inside = different_from_place m f p d w word (sym near.long) at.within (omega arith) (r.2 (power m f 2 d) (power-lt m f p 2 d) at.root) in
+    let far = at.outside in
     let here = inside.0 in
     omega arith
 
