@@ -30,9 +30,9 @@ syndromes-remainder m f p t n w s e h j a b =
     ∙ value_at-remainder m f p (power m f 2 j) (m * t) (generator_of m f t) (number_from 0 w) degree.0 degree.1 (generator-roots m f p t j a b)
 
 -- syndromes in a list, counted from 1
-pub syndromes_counted : (m f : ℕ) (p : IsPrimitive m f) (t n : ℕ) (w all : List ℕ) → t ≤ 16
+pub syndromes_counted : (m f : ℕ) (p : IsPrimitive m f) (t n : ℕ) (w all : List ℕ)
     → n ≡ remainder (m * t) (generator_of m f t) (number_from 0 w)
-    → ((j : ℕ) → j < 32 → get_or all j 0 ≡ value_at m f (power m f 2 (suc j)) n) → AreSyndromes m f p t w (syndrome_at all)
-syndromes_counted m f p t n w all ht e h =
+    → ((j : ℕ) → j < 2 * t → get_or all j 0 ≡ value_at m f (power m f 2 (suc j)) n) → AreSyndromes m f p t w (syndrome_at all)
+syndromes_counted m f p t n w all e h =
     syndromes-remainder m f p t n w (syndrome_at all) e
     (λ j a b. let q : suc (j - 1) ≡ j = omega arith in h (j - 1) (omega arith) ∙ ap (λ k. value_at m f (power m f 2 k) n) q)

@@ -55,7 +55,8 @@ fn correct_word<F: FieldProducts>(
         → (result ≡ Some (distance (bits_from word.old 0 count) c))
         × (bits_from word.new 0 count ≡ c) }
 {
-    let values = syndromes::<F>(word_remainder, parity_bits::<F>(strength));
+    let syndrome_count = 2 * strength as usize;
+    let values = syndromes::<F>(word_remainder, parity_bits::<F>(strength), syndrome_count);
     match solve::<F>(strength as usize, &values) {
         None => None,
         Some(locator) => Some(correct::<F>(word, count, &locator)),

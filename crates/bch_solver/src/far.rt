@@ -64,7 +64,8 @@ pub fn is_far<F: FieldProducts>(
     requires small { word_remainder < 2 ^ (F.DEGREE * strength) }
     ensures { IsTrue result → HasNoneNear F.DEGREE F.MODULUS strength count word_remainder }
 {
-    let values = syndromes::<F>(word_remainder, parity_bits::<F>(strength));
+    let syndrome_count = 2 * strength as usize;
+    let values = syndromes::<F>(word_remainder, parity_bits::<F>(strength), syndrome_count);
     match solve::<F>(strength as usize, &values) {
         None => true,
         Some(locator) => {

@@ -24,17 +24,18 @@ fn value_of_bits<F: FieldProducts>(polynomial: U256, degree: u32, x: u16) -> u16
     sum
 }
 
-/// The values of a polynomial of degree below `degree`, where bit k is the coefficient of x^k, at x, x^2 and so on to x^32: the syndromes of a word whose remainder it is.
-pub fn syndromes<F: FieldProducts>(polynomial: U256, degree: u32) -> [u16; 32]
+/// The values of a polynomial of degree below `degree`, where bit k is the coefficient of x^k, at the first `count` powers of x, from x on: the syndromes of a word whose remainder it is.
+pub fn syndromes<F: FieldProducts>(polynomial: U256, degree: u32, count: usize) -> [u16; 32]
     requires degree { degree ≤ 256 }
     requires small { polynomial < 2 ^ degree }
+    requires few { count ≤ 32 }
     ensures small { AllBelow (2 ^ F.DEGREE) result }
-    ensures values { (j : ℕ) → j < 32 → slice_index result j
+    ensures values { (j : ℕ) → j < count → slice_index result j
         ≡ value_at F.DEGREE F.MODULUS (power F.DEGREE F.MODULUS 2 (suc j)) polynomial }
 {
     let mut all = [0u16; 32];
     let mut power = 2u16;
-    for j in 0..32 {
+    for j in 0..count {
         all[j] = value_of_bits::<F>(polynomial, degree, power);
         power = F::product(power, 2);
     }

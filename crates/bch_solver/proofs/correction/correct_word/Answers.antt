@@ -33,7 +33,7 @@ returns-in-None-clause-complete g c = λ word near.
     let w = bits_from old 0 n in
     let s = syndrome_at c.syndromes-values.result in
     let syn : AreSyndromes m f p t w s =
-    syndromes_counted m f p t c.args.word_remainder w c.syndromes-values.result c.requires.strength c.requires.remainder c.syndromes-values.ensures.values in
+    syndromes_counted m f p t c.args.word_remainder w c.syndromes-values.result c.requires.remainder c.syndromes-values.ensures.values in
     let u = solvable m f p t w word s c.requires.strength (bits_from-bits old 0 n) near.bits (sym near.long) near.code near.near syn in
     absurd (c.in-None.ensures.none (distance w word) u.0 near.near u.1)
 
@@ -48,7 +48,7 @@ returns-in-Some-clause-complete g c = λ word near.
     let w = bits_from old 0 n in
     let s = syndrome_at c.syndromes-values.result in
     let syn : AreSyndromes m f p t w s =
-    syndromes_counted m f p t c.args.word_remainder w c.syndromes-values.result c.requires.strength c.requires.remainder c.syndromes-values.ensures.values in
+    syndromes_counted m f p t c.args.word_remainder w c.syndromes-values.result c.requires.remainder c.syndromes-values.ensures.values in
     let new = c.correct.new.bytes in
     let e = c.in-Some.locator.degree in
     let cs = c.in-Some.locator.coefficients in

@@ -21,7 +21,7 @@ returns-in-None g c = λ _. λ w word bits long rem near.
     let p = g.F.BinaryField.primitive in
     let t = c.args.strength in
     let s = syndrome_at c.syndromes-values.result in
-    let syn : AreSyndromes m f p t w s = syndromes_counted m f p t c.args.word_remainder w c.syndromes-values.result c.requires.strength rem c.syndromes-values.ensures.values in
+    let syn : AreSyndromes m f p t w s = syndromes_counted m f p t c.args.word_remainder w c.syndromes-values.result rem c.syndromes-values.ensures.values in
     let u = solvable m f p t w word s c.requires.strength bits near.bits (sym near.long) near.code near.near syn in
     c.in-None.ensures.none (distance w word) u.0 near.near u.1
 
@@ -32,7 +32,7 @@ returns-then-has_root_beyond g c = λ beyond. λ w word bits long rem near.
     let p = g.F.BinaryField.primitive in
     let t = c.args.strength in
     let s = syndrome_at c.syndromes-values.result in
-    let syn : AreSyndromes m f p t w s = syndromes_counted m f p t c.args.word_remainder w c.syndromes-values.result c.requires.strength rem c.syndromes-values.ensures.values in
+    let syn : AreSyndromes m f p t w s = syndromes_counted m f p t c.args.word_remainder w c.syndromes-values.result rem c.syndromes-values.ensures.values in
     let e = c.in-Some.locator.degree in
     let cs = c.in-Some.locator.coefficients in
     let room = c.requires.below_order in
@@ -52,7 +52,7 @@ returns-else-has_root_beyond g c = λ lacks. λ w word bits long rem near.
     let p = g.F.BinaryField.primitive in
     let t = c.args.strength in
     let s = syndrome_at c.syndromes-values.result in
-    let syn : AreSyndromes m f p t w s = syndromes_counted m f p t c.args.word_remainder w c.syndromes-values.result c.requires.strength rem c.syndromes-values.ensures.values in
+    let syn : AreSyndromes m f p t w s = syndromes_counted m f p t c.args.word_remainder w c.syndromes-values.result rem c.syndromes-values.ensures.values in
     let e = c.in-Some.locator.degree in
     let cs = c.in-Some.locator.coefficients in
     let room = c.requires.below_order in
