@@ -15,7 +15,8 @@ use u256::U256;
 // Four bytes of a body, the first the highest.
 fn four_bytes(body: &[u8], i: usize) -> u32
     requires { 4 * i + 4 ≤ length body.now }
-    ensures { result ≡ ((slice_index body.now (4 * i) * 256 + slice_index body.now (4 * i + 1)) * 256 + slice_index body.now (4 * i + 2)) * 256 + slice_index body.now (4 * i + 3) }
+    ensures { result ≡ ((slice_index body.now (4 * i) * 256 + slice_index body.now (4 * i + 1)) * 256
+        + slice_index body.now (4 * i + 2)) * 256 + slice_index body.now (4 * i + 3) }
 {
     let first = u32::from(body[4 * i]) << 24;
     let second = u32::from(body[4 * i + 1]) << 16;
@@ -145,7 +146,8 @@ pub(crate) fn parity_number_quick(t: u32, body: &[u8]) -> U256
 pub(crate) fn remainder_quick(t: u32, step: &[u8; 512], parity: &[u8]) -> U256
     requires strength { (0 < t) × (t ≤ 16) }
     requires room { length parity.now ≡ (13 * t + 7) / 8 }
-    ensures value { result ≡ remainder (13 * t) (generator_of 13 0x201b t) (number_from 0 (step_word t step.now parity.now)) }
+    ensures value { result ≡ remainder (13 * t) (generator_of 13 0x201b t)
+        (number_from 0 (step_word t step.now parity.now)) }
     ensures small { result < 2 ^ (13 * t) }
 {
     let padding = 8 * parity.len() as u32 - 13 * t;
@@ -157,7 +159,8 @@ pub(crate) fn put_number(number: U256, degree: u32, out: &mut [u8])
     requires degree { (0 < degree) × (degree < 256) }
     requires small { number < 2 ^ degree }
     requires room { length out.old ≡ (degree + 7) / 8 }
-    ensures { let len = (degree + 7) / 8 in out.new ≡ bytes_of len (number * 2 ^ (8 * len - degree)) }
+    ensures { let len = (degree + 7) / 8 in
+        out.new ≡ bytes_of len (number * 2 ^ (8 * len - degree)) }
 {
     let len = out.len() as u32;
     let moved = number << (8 * len - degree);

@@ -13,7 +13,8 @@ fn is_same(own: &[u8], parity: &[u8], padding: u32) -> bool
     requires long { length own.now ≡ length parity.now }
     requires some { 0 < length parity.now }
     requires padding { padding < 8 }
-    ensures { IsTrue result → (k : ℕ) → k + padding < 8 * length parity.now → bit_of own.now k ≡ bit_of parity.now k }
+    ensures { IsTrue result
+        → (k : ℕ) → k + padding < 8 * length parity.now → bit_of own.now k ≡ bit_of parity.now k }
 {
     let last = parity.len() - 1;
     for i in 0..last {
@@ -48,7 +49,8 @@ fn flip(bytes: &mut [u8], place: usize)
 // Turns over the bits of these degrees among the first `count` bits, the last of which has the degree 0, and tells whether the degrees were below `count` and rose.
 fn turn_over(bytes: &mut [u8], count: usize, degrees: &[u16]) -> bool
     requires room { count ≤ 8 * length bytes.old }
-    ensures distance { IsTrue result → length degrees.now ≡ distance (bits_from bytes.old 0 count) (bits_from bytes.new 0 count) }
+    ensures distance { IsTrue result
+        → length degrees.now ≡ distance (bits_from bytes.old 0 count) (bits_from bytes.new 0 count) }
     ensures padding { (k : ℕ) → count ≤ k → bit_of bytes.new k ≡ bit_of bytes.old k }
 {
     let mut seen = 0usize;
@@ -69,7 +71,8 @@ fn is_put_right(t: u32, word: &mut [u8], degrees: &[u16], own: &mut [u8]) -> boo
     requires whole { length word.old ≡ 512 + (13 * t + 7) / 8 }
     requires few { length degrees.now ≤ t }
     requires room { length own.old ≡ (13 * t + 7) / 8 }
-    ensures nearest { IsTrue result → IsNearest (code_512 t) (word_of (code_512 t) word.old) (word_of (code_512 t) word.new) (length degrees.now) }
+    ensures nearest { IsTrue result → IsNearest (code_512 t)
+        (word_of (code_512 t) word.old) (word_of (code_512 t) word.new) (length degrees.now) }
     ensures padding { (k : ℕ) → 4096 + 13 * t ≤ k → bit_of word.new k ≡ bit_of word.old k }
 {
     turn_over(word, 4096 + 13 * t as usize, degrees) && is_code_word(t, word, own)
@@ -92,7 +95,8 @@ fn take_off(own: &mut [u8], parity: &[u8], padding: u32)
 pub(crate) fn decode_guessed(t: u32, word: &mut [u8]) -> Result<u32, u32>
     requires strength { (0 < t) × (t ≤ 16) }
     requires whole { length word.old ≡ 512 + (13 * t + 7) / 8 }
-    ensures nearest { IfOk result (IsNearest (code_512 t) (word_of (code_512 t) word.old) (word_of (code_512 t) word.new)) }
+    ensures nearest { IfOk result (IsNearest (code_512 t)
+        (word_of (code_512 t) word.old) (word_of (code_512 t) word.new)) }
     ensures padding { (k : ℕ) → 4096 + 13 * t ≤ k → bit_of word.new k ≡ bit_of word.old k }
 {
     let len = word.len() - 512;
