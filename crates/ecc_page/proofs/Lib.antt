@@ -6,3 +6,4 @@ pub mod PageLemmas
 pub mod NearLemmas
 pub mod ErasedLemmas
 pub mod WrittenLemmas
+pub mod MaskTable

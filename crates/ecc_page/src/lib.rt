@@ -3,6 +3,7 @@
 
 mod erased;
 mod masking;
+mod masks;
 mod page;
 mod step;
 #[cfg(test)]

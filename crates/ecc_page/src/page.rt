@@ -4,7 +4,7 @@ ghost use Rattle.nand_model.specs.Page.{StepRead, step_body};
 ghost use Rattle.nand_model.specs.Sizes.{numbers_from, parity_bytes, step_count};
 ghost use Rattle.ecc_page.specs.Steps.{parity_stored, reads_of};
 
-use crate::masking::mask_buffer;
+use crate::masking::mask_of_code;
 use crate::step::{decode_step, encode_step, step_at};
 use nand_iface::PageCode;
 use nand_model::{Geometry, PageRead};
@@ -36,8 +36,7 @@ fn fill_parities(g: &Geometry, body: &[u8], parities: &mut [u8])
     ensures { parities.new ≡ flat_map (λ s. parity_stored g.now.t (step_body g.now body.now s)) (numbers_from 0 (step_count g.now)) }
 {
     let len = g.parity_len() as usize;
-    let buffer = mask_buffer(g.t);
-    let mask = &buffer[..len];
+    let mask = mask_of_code(g.t);
     for s in 0..g.steps() as usize {
         let step = step_at(body, s);
         encode_step(g.t, mask, &step, &mut parities[s * len..(s + 1) * len]);
@@ -55,8 +54,7 @@ fn decode_steps(g: &Geometry, body: &mut [u8], parities: &mut [u8]) -> PageRead
     ensures failed { result.failed ≡ count_by (λ (r : StepRead). is_none r.corrected) (reads_of g.now body.old parities.old) }
 {
     let len = g.parity_len() as usize;
-    let buffer = mask_buffer(g.t);
-    let mask = &buffer[..len];
+    let mask = mask_of_code(g.t);
     let mut read = PageRead {
         corrected: 0,
         greatest: 0,

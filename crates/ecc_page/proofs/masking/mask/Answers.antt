@@ -1,8 +1,9 @@
-use Rattle.std.proofs.Common.{map, ap, ◌∙◌}
-use Rattle.std.specs.Prelude.{bit_xor}
-use Rattle.code_model.specs.Code.{mask_of}
+use Rattle.std.proofs.Common.{◌≡◌, length, sym, ap, ◌∙◌, arith}
+use Rattle.code_model.specs.Code.{code_512}
+use Rattle.code_model.proofs.ParityLemmas.{length-mask_of}
 use Rattle.ecc_page.proofs.masking.mask.Goals as goal
 
-pub returns : goal.returns
-unfolding mask_of
-returns c = c.complement.ensures ∙ ap (map (λ byte. bit_xor byte 0xff)) c.parity_quick.ensures.parity
+pub copy_from_slice-requires : goal.copy_from_slice-requires
+copy_from_slice-requires c =
+    let long = ap length c.mask_of_code.ensures ∙ length-mask_of (code_512 c.args.t) ∙ sym c.requires.room in
+    omega arith

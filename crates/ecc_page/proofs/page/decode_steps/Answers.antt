@@ -1,28 +1,19 @@
 use Rattle.std.proofs.Common.{◌≡◌, ◌<◌, ◌≤◌, ◌+◌, ◌-◌, ◌*◌, ℕ, ◌++◌, max, length, take, drop, map, cond, Option, Some, None, sym, ap, ap₂, ◌∙◌, arith}
 use Rattle.std.specs.Prelude.{unwrap_or, is_none, IfSome, slice_range}
 use Rattle.std.specs.List.{flat_map, sum_by, count_by, fold}
-use Rattle.std.proofs.lemmas.List.{length-take-le, take_all}
+use Rattle.std.proofs.lemmas.List.{take_all}
 use Rattle.std.proofs.lemmas.List.Edits.{length-between}
 use borrow.Rule.Slice.PartMut.{put_mid}
 use Rattle.nand_model.specs.Page.{StepRead}
 use Rattle.nand_model.specs.Sizes.{numbers_from, parity_bytes, step_count}
 use Rattle.ecc_page.specs.Steps.{read_at, read_of}
 use Rattle.ecc_page.proofs.Parts.{part_done, part_left}
-use Rattle.ecc_page.proofs.PageLemmas.{strength, parity_bytes-le, parity-inside, page-steps, read-left}
+use Rattle.ecc_page.proofs.PageLemmas.{strength, parity-inside, page-steps, read-left}
 use Rattle.ecc_page.proofs.Runs.{flat_map-more, fold-more}
 use Rattle.ecc_page.proofs.page.decode_steps.Goals as goal
 
-pub mask_buffer-buffer-requires : goal.mask_buffer-buffer-requires
-mask_buffer-buffer-requires c = strength c.args.g.now
-
-pub slice_bounds-buffer-end : goal.slice_bounds-buffer-end
-slice_bounds-buffer-end c = let few = parity_bytes-le c.args.g.now in let whole = c.mask_buffer-buffer.ensures.whole in omega arith
-
-pub slice_bounds-mask-end : goal.slice_bounds-mask-end
-slice_bounds-mask-end c =
-    let few = parity_bytes-le c.args.g.now in
-    let whole = c.mask_buffer-buffer.ensures.whole in
-    sym (length-take-le c.parity_len-len.result c.mask_buffer-buffer.result (omega arith))
+pub mask_of_code-mask-requires : goal.mask_of_code-mask-requires
+mask_of_code-mask-requires c = strength c.args.g.now
 
 pub decode_step-corrected-requires-clause-strength : goal.decode_step-corrected-requires-clause-strength
 decode_step-corrected-requires-clause-strength c = strength c.args.g.now

@@ -1,27 +1,18 @@
 use Rattle.std.proofs.Common.{◌≡◌, ◌<◌, ◌≤◌, ◌+◌, ◌-◌, ◌*◌, ℕ, ◌++◌, length, take, sym, ap, ◌∙◌, arith}
 use Rattle.std.specs.List.{flat_map}
-use Rattle.std.proofs.lemmas.List.{length-take-le, take_all}
+use Rattle.std.proofs.lemmas.List.{take_all}
 use borrow.Rule.Slice.PartMut.{put_mid}
 use Rattle.nand_model.specs.Page.{step_body}
 use Rattle.nand_model.specs.Sizes.{numbers_from, parity_bytes, step_count}
 use Rattle.ecc_page.specs.Steps.{parity_stored}
 use Rattle.ecc_page.proofs.Parts.{part_done}
-use Rattle.ecc_page.proofs.PageLemmas.{strength, parity_bytes-le, parity-inside}
+use Rattle.ecc_page.proofs.PageLemmas.{strength, parity-inside}
 use Rattle.ecc_page.proofs.Runs.{flat_map-numbers_more}
 use Rattle.ecc_page.proofs.StepLemmas.{length-parity_stored}
 use Rattle.ecc_page.proofs.page.fill_parities.Goals as goal
 
-pub mask_buffer-buffer-requires : goal.mask_buffer-buffer-requires
-mask_buffer-buffer-requires c = strength c.args.g.now
-
-pub slice_bounds-buffer-end : goal.slice_bounds-buffer-end
-slice_bounds-buffer-end c = let few = parity_bytes-le c.args.g.now in let whole = c.mask_buffer-buffer.ensures.whole in omega arith
-
-pub slice_bounds-mask-end : goal.slice_bounds-mask-end
-slice_bounds-mask-end c =
-    let few = parity_bytes-le c.args.g.now in
-    let whole = c.mask_buffer-buffer.ensures.whole in
-    sym (length-take-le c.parity_len-len.result c.mask_buffer-buffer.result (omega arith))
+pub mask_of_code-mask-requires : goal.mask_of_code-mask-requires
+mask_of_code-mask-requires c = strength c.args.g.now
 
 pub encode_step-requires-clause-strength : goal.encode_step-requires-clause-strength
 encode_step-requires-clause-strength c = strength c.args.g.now
