@@ -1,5 +1,5 @@
 -- Polynomials modulo a locator: 17 coefficients, the lowest first.
-use Rattle.std.specs.Prelude.{ℕ, suc, ◌-◌, ◌^◌, ◌<◌, ◌≤◌, ◌≡◌, List, length, slice_index}
+use Rattle.std.specs.Prelude.{ℕ, ◌-◌, ◌^◌, ◌<◌, ◌≤◌, ◌≡◌, List, length, slice_index}
 use Rattle.code_model.specs.Binary.{times, power}
 use Rattle.code_model.specs.Poly.{Every, value}
 use Rattle.code_model.proofs.KeyEquation.{ArePlaces}

@@ -1,11 +1,9 @@
-use Rattle.std.proofs.Common.{◌≡◌, ◌<◌, ◌≤◌, ◌*◌, ◌-◌, ◌^◌, ℕ, suc, List, length, get_or, slice_index, sym, ap, ◌∙◌, arith}
-use Rattle.code_model.specs.Binary.{times, power, remainder}
-use Rattle.code_model.specs.Generator.{generator_of}
-use Rattle.code_model.specs.Poly.{Every, value}
-use Rattle.code_model.specs.Word.{AreBits, number_from, differences, distance}
+use Rattle.std.proofs.Common.{◌≡◌, ℕ, suc, length, slice_index, sym, ◌∙◌, arith}
+use Rattle.code_model.specs.Binary.{times, power}
+use Rattle.code_model.specs.Poly.{value}
+use Rattle.code_model.specs.Word.{differences, distance}
 use Rattle.code_model.proofs.FieldLemmas.{power-lt}
 use Rattle.code_model.proofs.ValueLemmas.{places, are_places, length-places}
-use Rattle.bch_solver.specs.Words.{IsNear}
 use Rattle.bch_solver.specs.Rows.{listed, syndrome_at}
 use Rattle.bch_solver.specs.Residues.{value_17}
 use Rattle.bch_solver.proofs.LocatorLemmas.{AreSyndromes, found, solvable}
