@@ -1,7 +1,7 @@
 // The table in memory.
 ghost use Rattle.std.specs.Prelude.{◌≡◌, ◌≢◌, ◌↔◌, ◌<◌, ◌≤◌, ◌+◌, ◌*◌, ◌/◌, ◌%◌, ◌++◌, length, take, drop, replicate, count_by, slice_index, slice_range, slice_set, bit_or, All, IsTrue, IfOk};
 ghost use Rattle.nand_model.specs.Table.{entries_of, packed_bytes};
-ghost use Rattle.nand_model.specs.ChipRun.{is_bad_state};
+ghost use Rattle.nand_model.specs.Table.{is_bad_state};
 ghost use Rattle.bbt_ram.specs.Packed.{is_not_good};
 
 use crate::entry::{entry, with_entry};
