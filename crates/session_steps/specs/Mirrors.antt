@@ -21,11 +21,11 @@ GoesOn sizes (command ∷ commands) replies (Some (Ask op go_on)) =
 
 -- a session with these commands that stands so is where this session of a course is
 pub record Shows (sizes : Command → Geometry) (commands : List Command) (st : Standing) (run : SessionRun) : Type 0
-    where
-  pub number : run.number ≡ st.number
-  pub outcomes : run.outcomes ≡ outcomes_by st
-  pub left : run.commands ≡ commands_by commands st
-  pub goes_on : GoesOn sizes run.commands run.replies st.script
+  where
+    pub number : run.number ≡ st.number
+    pub outcomes : run.outcomes ≡ outcomes_by st
+    pub left : run.commands ≡ commands_by commands st
+    pub goes_on : GoesOn sizes run.commands run.replies st.script
 
 -- the place of a last reply is among so many notes
 abbrev pub IsPlaced : ℕ → Option ℕ → Type 0
