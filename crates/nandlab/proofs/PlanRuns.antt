@@ -1,15 +1,13 @@
 -- The run of a several-chip plan: its controller can be started, and what the controller leaves is what the report is made of.
-use Rattle.std.proofs.Common.{◌≡◌, ◌<◌, ◌≤◌, ◌+◌, ◌⊎◌, inl, inr, ℕ, zero, suc, Bool, true, false, cond, not, List, [], ◌∷◌, ◌++◌, length, map, take, Some, refl, ap, sym, ◌∙◌, subst, arith, zero-add, get_or, append_assoc}
+use Rattle.std.proofs.Common.{◌≡◌, ◌<◌, ◌≤◌, ◌+◌, ◌⊎◌, inl, inr, ℕ, zero, suc, Bool, true, false, cond, not, List, [], ◌∷◌, ◌++◌, length, map, take, Some, refl, ap, sym, ◌∙◌, subst, arith, zero-add, get_or}
 use Rattle.std.specs.Prelude.{slice_get, option_map, All, Contains, ◌==◌, count_by}
 use Rattle.std.proofs.lemmas.Bool.{cases_eq, eq-eqb, ne_eqb}
-use Rattle.std.proofs.lemmas.List.Elements.{All-weaker}
 use Rattle.std.proofs.lemmas.List.Sums.{sum_by-cons}
 use Rattle.std.proofs.lemmas.Option.{none-some, same_Some, slice_get-get_or, slice_get-map}
 use Rattle.nand_model.specs.Chip.{ChipState, SimFaults, new_chip, sim_faults}
 use Rattle.nand_model.specs.Sizes.{numbers_from}
 use Rattle.nand_model.specs.declared.geometry.Geometry.{Geometry}
 use Rattle.nand_model.specs.declared.words.Command.{Command}
-use Rattle.nand_model.specs.declared.words.Flip.{Flip}
 use Rattle.nand_model.specs.declared.words.Note.{Note}
 use Rattle.nand_model.specs.declared.words.Stats.{Stats}
 use Rattle.run_model.specs.Course.{Course, course_after, is_over, sizes_of}
@@ -29,7 +27,7 @@ use Rattle.plan_model.specs.Plan.{ChipPlan, devices_of, new_chips, sessions_from
 use Rattle.report_model.specs.Report.{geometry_in, report_text}
 use Rattle.command_model.specs.Reads.{reads_of}
 use Rattle.report_model.proofs.Printed.{take_next}
-use Rattle.several_chip_plan.specs.SeveralChips.{IsPlan, boot_of, chip_of, geometry_of, plan_of, session_of, sizes_of as sizes_by}
+use Rattle.several_chip_plan.specs.SeveralChips.{IsPlan, boot_of, chip_of, geometry_of, plan_of, session_of}
 use Rattle.several_chip_plan.specs.declared.lines.ChipLines.{ChipLines}
 use Rattle.several_chip_plan.specs.declared.lines.CommandLine.{CommandLine}
 use Rattle.several_chip_plan.specs.declared.lines.PlanLines.{PlanLines}

@@ -1,4 +1,4 @@
-use Rattle.std.proofs.Common.{◌≡◌, ◌∙◌, true, false, inl, inr, refl, ap, sym, subst, arith}
+use Rattle.std.proofs.Common.{◌≡◌, ◌∙◌, true, false, inl, inr, refl, ap, sym, subst}
 use Rattle.nandlab.specs.Answer.{is_served, Leaves}
 use Rattle.nandlab.specs.Status.{exit_code}
 use Rattle.nandlab.specs.declared.status.Status.TheVariants.{Memory}
