@@ -1,4 +1,4 @@
-use Rattle.std.proofs.Common.{◌≡◌, ◌<◌, ◌≤◌, ◌*◌, ◌-◌, ◌/◌, ◌^◌, ◌++◌, ℕ, arith, sym, ap, ap₂, ◌∙◌, take, length, subst, refl}
+use Rattle.std.proofs.Common.{◌≡◌, ◌<◌, ◌≤◌, ◌*◌, ◌-◌, ◌/◌, ◌^◌, ℕ, arith, sym, ap, ap₂, ◌∙◌, length, subst, refl}
 use Rattle.std.specs.Prelude.{bit_xor}
 use Rattle.code_model.specs.Binary.{remainder}
 use Rattle.code_model.specs.Bits.{bits_of}

@@ -1,4 +1,4 @@
-use Rattle.std.proofs.Common.{◌≡◌, ◌≤◌, ◌<◌, ◌+◌, ◌*◌, ◌/◌, ◌%◌, ◌^◌, ℕ, arith, rules, refl, sym, subst, ap, ◌∙◌, take, get_or}
+use Rattle.std.proofs.Common.{◌≡◌, ◌<◌, ◌*◌, ◌^◌, ℕ, arith, rules, sym, subst, ap, ◌∙◌, take, get_or}
 use Rattle.std.specs.Prelude.{bit_xor}
 use Rattle.code_model.specs.Binary.{remainder}
 use Rattle.code_model.specs.Bits.{bits_of}

@@ -1,4 +1,4 @@
-use Rattle.std.proofs.Common.{◌≡◌, ◌<◌, ◌≤◌, arith}
+use Rattle.std.proofs.Common.{arith}
 use Rattle.bch_quick.proofs.searched.decode_unguessed.Goals as goal
 
 pub returns-then-is_word_far-clause-decodes : goal.returns-then-is_word_far-clause-decodes

@@ -1,4 +1,4 @@
-use Rattle.std.proofs.Common.{◌≤◌, arith}
+use Rattle.std.proofs.Common.{arith}
 use Rattle.code_model.specs.Code.{code_512}
 use Rattle.code_model.proofs.DistanceLemmas.{distance-same}
 use Rattle.bch_solver.specs.Words.{word_of}

@@ -1,7 +1,7 @@
-use Rattle.std.proofs.Common.{◌≡◌, ◌≤◌, ◌<◌, ◌+◌, ◌-◌, ◌*◌, ◌++◌, ◌∙◌, ℕ, List, length, take, drop, refl, sym, ap, ap₂, subst, arith}
+use Rattle.std.proofs.Common.{◌≡◌, ◌-◌, ◌*◌, ◌++◌, ◌∙◌, length, take, drop, refl, sym, ap, subst, arith}
 use Rattle.std.proofs.lemmas.List.{length-take-le, length-drop}
 use Rattle.code_model.specs.Bits.{bits_of}
-use Rattle.code_model.specs.Code.{code_512, parity_of, IsCodeWord}
+use Rattle.code_model.specs.Code.{code_512, IsCodeWord}
 use Rattle.code_model.proofs.NearestLemmas.{code_512-bch}
 use Rattle.code_model.proofs.ParityLemmas.{parity-completes}
 use Rattle.bch_solver.proofs.BitsLemmas.{bits_of-body_parity}

@@ -1,4 +1,4 @@
-use Rattle.std.proofs.Common.{◌≡◌, ◌≤◌, ◌+◌, ◌*◌, ◌∙◌, length, sym, ap₂, arith}
+use Rattle.std.proofs.Common.{◌+◌, ◌*◌, ◌∙◌, sym, ap₂, arith}
 use Rattle.code_model.specs.Word.{distance}
 use Rattle.bch_solver.proofs.BitsLemmas.{take-bits_of}
 use Rattle.bch_quick.proofs.word.is_put_right.Goals as goal

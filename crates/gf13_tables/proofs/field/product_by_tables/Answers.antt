@@ -1,4 +1,4 @@
-use Rattle.std.proofs.Common.{sym, ap, ap₂, ◌∙◌, refl}
+use Rattle.std.proofs.Common.{sym, ap, ◌∙◌}
 use Rattle.code_model.specs.Binary.{times}
 use Rattle.code_model.proofs.BinaryLemmas.{times-zero}
 use Rattle.code_model.proofs.CodeLemmas.{times-zero_left}
