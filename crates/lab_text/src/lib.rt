@@ -1,0 +1,10 @@
+//! Lines, words and numbers of a text.
+#![tactic(auto)]
+
+mod lines;
+mod numbers;
+#[cfg(test)]
+mod tests;
+
+pub use lines::{LineTooLong, line_end, word};
+pub use numbers::{number, put_hex8, put_number};
