@@ -1,0 +1,15 @@
+pub mod Limits
+pub mod Rules
+pub mod Forms
+pub mod Options
+pub mod Devices
+pub mod Hardware
+pub mod Payloads
+pub mod Faults
+pub mod Sessions
+pub mod Costs
+pub mod Commands
+pub mod Grammar
+pub mod Canonical
+pub mod Meaning
+pub mod Laws
