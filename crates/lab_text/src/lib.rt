@@ -7,4 +7,4 @@ mod numbers;
 mod tests;
 
 pub use lines::{LineTooLong, line_end, word};
-pub use numbers::{number, put_hex8, put_number};
+pub use numbers::{decimal, number, put_hex8, put_number};

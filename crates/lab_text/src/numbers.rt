@@ -42,8 +42,15 @@ pub fn number(word: &[u8]) -> Option<u64>
 {
     match word.strip_prefix(b"0x") {
         Some(digits) => value_of(digits, 16),
-        None => value_of(word, 10),
+        None => decimal(word),
     }
+}
+
+/// The number of decimal digits. None comes exactly where the word is no such number or one above 2^64 - 1. It takes no memory.
+pub fn decimal(word: &[u8]) -> Option<u64>
+    ensures { result ≡ number_in 10 word.now }
+{
+    value_of(word, 10)
 }
 
 /// Appends the decimal digits of a number, without leading zeros. Where memory runs out, a part of them may be there.

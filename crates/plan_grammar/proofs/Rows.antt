@@ -12,7 +12,7 @@ use Rattle.plan_grammar.specs.Hardware.{last_chip, header_line, controller_line,
 use Rattle.plan_grammar.specs.Payloads.{data_words, data_form, data_line}
 use Rattle.plan_grammar.specs.Faults.{boot_line, open_boot, flip_words, flip_form, flip_line, cut_words, cut_form, cut_line}
 use Rattle.plan_grammar.specs.Sessions.{running_boot, session_form, session_line}
-use Rattle.plan_grammar.specs.Commands.{nandwrite_words, nanddump_words, nandtest_words, isbad_words, command_words, device_of, range_rules, write_rules, command_line}
+use Rattle.plan_grammar.specs.Commands.{nandwrite_words, nanddump_words, nandtest_words, device_and_block, command_words, device_of, range_rules, write_rules, command_line}
 use Rattle.plan_grammar.specs.Grammar.{line_words, line}
 use Rattle.plan_grammar.specs.Canonical.{canonical_text}
 use Rattle.plan_grammar.proofs.Reading.{Refusal, answer}
@@ -41,7 +41,7 @@ unfolding line line_words header_line controller_line chip_line small_numbers sm
 partition_past_the_chip = refl
 
 pub device_that_is_not_there : answer (codes "nandlab 1\ncontroller\nchip 2048 64 64 16 4 1\npart 0 16\nboot\nsession 0\nisbad mtd7 0") ≡ refused 7 UnknownDevice
-unfolding line line_words header_line controller_line chip_line small_numbers small_number number sizes geometry boot_line part_line part_form part_words last_chip session_line session_form running_boot command_line command_words isbad_words device_of
+unfolding line line_words header_line controller_line chip_line small_numbers small_number number sizes geometry boot_line part_line part_form part_words last_chip session_line session_form running_boot command_line command_words device_and_block device_of
 device_that_is_not_there = refl
 
 pub spans_that_go_back : answer (codes "nandlab 1\ncontroller\nchip 2048 64 64 16 4 1\npart 0 16\nboot\ncut 0 1 spans:8-4") ≡ refused 6 BadNumber

@@ -63,19 +63,13 @@ nandtest_words o (device ∷ []) = do
   Ok (NandTest dev o.keep o.mark seed passes off len)
 nandtest_words o _ = Err BadWords
 
-unfoldable pub markbad_words : List (List ℕ) → Result CommandLine PlanKind
-markbad_words (device ∷ word ∷ []) = do
+-- a device and a block
+unfoldable pub device_and_block : List (List ℕ) → Result (ℕ × ℕ) PlanKind
+device_and_block (device ∷ word ∷ []) = do
   dev ← there (device_number device) BadWords
   block ← small_number word
-  Ok (MarkBad dev block)
-markbad_words _ = Err BadWords
-
-unfoldable pub isbad_words : List (List ℕ) → Result CommandLine PlanKind
-isbad_words (device ∷ word ∷ []) = do
-  dev ← there (device_number device) BadWords
-  block ← small_number word
-  Ok (IsBad dev block)
-isbad_words _ = Err BadWords
+  Ok (dev, block)
+device_and_block _ = Err BadWords
 
 unfoldable pub stats_words : List (List ℕ) → Result CommandLine PlanKind
 stats_words (device ∷ []) = do
@@ -96,8 +90,12 @@ command_words ToDump words = do
 command_words ToTest words = do
   found ← options_from ToTest no_options words
   nandtest_words found.0 found.1
-command_words ToMark words = markbad_words words
-command_words ToAsk words = isbad_words words
+command_words ToMark words = do
+  found ← device_and_block words
+  Ok (MarkBad found.0 found.1)
+command_words ToAsk words = do
+  found ← device_and_block words
+  Ok (IsBad found.0 found.1)
 command_words ToCount words = stats_words words
 command_words _ words = Err BadWords
 

@@ -2,10 +2,12 @@
 #![tactic(auto)]
 
 mod kind;
+mod laws;
 mod lines;
 mod words;
 
 pub use kind::PlanKind;
+pub use laws::{bytes_have_a_reading, bytes_have_one_reading};
 pub use lines::{
     BootLines, ChipLines, CommandLine, DataLine, DefectLine, FaultLine, PartLine, Piece, PlanLines,
     SessionLines,

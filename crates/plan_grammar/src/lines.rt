@@ -61,13 +61,13 @@ pub enum FaultLine {
 #[derive(Drop)]
 pub enum CommandLine {
     FlashErase {
-        dev: u32,
+        dev: u64,
         no_scan: bool,
         start: u32,
         count: u32,
     },
     NandWrite {
-        dev: u32,
+        dev: u64,
         mark: bool,
         raw: bool,
         oob: bool,
@@ -76,7 +76,7 @@ pub enum CommandLine {
         name: Bytes,
     },
     NandDump {
-        dev: u32,
+        dev: u64,
         off: u64,
         len: u64,
         raw: bool,
@@ -84,7 +84,7 @@ pub enum CommandLine {
         bad: BadMode,
     },
     NandTest {
-        dev: u32,
+        dev: u64,
         keep: bool,
         mark: bool,
         seed: u64,
@@ -93,15 +93,15 @@ pub enum CommandLine {
         len: u64,
     },
     MarkBad {
-        dev: u32,
+        dev: u64,
         block: u32,
     },
     IsBad {
-        dev: u32,
+        dev: u64,
         block: u32,
     },
     Stats {
-        dev: u32,
+        dev: u64,
     },
 }
 
