@@ -38,7 +38,8 @@ blank_length bytes = prefix_len is_blank bytes
 abbrev pub word_length : List ℕ → ℕ
 word_length bytes = position_or_len is_blank bytes
 
--- a byte that is no blank, before a text: it begins a word where a blank or the end follows, else it belongs to the word that follows
+-- a byte that is no blank, before a text: it begins a word where a blank or the end follows, else it belongs to the
+-- word that follows
 abbrev pub with_letter : ℕ → List ℕ → List (List ℕ) → List (List ℕ)
 with_letter byte [] runs = (byte ∷ []) ∷ runs
 with_letter byte (next ∷ bytes) runs = if is_blank next then (byte ∷ []) ∷ runs else with_byte byte runs
@@ -68,7 +69,8 @@ is_numeral base digits = nat_lt 0 (length digits) && list_all (λ digit. is_digi
 
 -- the number that digits write in this base, where it has at most 64 bits
 abbrev pub number_in : ℕ → List ℕ → Option ℕ
-number_in base digits = if is_numeral base digits && nat_lt (digits_value base digits) (2 ^ 64) then Some (digits_value base digits) else None
+number_in base digits = if is_numeral base digits
+    && nat_lt (digits_value base digits) (2 ^ 64) then Some (digits_value base digits) else None
 
 -- the number of a word: `0x` and hexadecimal digits, or decimal digits
 abbrev pub number_of : List ℕ → Option ℕ

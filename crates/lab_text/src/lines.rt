@@ -9,7 +9,8 @@ const LONGEST: usize = 65_536;
 #[derive(Clone, Copy, Debug, PartialEq, Eq)]
 pub struct LineTooLong;
 
-/// The place of the LF that ends the line at `from`, or the end of the bytes where none follows. `LineTooLong` comes exactly where the line has more than
+/// The place of the LF that ends the line at `from`, or the end of the bytes where none follows. `LineTooLong` comes
+/// exactly where the line has more than
 /// 65,536 bytes. It takes no memory.
 pub fn line_end(bytes: &[u8], from: usize) -> Result<usize, LineTooLong>
     requires { from ≤ length bytes.now }
@@ -59,12 +60,14 @@ fn skip_letters(line: &[u8], from: usize) -> usize
     place
 }
 
-/// The start and the end of the next word of a line at or after `from`. Words stand between spaces and tabs, and one that begins with `#` begins a comment up to
+/// The start and the end of the next word of a line at or after `from`. Words stand between spaces and tabs, and one
+/// that begins with `#` begins a comment up to
 /// the line's end. None comes exactly where no word follows. It takes no memory.
 pub fn word(line: &[u8], from: usize) -> Option<(usize, usize)>
     requires { from ≤ length line.now }
     ensures none { IfNone result (words_of (drop from line.now) ≡ []) }
-    ensures some { IfSome result (λ w. words_of (drop from line.now) ≡ slice_range line.now w.0 w.1 ∷ words_of (drop w.1 line.now)) }
+    ensures some { IfSome result (λ w. words_of (drop from line.now)
+        ≡ slice_range line.now w.0 w.1 ∷ words_of (drop w.1 line.now)) }
     ensures start { IfSome result (λ w. w.0 ≡ from + blank_length (drop from line.now)) }
     ensures end { IfSome result (λ w. w.1 ≡ w.0 + word_length (drop w.0 line.now)) }
     ensures within { IfSome result (λ w. w.1 ≤ length line.now) }

@@ -35,7 +35,8 @@ fn value_of(digits: &[u8], base: u32) -> Option<u64>
     Some(value)
 }
 
-/// The number of a word: decimal digits, or `0x` and hexadecimal digits of either case. None comes exactly where the word is no number or one above 2^64 - 1.
+/// The number of a word: decimal digits, or `0x` and hexadecimal digits of either case. None comes exactly where the
+/// word is no number or one above 2^64 - 1.
 /// It takes no memory.
 pub fn number(word: &[u8]) -> Option<u64>
     ensures { result ≡ number_of word.now }
@@ -46,7 +47,8 @@ pub fn number(word: &[u8]) -> Option<u64>
     }
 }
 
-/// The number of decimal digits. None comes exactly where the word is no such number or one above 2^64 - 1. It takes no memory.
+/// The number of decimal digits. None comes exactly where the word is no such number or one above 2^64 - 1. It takes
+/// no memory.
 pub fn decimal(word: &[u8]) -> Option<u64>
     ensures { result ≡ number_in 10 word.now }
 {

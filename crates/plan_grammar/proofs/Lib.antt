@@ -1,3 +1,4 @@
 pub mod Reading
+pub mod OnLiterals
 pub mod Rows
 pub mod OneReading

@@ -12,7 +12,8 @@ use Rattle.plan_grammar.specs.Grammar.{line, no_lines}
 abbrev pub Refusal : Type 0
 Refusal = ℕ × PlanKind
 
-abbrev pub after_line : Result PlanLines PlanKind → ℕ → (PlanLines → Result PlanLines Refusal) → Result PlanLines Refusal
+abbrev pub after_line : Result PlanLines PlanKind → ℕ → (PlanLines → Result PlanLines Refusal) →
+    Result PlanLines Refusal
 after_line (Ok plan) at go_on = go_on plan
 after_line (Err kind) at go_on = Err (at, kind)
 

@@ -1,5 +1,7 @@
--- The canonical text of a plan: each line once in the order read, without comments and empty lines, words separated by one space, numbers decimal without leading
--- zeros, hexadecimal digits in lower case, a chip's threshold and a part's count as they are in force, options in one order and left out where they have their
+-- The canonical text of a plan: each line once in the order read, without comments and empty lines, words separated
+-- by one space, numbers decimal without leading
+-- zeros, hexadecimal digits in lower case, a chip's threshold and a part's count as they are in force, options in one
+-- order and left out where they have their
 -- default, and LF after each line.
 use Rattle.std.specs.Prelude.{ℕ, Bool, true, false, ◌==◌, if◌then◌else◌, List, [], ◌∷◌, ◌++◌, map, flat_map, codes, decimal}
 use Rattle.hex.specs.Hex.{encode_lower}
@@ -36,7 +38,8 @@ joined separator (text ∷ []) = text
 joined separator (text ∷ next ∷ texts) = text ++ separator ∷ joined separator (next ∷ texts)
 
 abbrev pub chip_words : Geometry → List (List ℕ)
-chip_words g = codes "chip" ∷ decimals (g.page ∷ g.spare ∷ g.pages_per_block ∷ g.blocks ∷ g.t ∷ g.bbt ∷ g.threshold ∷ [])
+chip_words g = codes "chip" ∷ decimals (g.page ∷ g.spare ∷ g.pages_per_block ∷ g.blocks ∷ g.t ∷ g.bbt ∷ g.threshold
+    ∷ [])
 
 abbrev pub span_text : ℕ × ℕ → List ℕ
 span_text (first, end) = decimal first ++ codes "-" ++ decimal end
@@ -53,7 +56,8 @@ weak_kind_text Erase = codes "erase"
 
 abbrev pub defect_words : DefectLine → List (List ℕ)
 defect_words (Bad blocks) = codes "bad" ∷ decimals blocks
-defect_words (WeakAt weak) = codes "weak" ∷ weak_kind_text weak.kind ∷ decimal weak.at ∷ decimal weak.after ∷ tear_text weak.tear ∷ []
+defect_words (WeakAt weak) = codes "weak" ∷ weak_kind_text weak.kind ∷ decimal weak.at ∷ decimal weak.after
+    ∷ tear_text weak.tear ∷ []
 
 abbrev pub part_words : PartLine → List (List ℕ)
 part_words part = codes "part" ∷ decimals (part.start ∷ part.count ∷ [])
@@ -76,7 +80,8 @@ abbrev pub chip_name : (controller chip : ℕ) → List ℕ
 chip_name controller chip = decimal controller ++ codes "." ++ decimal chip
 
 abbrev pub fault_words : FaultLine → List (List ℕ)
-fault_words (FlipOf controller flip) = codes "flip" ∷ chip_name controller flip.chip ∷ decimals (flip.page ∷ flip.before ∷ flip.bits)
+fault_words (FlipOf controller flip) = codes "flip" ∷ chip_name controller flip.chip ∷ decimals (flip.page
+    ∷ flip.before ∷ flip.bits)
 fault_words (CutOf controller cut) = codes "cut" ∷ decimal controller ∷ decimal cut.event ∷ tear_text cut.tear ∷ []
 
 -- an option that stands alone, and one with its value
@@ -96,13 +101,16 @@ abbrev pub command_words : CommandLine → List (List ℕ)
 command_words (FlashErase dev no_scan start count) =
     codes "flash_erase" ∷ flag (codes "-N") no_scan ++ device_name dev ∷ decimals (start ∷ count ∷ [])
 command_words (NandWrite dev mark raw oob pad off name) =
-    codes "nandwrite" ∷ flag (codes "-m") mark ++ flag (codes "-n") raw ++ flag (codes "-o") oob ++ flag (codes "-p") pad ++ valued (codes "-s") off 0
+    codes "nandwrite" ∷ flag (codes "-m") mark ++ flag (codes "-n") raw ++ flag (codes "-o") oob
+    ++ flag (codes "-p") pad ++ valued (codes "-s") off 0
     ++ device_name dev ∷ name ∷ []
 command_words (NandDump dev off len raw oob bad) =
-    codes "nanddump" ∷ valued (codes "-s") off 0 ++ valued (codes "-l") len 0 ++ flag (codes "-n") raw ++ flag (codes "-o") oob ++ bad_option bad
+    codes "nanddump" ∷ valued (codes "-s") off 0 ++ valued (codes "-l") len 0 ++ flag (codes "-n") raw
+    ++ flag (codes "-o") oob ++ bad_option bad
     ++ device_name dev ∷ []
 command_words (NandTest dev keep mark seed passes off len) =
-    codes "nandtest" ∷ flag (codes "-k") keep ++ flag (codes "-m") mark ++ valued (codes "-s") seed 0 ++ valued (codes "-p") passes 1
+    codes "nandtest" ∷ flag (codes "-k") keep ++ flag (codes "-m") mark ++ valued (codes "-s") seed 0
+    ++ valued (codes "-p") passes 1
     ++ valued (codes "-o") off 0 ++ valued (codes "-l") len 0 ++ device_name dev ∷ []
 command_words (MarkBad dev block) = codes "markbad" ∷ device_name dev ∷ decimal block ∷ []
 command_words (IsBad dev block) = codes "isbad" ∷ device_name dev ∷ decimal block ∷ []
@@ -116,7 +124,8 @@ schedule_lines [] = []
 schedule_lines (n ∷ numbers) = (codes "schedule" ∷ decimals (n ∷ numbers)) ∷ []
 
 abbrev pub boot_lines : BootLines → List (List (List ℕ))
-boot_lines boot = (codes "boot" ∷ []) ∷ map fault_words boot.faults ++ flat_map session_lines boot.sessions ++ schedule_lines boot.schedule
+boot_lines boot = (codes "boot" ∷ [])
+    ∷ map fault_words boot.faults ++ flat_map session_lines boot.sessions ++ schedule_lines boot.schedule
 
 abbrev pub header_lines : Bool → List (List (List ℕ))
 header_lines true = (codes "nandlab" ∷ codes "1" ∷ []) ∷ []
@@ -125,7 +134,8 @@ header_lines false = []
 -- the words of each line of a plan
 abbrev pub canonical_words : PlanLines → List (List (List ℕ))
 canonical_words plan =
-    header_lines plan.begun ++ flat_map controller_lines plan.controllers ++ map data_words plan.payloads ++ flat_map boot_lines plan.boots
+    header_lines plan.begun ++ flat_map controller_lines plan.controllers ++ map data_words plan.payloads
+    ++ flat_map boot_lines plan.boots
 
 -- its lines
 abbrev pub canonical_lines : PlanLines → List (List ℕ)

@@ -114,7 +114,8 @@ range_rules unit size off len = do
   rule (nat_lt off size && nat_le (off + len) size) OutOfChip
 
 -- the rules of a command's names and numbers on its device
-unfoldable pub write_rules : PlanLines → Device → (oob pad : Bool) (off : ℕ) (name : List ℕ) → Result (Unit {0}) PlanKind
+unfoldable pub write_rules : PlanLines → Device → (oob pad : Bool) (off : ℕ) (name : List ℕ) →
+    Result (Unit {0}) PlanKind
 write_rules plan device oob pad off name = do
   let g : Geometry = device.chip.geometry
   payload ← there (data_named plan name) UnknownName
@@ -136,7 +137,10 @@ device_rules plan device (Stats dev) = Ok tt
 -- a command of the last session of the last boot
 abbrev pub with_command : CommandLine → PlanLines → PlanLines
 with_command command plan =
-    with_last_boot (λ (boot : BootLines). record boot { sessions = with_last (λ (session : SessionLines). record session { commands = session.commands ++ command ∷ [] }) boot.sessions }) plan
+    with_last_boot (λ (boot : BootLines). record boot {
+      sessions = with_last (λ
+          (session : SessionLines). record session { commands = session.commands ++ command ∷ [] }) boot.sessions;
+    }) plan
 
 -- a command, in a session: with it the commands of all boots take no more operations than a plan may
 unfoldable pub command_line : LineKind → PlanLines → List (List ℕ) → Result PlanLines PlanKind

@@ -19,7 +19,8 @@ bytes_of (Some payload) = data_bytes payload
 -- the command of a line on a device of so many blocks
 abbrev pub command_on : PlanLines → ℕ → CommandLine → Command
 command_on plan blocks (FlashErase dev no_scan start count) = Erase dev blocks no_scan start count
-command_on plan blocks (NandWrite dev mark raw oob pad off name) = Write dev blocks mark raw oob pad off (bytes_of (data_named plan name))
+command_on plan blocks (NandWrite dev mark raw oob pad off name) = Write dev blocks mark raw oob pad off (bytes_of
+    (data_named plan name))
 command_on plan blocks (NandDump dev off len raw oob bad) = Dump dev blocks off len raw oob bad
 command_on plan blocks (NandTest dev keep mark seed passes off len) = Test dev blocks keep mark seed passes off len
 command_on plan blocks (MarkBad dev block) = Mark dev blocks block
@@ -39,7 +40,8 @@ marks_many dev _ = false
 abbrev pub count_in : (CommandLine → Bool) → List SessionLines → ℕ
 count_in test sessions = sum_by (λ (session : SessionLines). count_by test session.commands) sessions
 
--- how many written pages of a nandwrite may fail or be refused: its chip's weak pages, and the blocks that other sessions of the boot may mark meanwhile,
+-- how many written pages of a nandwrite may fail or be refused: its chip's weak pages, and the blocks that other
+-- sessions of the boot may mark meanwhile,
 -- but at most one page for each block to which it comes
 abbrev pub weak_for : Device → ℕ → ℕ → List SessionLines → ℕ
 weak_for device dev off others =

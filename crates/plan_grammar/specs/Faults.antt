@@ -60,7 +60,8 @@ chip_at plan (c, k) = chip_in k (slice_get plan.controllers c)
 
 -- the numbers of a flip exist
 abbrev pub has_bits : ChipLines → ℕ → List ℕ → Bool
-has_bits chip page bits = nat_lt page (page_count chip.geometry) && list_all (λ bit. nat_lt bit (8 * raw_len chip.geometry)) bits
+has_bits chip page bits = nat_lt page (page_count chip.geometry)
+    && list_all (λ bit. nat_lt bit (8 * raw_len chip.geometry)) bits
 
 unfoldable pub flip_words : PlanLines → (chip page before : List ℕ) (bits : List (List ℕ)) → Result PlanLines PlanKind
 flip_words plan chip page before bits = do
@@ -71,7 +72,8 @@ flip_words plan chip page before bits = do
   named ← there (chip_at plan names) OutOfChip
   _ ← rule (has_bits named page_number bit_numbers) OutOfChip
   _ ← rule (nat_lt (all_flips plan) most_flips) TooLarge
-  Ok (with_fault (Flip names.0 (record { chip = names.1; page = page_number; before = event; bits = bit_numbers })) plan)
+  Ok (with_fault (Flip names.0
+      (record { chip = names.1; page = page_number; before = event; bits = bit_numbers })) plan)
 
 unfoldable pub flip_form : PlanLines → List (List ℕ) → Result PlanLines PlanKind
 flip_form plan (chip ∷ page ∷ before ∷ bit ∷ bits) = flip_words plan chip page before (bit ∷ bits)

@@ -141,7 +141,8 @@ piece_by_front None None (Some text) = hex_piece text
 piece_by_front None None None = Err BadNumber
 
 unfoldable pub piece : List ℕ → Result Piece PlanKind
-piece word = piece_by_front (after_front (codes "fill:") word) (after_front (codes "seed:") word) (after_front (codes "hex:") word)
+piece word = piece_by_front (after_front (codes "fill:") word) (after_front (codes "seed:") word) (after_front
+    (codes "hex:") word)
 
 unfoldable pub pieces : List (List ℕ) → Result (List Piece) PlanKind
 pieces [] = Ok []

@@ -20,13 +20,26 @@ use Rattle.plan_grammar.specs.Commands.{command_line}
 -- the first word of each kind of line
 abbrev pub first_words : List (Meaning LineKind)
 first_words =
-    record { word = codes "nandlab"; means = Header } ∷ record { word = codes "controller"; means = Controller } ∷ record { word = codes "chip"; means = Chip }
-    ∷ record { word = codes "bad"; means = Bad } ∷ record { word = codes "weak"; means = Weak } ∷ record { word = codes "part"; means = Part }
-    ∷ record { word = codes "data"; means = Data } ∷ record { word = codes "boot"; means = Boot } ∷ record { word = codes "flip"; means = Flip }
-    ∷ record { word = codes "cut"; means = Cut } ∷ record { word = codes "session"; means = Session } ∷ record { word = codes "schedule"; means = Schedule }
-    ∷ record { word = codes "flash_erase"; means = FlashErase } ∷ record { word = codes "nandwrite"; means = NandWrite }
-    ∷ record { word = codes "nanddump"; means = NandDump } ∷ record { word = codes "nandtest"; means = NandTest }
-    ∷ record { word = codes "markbad"; means = MarkBad } ∷ record { word = codes "isbad"; means = IsBad } ∷ record { word = codes "stats"; means = Stats } ∷ []
+    record { word = codes "nandlab"; means = Header }
+    ∷ record { word = codes "controller"; means = Controller }
+    ∷ record { word = codes "chip"; means = Chip }
+    ∷ record { word = codes "bad"; means = Bad }
+    ∷ record { word = codes "weak"; means = Weak }
+    ∷ record { word = codes "part"; means = Part }
+    ∷ record { word = codes "data"; means = Data }
+    ∷ record { word = codes "boot"; means = Boot }
+    ∷ record { word = codes "flip"; means = Flip }
+    ∷ record { word = codes "cut"; means = Cut }
+    ∷ record { word = codes "session"; means = Session }
+    ∷ record { word = codes "schedule"; means = Schedule }
+    ∷ record { word = codes "flash_erase"; means = FlashErase }
+    ∷ record { word = codes "nandwrite"; means = NandWrite }
+    ∷ record { word = codes "nanddump"; means = NandDump }
+    ∷ record { word = codes "nandtest"; means = NandTest }
+    ∷ record { word = codes "markbad"; means = MarkBad }
+    ∷ record { word = codes "isbad"; means = IsBad }
+    ∷ record { word = codes "stats"; means = Stats }
+    ∷ []
 
 -- a line of each kind, by the words after the first
 abbrev pub line_by_kind : LineKind → PlanLines → List (List ℕ) → Result PlanLines PlanKind
@@ -79,11 +92,13 @@ pub record IsPlan (bytes : List ℕ) (plan : PlanLines) : Type 0 where
   pub lines : Reads no_lines (lines_of bytes) plan
   pub some : 0 < length plan.boots
 
--- the bytes are refused: they are too many, or a line is the first that breaks a rule, or all lines are good and there is no boot
+-- the bytes are refused: they are too many, or a line is the first that breaks a rule, or all lines are good and
+-- there is no boot
 pub data IsRefused (bytes : List ℕ) : ℕ → PlanKind → Type 0 where
   TooLong : most_bytes < length bytes → IsRefused bytes 0 TooManyBytes
   Broken : (before : List (List ℕ)) (broken : List ℕ) (after : List (List ℕ)) (plan : PlanLines) (kind : PlanKind) →
-      length bytes ≤ most_bytes → lines_of bytes ≡ before ++ broken ∷ after → Reads no_lines before plan → line plan broken ≡ Err kind →
+      length bytes ≤ most_bytes → lines_of bytes ≡ before ++ broken ∷ after → Reads no_lines before plan →
+      line plan broken ≡ Err kind →
       IsRefused bytes (length before + 1) kind
   Ended : (plan : PlanLines) → length bytes ≤ most_bytes → Reads no_lines (lines_of bytes) plan → plan.boots ≡ [] →
       IsRefused bytes (length (lines_of bytes) + 1) NoBoot

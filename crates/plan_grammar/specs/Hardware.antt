@@ -48,7 +48,10 @@ abbrev pub with_last_chip : (ChipLines → ChipLines) → PlanLines → PlanLine
 with_last_chip change plan = record plan { controllers = with_last (with_last change) plan.controllers }
 
 abbrev pub with_defect : DefectLine → PlanLines → PlanLines
-with_defect defect plan = with_last_chip (λ (chip : ChipLines). record chip { defects = chip.defects ++ defect ∷ [] }) plan
+with_defect defect plan = with_last_chip (λ (chip : ChipLines). record chip {
+  defects = chip.defects ++ defect
+      ∷ [];
+}) plan
 
 abbrev pub with_part : PartLine → PlanLines → PlanLines
 with_part part plan = with_last_chip (λ (chip : ChipLines). record chip { parts = chip.parts ++ part ∷ [] }) plan
@@ -80,7 +83,16 @@ controller_line plan words = do
 abbrev pub geometry_if : (page spare pages_per_block blocks t bbt threshold : ℕ) (fits : Bool) →
     is_geometry page spare pages_per_block blocks t bbt threshold ≡ fits → Option Geometry
 geometry_if page spare pages_per_block blocks t bbt threshold true e =
-    Some (record { page = page; spare = spare; pages_per_block = pages_per_block; blocks = blocks; t = t; bbt = bbt; threshold = threshold; in_bounds = e })
+    Some (record {
+      page = page;
+      spare = spare;
+      pages_per_block = pages_per_block;
+      blocks = blocks;
+      t = t;
+      bbt = bbt;
+      threshold = threshold;
+      in_bounds = e;
+    })
 geometry_if page spare pages_per_block blocks t bbt threshold false e = None
 
 abbrev pub geometry_of : (page spare pages_per_block blocks t bbt threshold : ℕ) → Option Geometry
@@ -97,7 +109,8 @@ geometry page spare pages_per_block blocks t bbt threshold = do
 
 unfoldable pub sizes : List ℕ → Result Geometry PlanKind
 sizes (page ∷ spare ∷ pages_per_block ∷ blocks ∷ t ∷ bbt ∷ []) = geometry page spare pages_per_block blocks t bbt 0
-sizes (page ∷ spare ∷ pages_per_block ∷ blocks ∷ t ∷ bbt ∷ threshold ∷ []) = geometry page spare pages_per_block blocks t bbt threshold
+sizes (page ∷ spare ∷ pages_per_block ∷ blocks ∷ t ∷ bbt ∷ threshold
+    ∷ []) = geometry page spare pages_per_block blocks t bbt threshold
 sizes _ = Err BadWords
 
 -- `chip PAGE SPARE PPB BLOCKS T BBT` and optionally `THRESHOLD`, in a controller
@@ -162,7 +175,10 @@ weak_line plan words = do
 
 -- a count of 0 means to the end
 abbrev pub part_in_force : ChipLines → (start count : ℕ) → PartLine
-part_in_force chip start count = record { start = start; count = if count == 0 then chip.geometry.blocks - start else count }
+part_in_force chip start count = record {
+  start = start;
+  count = if count == 0 then chip.geometry.blocks - start else count;
+}
 
 -- `part START COUNT`, after a chip
 unfoldable pub part_words : ChipLines → PlanLines → (start count : ℕ) → Result PlanLines PlanKind

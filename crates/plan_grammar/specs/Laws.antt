@@ -9,7 +9,8 @@ use Rattle.plan_grammar.specs.Canonical.{canonical_lines, canonical_text}
 
 -- bytes are a plan or are refused
 abbrev pub HasReading : Type 0
-HasReading = (bytes : List ℕ) → ((plan : PlanLines) × IsPlan bytes plan) ⊎ ((at : ℕ) × (kind : PlanKind) × IsRefused bytes at kind)
+HasReading = (bytes : List ℕ) →
+    ((plan : PlanLines) × IsPlan bytes plan) ⊎ ((at : ℕ) × (kind : PlanKind) × IsRefused bytes at kind)
 
 -- they are one plan at most
 abbrev pub OnePlan : Type 0
@@ -18,11 +19,13 @@ OnePlan = (bytes : List ℕ) (one other : PlanLines) → IsPlan bytes one → Is
 -- they are refused at one line at most, for one kind
 abbrev pub OneRefusal : Type 0
 OneRefusal =
-    (bytes : List ℕ) (at : ℕ) (kind : PlanKind) (at' : ℕ) (kind' : PlanKind) → IsRefused bytes at kind → IsRefused bytes at' kind' → (at ≡ at') × (kind ≡ kind')
+    (bytes : List ℕ) (at : ℕ) (kind : PlanKind) (at' : ℕ) (kind' : PlanKind) → IsRefused bytes at kind →
+    IsRefused bytes at' kind' → (at ≡ at') × (kind ≡ kind')
 
 -- and never both
 abbrev pub NeverBoth : Type 0
-NeverBoth = (bytes : List ℕ) (plan : PlanLines) (at : ℕ) (kind : PlanKind) → IsPlan bytes plan → IsRefused bytes at kind → ⊥
+NeverBoth = (bytes : List ℕ) (plan : PlanLines) (at : ℕ) (kind : PlanKind) → IsPlan bytes plan →
+    IsRefused bytes at kind → ⊥
 
 -- the canonical text of a plan is within the limits of texts
 pub record FitsText (plan : PlanLines) : Type 0 where

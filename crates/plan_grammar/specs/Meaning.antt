@@ -42,7 +42,11 @@ abbrev pub command_of : PlanLines → CommandLine → Command
 command_of plan command = command_on plan (blocks_of (device_at plan (device_in command))) command
 
 abbrev pub session_plan : PlanLines → SessionLines → SessionPlan
-session_plan plan session = record { controller = session.controller; commands = map (command_of plan) session.commands }
+session_plan plan session = record {
+  controller = session.controller;
+  commands = map
+      (command_of plan) session.commands;
+}
 
 abbrev pub boot_plan : PlanLines → BootLines → BootPlan
 boot_plan plan boot =

@@ -23,21 +23,37 @@ meaning_in (entry ∷ entries) word = if bytes_eq word entry.word then Some entr
 
 abbrev pub bad_options : List (Meaning OptionKind)
 bad_options =
-    record { word = codes "--bb=padbad"; means = Bad PadBad } ∷ record { word = codes "--bb=dumpbad"; means = Bad DumpBad }
-    ∷ record { word = codes "--bb=skipbad"; means = Bad SkipBad } ∷ []
+    record { word = codes "--bb=padbad"; means = Bad PadBad }
+    ∷ record { word = codes "--bb=dumpbad"; means = Bad DumpBad }
+    ∷ record { word = codes "--bb=skipbad"; means = Bad SkipBad }
+    ∷ []
 
 -- the options of each command
 abbrev pub options_of : LineKind → List (Meaning OptionKind)
-options_of FlashErase = record { word = codes "-N"; means = NoScan } ∷ []
+options_of FlashErase =
+    record { word = codes "-N"; means = NoScan }
+    ∷ []
 options_of NandWrite =
-    record { word = codes "-m"; means = Mark } ∷ record { word = codes "-n"; means = Raw } ∷ record { word = codes "-o"; means = Oob }
-    ∷ record { word = codes "-p"; means = Pad } ∷ record { word = codes "-s"; means = Offset } ∷ []
+    record { word = codes "-m"; means = Mark }
+    ∷ record { word = codes "-n"; means = Raw }
+    ∷ record { word = codes "-o"; means = Oob }
+    ∷ record { word = codes "-p"; means = Pad }
+    ∷ record { word = codes "-s"; means = Offset }
+    ∷ []
 options_of NandDump =
-    record { word = codes "-s"; means = Offset } ∷ record { word = codes "-l"; means = Length } ∷ record { word = codes "-n"; means = Raw }
-    ∷ record { word = codes "-o"; means = Oob } ∷ bad_options
+    record { word = codes "-s"; means = Offset }
+    ∷ record { word = codes "-l"; means = Length }
+    ∷ record { word = codes "-n"; means = Raw }
+    ∷ record { word = codes "-o"; means = Oob }
+    ∷ bad_options
 options_of NandTest =
-    record { word = codes "-k"; means = Keep } ∷ record { word = codes "-m"; means = Mark } ∷ record { word = codes "-s"; means = Seed }
-    ∷ record { word = codes "-p"; means = Passes } ∷ record { word = codes "-o"; means = Offset } ∷ record { word = codes "-l"; means = Length } ∷ []
+    record { word = codes "-k"; means = Keep }
+    ∷ record { word = codes "-m"; means = Mark }
+    ∷ record { word = codes "-s"; means = Seed }
+    ∷ record { word = codes "-p"; means = Passes }
+    ∷ record { word = codes "-o"; means = Offset }
+    ∷ record { word = codes "-l"; means = Length }
+    ∷ []
 options_of _ = []
 
 -- the option's value is the next word
@@ -49,7 +65,19 @@ has_value Passes = true
 has_value _ = false
 
 abbrev pub no_options : Options
-no_options = record { no_scan = false; mark = false; raw = false; oob = false; pad = false; keep = false; bad = None; offset = None; length = None; seed = None; passes = None }
+no_options = record {
+  no_scan = false;
+  mark = false;
+  raw = false;
+  oob = false;
+  pad = false;
+  keep = false;
+  bad = None;
+  offset = None;
+  length = None;
+  seed = None;
+  passes = None;
+}
 
 -- the option was given before
 abbrev pub is_given : Options → OptionKind → Bool

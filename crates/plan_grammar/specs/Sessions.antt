@@ -19,7 +19,10 @@ running_boot plan = do
   Ok boot
 
 abbrev pub with_session : SessionLines → PlanLines → PlanLines
-with_session session plan = with_last_boot (λ (boot : BootLines). record boot { sessions = boot.sessions ++ session ∷ [] }) plan
+with_session session plan = with_last_boot (λ (boot : BootLines). record boot {
+  sessions = boot.sessions ++ session
+      ∷ [];
+}) plan
 
 unfoldable pub session_form : BootLines → PlanLines → List (List ℕ) → Result PlanLines PlanKind
 session_form boot plan (word ∷ []) = do

@@ -11,18 +11,22 @@ returns-in_err-value c =
     let ds = c.args.digits.now in
     let i = c.loop-digit.digit-index in
     let read : c.in_ok-digit.digit ≡ digit_value (get_or ds i 0) = grind (arith, c.in_ok-digit.ensures.value) in
-    let more = one_digit_more c.args.base c.loop-digit.value c.in_ok-digit.digit ds i c.loop-digit-test.true c.loop-digit.invariant.value read in
+    let more = one_digit_more c.args.base c.loop-digit.value c.in_ok-digit.digit ds i c.loop-digit-test.true
+    c.loop-digit.invariant.value read in
     let large : 2 ^ 64 ≤ digits_value c.args.base (take (i + 1) ds) = omega (arith, more, c.in_err-value.ensures) in
-    c.from_residual-in_err-value.ensures ∙ sym (number_too_large c.args.base ds (i + 1) (omega (arith, c.requires.binary)) large)
+    c.from_residual-in_err-value.ensures
+    ∙ sym (number_too_large c.args.base ds (i + 1) (omega (arith, c.requires.binary)) large)
 
 pub loop-digit-preserved : goal.loop-digit-preserved
 loop-digit-preserved c =
     let ds = c.args.digits.now in
     let i = c.loop-digit.digit-index in
     let read : c.in_ok-digit.digit ≡ digit_value (get_or ds i 0) = grind (arith, c.in_ok-digit.ensures.value) in
-    let more = one_digit_more c.args.base c.loop-digit.value c.in_ok-digit.digit ds i c.loop-digit-test.true c.loop-digit.invariant.value read in
+    let more = one_digit_more c.args.base c.loop-digit.value c.in_ok-digit.digit ds i c.loop-digit-test.true
+    c.loop-digit.invariant.value read in
     record {
-      digits = digits_more c.args.base ds i c.loop-digit-test.true c.loop-digit.invariant.digits (grind (arith, c.in_ok-digit.ensures.value));
+      digits = digits_more c.args.base ds i c.loop-digit-test.true c.loop-digit.invariant.digits
+          (grind (arith, c.in_ok-digit.ensures.value));
       value = c.in_ok-value.ensures.1 ∙ more;
       fits = omega (arith, c.in_ok-value.ensures.0, c.in_ok-value.ensures.1);
     }
