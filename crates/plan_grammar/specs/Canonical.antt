@@ -28,6 +28,7 @@ use Rattle.plan_grammar.specs.declared.lines.SessionLines.{SessionLines}
 use Rattle.plan_grammar.specs.declared.lines.CommandLine.{CommandLine}
 use Rattle.plan_grammar.specs.declared.lines.CommandLine.TheVariants.{FlashErase, NandWrite, NandDump, NandTest, MarkBad, IsBad, Stats}
 
+-- numbers in decimal
 abbrev pub decimals : List ℕ → List (List ℕ)
 decimals numbers = map (λ n. decimal n) numbers
 
@@ -37,48 +38,60 @@ joined separator [] = []
 joined separator (text ∷ []) = text
 joined separator (text ∷ next ∷ texts) = text ++ separator ∷ joined separator (next ∷ texts)
 
+-- the words of a chip's line
 abbrev pub chip_words : Geometry → List (List ℕ)
 chip_words g = codes "chip" ∷ decimals (g.page ∷ g.spare ∷ g.pages_per_block ∷ g.blocks ∷ g.t ∷ g.bbt ∷ g.threshold
     ∷ [])
 
+-- a span
 abbrev pub span_text : ℕ × ℕ → List ℕ
 span_text (first, end) = decimal first ++ codes "-" ++ decimal end
 
+-- a tear
 abbrev pub tear_text : Tear → List ℕ
 tear_text Nothing = codes "none"
 tear_text Everything = codes "all"
 tear_text (FromSeed seed) = codes "seed:" ++ decimal seed
 tear_text (Spans spans) = codes "spans:" ++ joined 44 (map span_text spans)
 
+-- what fails at a weak place
 abbrev pub weak_kind_text : WeakKind → List ℕ
 weak_kind_text Program = codes "program"
 weak_kind_text Erase = codes "erase"
 
+-- the words of a line of bad blocks or of a weak place
 abbrev pub defect_words : DefectLine → List (List ℕ)
 defect_words (Bad blocks) = codes "bad" ∷ decimals blocks
 defect_words (WeakAt weak) = codes "weak" ∷ weak_kind_text weak.kind ∷ decimal weak.at ∷ decimal weak.after
     ∷ tear_text weak.tear ∷ []
 
+-- the words of a partition's line
 abbrev pub part_words : PartLine → List (List ℕ)
 part_words part = codes "part" ∷ decimals (part.start ∷ part.count ∷ [])
 
+-- the lines of a chip
 abbrev pub chip_lines : ChipLines → List (List (List ℕ))
 chip_lines chip = chip_words chip.geometry ∷ map defect_words chip.defects ++ map part_words chip.parts
 
+-- the lines of a controller
 abbrev pub controller_lines : List ChipLines → List (List (List ℕ))
 controller_lines chips = (codes "controller" ∷ []) ∷ flat_map chip_lines chips
 
+-- a piece
 abbrev pub piece_text : Piece → List ℕ
 piece_text (Fill byte len) = codes "fill:" ++ encode_lower (byte ∷ []) ++ codes ":" ++ decimal len
 piece_text (Seed seed len) = codes "seed:" ++ decimal seed ++ codes ":" ++ decimal len
 piece_text (Hex bytes) = codes "hex:" ++ encode_lower bytes
 
+-- the words of a data line
 abbrev pub data_words : DataLine → List (List ℕ)
 data_words payload = codes "data" ∷ payload.name ∷ map piece_text payload.pieces
 
+-- chip K of controller C
 abbrev pub chip_name : (controller chip : ℕ) → List ℕ
 chip_name controller chip = decimal controller ++ codes "." ++ decimal chip
 
+-- the words of a flip's or a cut's line
 abbrev pub fault_words : FaultLine → List (List ℕ)
 fault_words (FlipOf controller flip) = codes "flip" ∷ chip_name controller flip.chip ∷ decimals (flip.page
     ∷ flip.before ∷ flip.bits)
@@ -89,14 +102,17 @@ abbrev pub flag : List ℕ → Bool → List (List ℕ)
 flag word true = word ∷ []
 flag word false = []
 
+-- an option with its value, left out at its default
 abbrev pub valued : List ℕ → (value default : ℕ) → List (List ℕ)
 valued word value default = if value == default then [] else word ∷ decimal value ∷ []
 
+-- what a nanddump does with bad blocks, left out at its default
 abbrev pub bad_option : BadMode → List (List ℕ)
 bad_option PadBad = []
 bad_option DumpBad = codes "--bb=dumpbad" ∷ []
 bad_option SkipBad = codes "--bb=skipbad" ∷ []
 
+-- the words of a command's line
 abbrev pub command_words : CommandLine → List (List ℕ)
 command_words (FlashErase dev no_scan start count) =
     codes "flash_erase" ∷ flag (codes "-N") no_scan ++ device_name dev ∷ decimals (start ∷ count ∷ [])
@@ -116,17 +132,21 @@ command_words (MarkBad dev block) = codes "markbad" ∷ device_name dev ∷ deci
 command_words (IsBad dev block) = codes "isbad" ∷ device_name dev ∷ decimal block ∷ []
 command_words (Stats dev) = codes "stats" ∷ device_name dev ∷ []
 
+-- the lines of a session
 abbrev pub session_lines : SessionLines → List (List (List ℕ))
 session_lines session = (codes "session" ∷ decimal session.controller ∷ []) ∷ map command_words session.commands
 
+-- the line of a schedule, where there is one
 abbrev pub schedule_lines : List ℕ → List (List (List ℕ))
 schedule_lines [] = []
 schedule_lines (n ∷ numbers) = (codes "schedule" ∷ decimals (n ∷ numbers)) ∷ []
 
+-- the lines of a boot
 abbrev pub boot_lines : BootLines → List (List (List ℕ))
 boot_lines boot = (codes "boot" ∷ [])
     ∷ map fault_words boot.faults ++ flat_map session_lines boot.sessions ++ schedule_lines boot.schedule
 
+-- the header, where it was there
 abbrev pub header_lines : Bool → List (List (List ℕ))
 header_lines true = (codes "nandlab" ∷ codes "1" ∷ []) ∷ []
 header_lines false = []

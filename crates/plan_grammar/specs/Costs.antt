@@ -2,7 +2,7 @@
 use Rattle.std.specs.Prelude.{ℕ, ◌+◌, ◌-◌, ◌*◌, ◌/◌, Bool, false, ◌&&◌, ◌==◌, min, List, [], ◌∷◌, ◌++◌, sum_by, count_by, Option, Some, None}
 use Rattle.nand_model.specs.declared.words.Command.{Command}
 use Rattle.nand_model.specs.declared.words.Command.TheVariants.{FlashErase as Erase, NandWrite as Write, NandDump as Dump, NandTest as Test, MarkBad as Mark, IsBad as Ask, Stats as Count}
-use Rattle.run_model.specs.Command.{cost_of, block_size}
+use Rattle.command_model.specs.Command.{cost_of, block_size}
 use Rattle.plan_grammar.specs.declared.lines.PlanLines.{PlanLines}
 use Rattle.plan_grammar.specs.declared.lines.BootLines.{BootLines}
 use Rattle.plan_grammar.specs.declared.lines.SessionLines.{SessionLines}
@@ -32,11 +32,13 @@ abbrev pub marks_one : ℕ → CommandLine → Bool
 marks_one dev (MarkBad d block) = d == dev
 marks_one dev _ = false
 
+-- a command with `-m` on this device
 abbrev pub marks_many : ℕ → CommandLine → Bool
 marks_many dev (NandWrite d mark raw oob pad off name) = mark && d == dev
 marks_many dev (NandTest d keep mark seed passes off len) = mark && d == dev
 marks_many dev _ = false
 
+-- how many commands of these sessions pass a test
 abbrev pub count_in : (CommandLine → Bool) → List SessionLines → ℕ
 count_in test sessions = sum_by (λ (session : SessionLines). count_by test session.commands) sessions
 
@@ -53,11 +55,13 @@ abbrev pub allowance : Device → List SessionLines → CommandLine → ℕ
 allowance device others (NandWrite dev mark raw oob pad off name) = weak_for device dev off others
 allowance device others _ = 0
 
+-- the cost of a command on a device that may be there
 abbrev pub cost_on : PlanLines → List SessionLines → CommandLine → Option Device → ℕ
 cost_on plan others command None = 0
 cost_on plan others command (Some device) =
     cost_of device.chip.geometry (command_on plan device.part.count command) (allowance device others command)
 
+-- the device that a command names
 abbrev pub device_in : CommandLine → ℕ
 device_in (FlashErase dev no_scan start count) = dev
 device_in (NandWrite dev mark raw oob pad off name) = dev

@@ -33,6 +33,7 @@ weak_in (WeakAt weak) = weak ∷ []
 abbrev pub weak_places : ChipLines → List Weak
 weak_places chip = flat_map weak_in chip.defects
 
+-- the kind of a weak page
 abbrev pub is_program : WeakKind → Bool
 is_program Program = true
 is_program Erase = false
@@ -50,6 +51,7 @@ weak_programs chip = count_by (λ (w : Weak). is_program w.kind) (weak_places ch
 abbrev pub is_weak : ChipLines → WeakKind → ℕ → Bool
 is_weak chip kind at = list_any (λ (w : Weak). is_same_kind w.kind kind && (w.at == at)) (weak_places chip)
 
+-- a number is among these
 abbrev pub has_number : List ℕ → ℕ → Bool
 has_number numbers n = list_any (λ m. m == n) numbers
 
@@ -70,6 +72,7 @@ share_block a b = nat_lt a.start (b.start + b.count) && nat_lt b.start (a.start 
 abbrev pub pages_of_chips : List ChipLines → ℕ
 pages_of_chips chips = sum_by (λ (chip : ChipLines). page_count chip.geometry) chips
 
+-- the pages of all controllers
 abbrev pub all_pages : PlanLines → ℕ
 all_pages plan = sum_by pages_of_chips plan.controllers
 
@@ -79,14 +82,17 @@ pub record Device : Type 0 where
   pub chip : ChipLines
   pub part : PartLine
 
+-- the devices on a chip of this controller
 abbrev pub devices_on : ℕ → ChipLines → List PartLine → List Device
 devices_on c chip [] = []
 devices_on c chip (part ∷ parts) = record { controller = c; chip = chip; part = part } ∷ devices_on c chip parts
 
+-- the devices on chips of this controller
 abbrev pub devices_of_chips : ℕ → List ChipLines → List Device
 devices_of_chips c [] = []
 devices_of_chips c (chip ∷ chips) = devices_on c chip chip.parts ++ devices_of_chips c chips
 
+-- the devices of controllers, the first of which has this number
 abbrev pub devices_from : ℕ → List (List ChipLines) → List Device
 devices_from c [] = []
 devices_from c (chips ∷ controllers) = devices_of_chips c chips ++ devices_from (c + 1) controllers
@@ -95,6 +101,7 @@ devices_from c (chips ∷ controllers) = devices_of_chips c chips ++ devices_fro
 abbrev pub devices : PlanLines → List Device
 devices plan = devices_from 0 plan.controllers
 
+-- the device of this number
 abbrev pub device_at : PlanLines → ℕ → Option Device
 device_at plan dev = slice_get (devices plan) dev
 
@@ -102,12 +109,15 @@ device_at plan dev = slice_get (devices plan) dev
 abbrev pub data_bytes : DataLine → List ℕ
 data_bytes payload = flat_map piece_bytes payload.pieces
 
+-- how many bytes pieces are
 abbrev pub pieces_length : List Piece → ℕ
 pieces_length pieces = sum_by piece_length pieces
 
+-- how many bytes data are
 abbrev pub data_length : DataLine → ℕ
 data_length payload = pieces_length payload.pieces
 
+-- how many bytes all data are
 abbrev pub all_data : PlanLines → ℕ
 all_data plan = sum_by data_length plan.payloads
 

@@ -12,7 +12,7 @@ use Rattle.plan_grammar.specs.declared.lines.FaultLine.{FaultLine}
 use Rattle.plan_grammar.specs.declared.lines.FaultLine.TheVariants.{Flip, Cut}
 use Rattle.plan_grammar.specs.Limits.{most_boots, most_flips}
 use Rattle.plan_grammar.specs.Rules.{◌>>=◌, rule, there, is_empty, last_of, with_last}
-use Rattle.plan_grammar.specs.Forms.{number, small_number, positive_number, small_numbers, tear, chip_numbers}
+use Rattle.plan_grammar.specs.Forms.{three_words, number, small_number, positive_number, small_numbers, tear, chip_numbers}
 use Rattle.plan_grammar.specs.Hardware.{has_chip}
 
 -- `boot`, where the last controller has a chip
@@ -23,12 +23,15 @@ boot_line plan words = do
   _ ← rule (nat_lt (length plan.boots) most_boots) TooLarge
   Ok (record plan { boots = plan.boots ++ record { faults = []; sessions = []; schedule = [] } ∷ [] })
 
+-- the last boot
 abbrev pub last_boot : PlanLines → Result BootLines PlanKind
 last_boot plan = there (last_of plan.boots) WrongPlace
 
+-- the plan with another last boot
 abbrev pub with_last_boot : (BootLines → BootLines) → PlanLines → PlanLines
 with_last_boot change plan = record plan { boots = with_last change plan.boots }
 
+-- the plan with one more fault in the last boot
 abbrev pub with_fault : FaultLine → PlanLines → PlanLines
 with_fault fault plan = with_last_boot (λ (boot : BootLines). record boot { faults = boot.faults ++ fault ∷ [] }) plan
 
@@ -39,6 +42,7 @@ open_boot plan = do
   _ ← rule (is_empty boot.sessions) WrongPlace
   Ok boot
 
+-- a fault is a flip
 abbrev pub is_flip : FaultLine → Bool
 is_flip (Flip controller flip) = true
 is_flip (Cut controller cut) = false
@@ -47,6 +51,7 @@ is_flip (Cut controller cut) = false
 abbrev pub flips_of : BootLines → ℕ
 flips_of boot = count_by is_flip boot.faults
 
+-- the flip lines of all boots
 abbrev pub all_flips : PlanLines → ℕ
 all_flips plan = sum_by flips_of plan.boots
 
@@ -55,6 +60,7 @@ abbrev pub chip_in : ℕ → Option (List ChipLines) → Option ChipLines
 chip_in k None = None
 chip_in k (Some chips) = slice_get chips k
 
+-- the chip of these two numbers
 abbrev pub chip_at : PlanLines → (ℕ × ℕ) → Option ChipLines
 chip_at plan (c, k) = chip_in k (slice_get plan.controllers c)
 
@@ -63,6 +69,7 @@ abbrev pub has_bits : ChipLines → ℕ → List ℕ → Bool
 has_bits chip page bits = nat_lt page (page_count chip.geometry)
     && list_all (λ bit. nat_lt bit (8 * raw_len chip.geometry)) bits
 
+-- a flip by its words
 unfoldable pub flip_words : PlanLines → (chip page before : List ℕ) (bits : List (List ℕ)) → Result PlanLines PlanKind
 flip_words plan chip page before bits = do
   names ← there (chip_numbers chip) BadWords
@@ -75,6 +82,7 @@ flip_words plan chip page before bits = do
   Ok (with_fault (Flip names.0
       (record { chip = names.1; page = page_number; before = event; bits = bit_numbers })) plan)
 
+-- a flip has at least four words
 unfoldable pub flip_form : PlanLines → List (List ℕ) → Result PlanLines PlanKind
 flip_form plan (chip ∷ page ∷ before ∷ bit ∷ bits) = flip_words plan chip page before (bit ∷ bits)
 flip_form plan _ = Err BadWords
@@ -91,6 +99,7 @@ cuts_controller None fault = false
 cuts_controller (Some c) (Flip controller flip) = false
 cuts_controller (Some c) (Cut controller cut) = controller == c
 
+-- a cut by its words
 unfoldable pub cut_words : BootLines → PlanLines → (controller event torn : List ℕ) → Result PlanLines PlanKind
 cut_words boot plan controller event torn = do
   _ ← rule (not (list_any (cuts_controller (number_of controller)) boot.faults)) BadWords
@@ -100,9 +109,11 @@ cut_words boot plan controller event torn = do
   _ ← rule (nat_lt c (length plan.controllers)) OutOfChip
   Ok (with_fault (Cut c (record { event = n; tear = bits })) plan)
 
+-- a cut has three words
 unfoldable pub cut_form : BootLines → PlanLines → List (List ℕ) → Result PlanLines PlanKind
-cut_form boot plan (controller ∷ event ∷ torn ∷ []) = cut_words boot plan controller event torn
-cut_form boot plan _ = Err BadWords
+cut_form boot plan words = do
+  found ← three_words words
+  cut_words boot plan found.0 found.1 found.2
 
 -- `cut C EVENT TEAR`, in a boot, before its sessions; a controller has at most one
 unfoldable pub cut_line : PlanLines → List (List ℕ) → Result PlanLines PlanKind

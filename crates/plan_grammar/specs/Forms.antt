@@ -1,8 +1,8 @@
 -- The forms of words: numbers that fit, tears, pieces, names, chips and devices.
-use Rattle.std.specs.Prelude.{ℕ, Bool, true, false, not, ◌&&◌, ◌||◌, ◌==◌, nat_eq, nat_lt, nat_le, if◌then◌else◌, bytes_eq, List, [], ◌∷◌, length, drop, map, replicate, Option, Some, None, Result, Ok, Err, codes}
-use Rattle.std.specs.List.{starts_with, list_all}
+use Rattle.std.specs.Prelude.{ℕ, Bool, true, false, not, ◌&&◌, ◌||◌, ◌==◌, nat_lt, nat_le, if◌then◌else◌, bytes_eq, List, [], ◌∷◌, length, take, drop, map, replicate, Option, Some, None, Result, Ok, Err, codes}
+use Rattle.std.specs.List.{list_all}
 use Rattle.std.specs.Char.{is_ascii_alphabetic, is_ascii_alphanumeric}
-use Rattle.hex.specs.Hex.{decode_of}
+use Rattle.hex.specs.Hex.{decode_of, decode_sized}
 use Rattle.hex.specs.declared.error.FromHexError.{FromHexError}
 use Rattle.lab_text.specs.Text.{number_of, number_in, with_byte}
 use Rattle.nand_model.specs.Seeds.{seed_byte}
@@ -12,7 +12,7 @@ use Rattle.nand_model.specs.declared.tear.Tear.TheVariants.{Nothing, Everything,
 use Rattle.nand_model.specs.declared.words.WeakKind.{WeakKind}
 use Rattle.nand_model.specs.declared.words.WeakKind.TheVariants.{Program, Erase}
 use Rattle.plan_grammar.specs.declared.kind.PlanKind.{PlanKind}
-use Rattle.plan_grammar.specs.declared.kind.PlanKind.TheVariants.{BadNumber}
+use Rattle.plan_grammar.specs.declared.kind.PlanKind.TheVariants.{BadWords, BadNumber}
 use Rattle.plan_grammar.specs.declared.lines.Piece.{Piece}
 use Rattle.plan_grammar.specs.declared.lines.Piece.TheVariants.{Fill, Seed, Hex}
 use Rattle.plan_grammar.specs.Limits.{word_limit, longest_page}
@@ -21,6 +21,26 @@ use Rattle.plan_grammar.specs.Rules.{◌>>=◌, rule, there, some_if}
 -- a byte is LF, TAB or from 0x20 to 0x7e
 abbrev pub is_allowed : ℕ → Bool
 is_allowed byte = byte == 10 || byte == 9 || (nat_le 32 byte && nat_le byte 126)
+
+-- the only word
+unfoldable pub one_word : List (List ℕ) → Result (List ℕ) PlanKind
+one_word (first ∷ []) = Ok first
+one_word _ = Err BadWords
+
+-- the two words
+unfoldable pub two_words : List (List ℕ) → Result (List ℕ × List ℕ) PlanKind
+two_words (first ∷ second ∷ []) = Ok (first, second)
+two_words _ = Err BadWords
+
+-- the three words
+unfoldable pub three_words : List (List ℕ) → Result (List ℕ × List ℕ × List ℕ) PlanKind
+three_words (first ∷ second ∷ third ∷ []) = Ok (first, second, third)
+three_words _ = Err BadWords
+
+-- the four words
+unfoldable pub four_words : List (List ℕ) → Result (List ℕ × List ℕ × List ℕ × List ℕ) PlanKind
+four_words (first ∷ second ∷ third ∷ fourth ∷ []) = Ok (first, second, third, fourth)
+four_words _ = Err BadWords
 
 -- a number of a word
 unfoldable pub number : List ℕ → Result ℕ PlanKind
@@ -40,6 +60,7 @@ positive_number word = do
   _ ← rule (nat_le 1 n) BadNumber
   Ok n
 
+-- the numbers of all words
 unfoldable pub numbers : List (List ℕ) → Result (List ℕ) PlanKind
 numbers [] = Ok []
 numbers (word ∷ words) = do
@@ -47,6 +68,7 @@ numbers (word ∷ words) = do
   ns ← numbers words
   Ok (n ∷ ns)
 
+-- the same of pages, blocks, counts, bits or events
 unfoldable pub small_numbers : List (List ℕ) → Result (List ℕ) PlanKind
 small_numbers [] = Ok []
 small_numbers (word ∷ words) = do
@@ -55,8 +77,8 @@ small_numbers (word ∷ words) = do
   Ok (n ∷ ns)
 
 -- what follows a front, where the word begins with it
-abbrev pub after_front : List ℕ → List ℕ → Option (List ℕ)
-after_front front word = some_if (starts_with nat_eq word front) (drop (length front) word)
+unfoldable pub after_front : List ℕ → List ℕ → Option (List ℕ)
+after_front front word = some_if (bytes_eq (take (length front) word) front) (drop (length front) word)
 
 -- the parts of a text between separators
 abbrev pub parts_between : ℕ → List ℕ → List (List ℕ)
@@ -69,7 +91,8 @@ abbrev pub pair_of : List (List ℕ) → Option (List ℕ × List ℕ)
 pair_of (first ∷ second ∷ []) = Some (first, second)
 pair_of _ = None
 
-abbrev pub halves : ℕ → List ℕ → Option (List ℕ × List ℕ)
+-- the two texts around the only separator
+unfoldable pub halves : ℕ → List ℕ → Option (List ℕ × List ℕ)
 halves separator text = pair_of (parts_between separator text)
 
 -- a span `A-B` with A below B, which begins at or after the end of the one before and ends within the largest page
@@ -81,6 +104,7 @@ span_from end text = do
   _ ← rule (nat_le end first && nat_lt first last && nat_le last longest_page) BadNumber
   Ok (first, last)
 
+-- spans one after the other
 unfoldable pub spans_from : ℕ → List (List ℕ) → Result (List (ℕ × ℕ)) PlanKind
 spans_from end [] = Ok []
 spans_from end (text ∷ texts) = do
@@ -105,22 +129,29 @@ tear word =
     else if bytes_eq word (codes "all") then Ok Everything
     else long_tear (after_front (codes "seed:") word) (after_front (codes "spans:") word)
 
--- the byte of two hexadecimal digits, the bytes of pairs of them
+-- the only byte that was decoded
 abbrev pub one_byte : Result (List ℕ) FromHexError → Option ℕ
 one_byte (Ok (byte ∷ [])) = Some byte
 one_byte _ = None
 
+-- the byte of two hexadecimal digits
+unfoldable pub byte_of : List ℕ → Option ℕ
+byte_of digits = one_byte (decode_sized digits 1)
+
+-- the bytes of pairs of digits
 abbrev pub decoded_bytes : Result (List ℕ) FromHexError → Option (List ℕ)
 decoded_bytes (Ok bytes) = Some bytes
 decoded_bytes (Err e) = None
 
+-- what follows `fill:`
 unfoldable pub fill_piece : List ℕ → Result Piece PlanKind
 fill_piece text = do
   parts ← there (halves 58 text) BadNumber
-  byte ← there (one_byte (decode_of parts.0)) BadNumber
+  byte ← there (byte_of parts.0) BadNumber
   len ← number parts.1
   Ok (Fill byte len)
 
+-- what follows `seed:`
 unfoldable pub seed_piece : List ℕ → Result Piece PlanKind
 seed_piece text = do
   parts ← there (halves 58 text) BadNumber
@@ -128,6 +159,7 @@ seed_piece text = do
   len ← number parts.1
   Ok (Seed seed len)
 
+-- what follows `hex:`
 unfoldable pub hex_piece : List ℕ → Result Piece PlanKind
 hex_piece text = do
   bytes ← there (decoded_bytes (decode_of text)) BadNumber
@@ -140,10 +172,12 @@ piece_by_front None (Some text) hex = seed_piece text
 piece_by_front None None (Some text) = hex_piece text
 piece_by_front None None None = Err BadNumber
 
+-- the piece of a word
 unfoldable pub piece : List ℕ → Result Piece PlanKind
 piece word = piece_by_front (after_front (codes "fill:") word) (after_front (codes "seed:") word) (after_front
     (codes "hex:") word)
 
+-- the pieces of all words
 unfoldable pub pieces : List (List ℕ) → Result (List Piece) PlanKind
 pieces [] = Ok []
 pieces (word ∷ words) = do
@@ -151,26 +185,29 @@ pieces (word ∷ words) = do
   others ← pieces words
   Ok (first ∷ others)
 
--- the bytes of a piece, and how many they are
+-- the bytes of a piece
 abbrev pub piece_bytes : Piece → List ℕ
 piece_bytes (Fill byte len) = replicate len byte
 piece_bytes (Seed seed len) = map (seed_byte seed) (numbers_from 0 len)
 piece_bytes (Hex bytes) = bytes
 
+-- how many bytes a piece is
 abbrev pub piece_length : Piece → ℕ
 piece_length (Fill byte len) = len
 piece_length (Seed seed len) = len
 piece_length (Hex bytes) = length bytes
 
--- a NAME: 1 to 32 letters, digits and `_`, the first of them a letter
+-- a byte of a NAME: a letter, a digit or `_`
 abbrev pub is_name_byte : ℕ → Bool
 is_name_byte byte = is_ascii_alphanumeric byte || byte == 95
 
+-- the first byte is a letter
 abbrev pub begins_with_letter : List ℕ → Bool
 begins_with_letter [] = false
 begins_with_letter (byte ∷ bytes) = is_ascii_alphabetic byte
 
-abbrev pub is_name : List ℕ → Bool
+-- a NAME: 1 to 32 letters, digits and `_`, the first of them a letter
+unfoldable pub is_name : List ℕ → Bool
 is_name word = begins_with_letter word && list_all is_name_byte word && nat_le (length word) 32
 
 -- digits without leading zeros
@@ -184,19 +221,21 @@ plain_decimal None = None
 plain_decimal (Some digits) = if has_no_leading_zero digits then number_in 10 digits else None
 
 -- the number of `mtdJ`
-abbrev pub device_number : List ℕ → Option ℕ
+unfoldable pub device_number : List ℕ → Option ℕ
 device_number word = plain_decimal (after_front (codes "mtd") word)
 
--- the numbers of `C.K`
+-- two numbers, where both are there
 abbrev pub both_numbers : Option ℕ → Option ℕ → Option (ℕ × ℕ)
 both_numbers (Some c) (Some k) = Some (c, k)
 both_numbers _ _ = None
 
+-- the numbers of two texts
 abbrev pub numbers_of_pair : Option (List ℕ × List ℕ) → Option (ℕ × ℕ)
 numbers_of_pair None = None
 numbers_of_pair (Some (c, k)) = both_numbers (number_of c) (number_of k)
 
-abbrev pub chip_numbers : List ℕ → Option (ℕ × ℕ)
+-- the numbers of `C.K`
+unfoldable pub chip_numbers : List ℕ → Option (ℕ × ℕ)
 chip_numbers word = numbers_of_pair (halves 46 word)
 
 -- the kind of a weak place

@@ -17,7 +17,7 @@ use Rattle.plan_grammar.specs.declared.lines.DefectLine.{DefectLine}
 use Rattle.plan_grammar.specs.declared.lines.DefectLine.TheVariants.{Bad, Weak as WeakAt}
 use Rattle.plan_grammar.specs.Limits.{most_controllers, most_chips, most_pages, most_bad_table_blocks}
 use Rattle.plan_grammar.specs.Rules.{◌>>=◌, rule, there, is_empty, last_of, with_last}
-use Rattle.plan_grammar.specs.Forms.{small_number, small_numbers, tear, weak_kind}
+use Rattle.plan_grammar.specs.Forms.{two_words, four_words, small_number, small_numbers, tear, weak_kind}
 use Rattle.plan_grammar.specs.Devices.{bad_blocks, is_weak, are_different, bad_table_blocks, share_block, all_pages}
 
 -- no data and no boot yet
@@ -29,6 +29,7 @@ abbrev pub some_chip : Option (List ChipLines) → Bool
 some_chip None = false
 some_chip (Some chips) = not (is_empty chips)
 
+-- there is a controller, and the last one has a chip
 abbrev pub has_chip : PlanLines → Bool
 has_chip plan = some_chip (last_of plan.controllers)
 
@@ -36,23 +37,28 @@ has_chip plan = some_chip (last_of plan.controllers)
 abbrev pub last_chips : PlanLines → Result (List ChipLines) PlanKind
 last_chips plan = there (last_of plan.controllers) WrongPlace
 
+-- the last chip of the last controller
 unfoldable pub last_chip : PlanLines → Result ChipLines PlanKind
 last_chip plan = do
   chips ← last_chips plan
   there (last_of chips) WrongPlace
 
+-- the plan with one more chip
 abbrev pub with_chip : ChipLines → PlanLines → PlanLines
 with_chip chip plan = record plan { controllers = with_last (λ chips. chips ++ chip ∷ []) plan.controllers }
 
+-- the plan with another last chip
 abbrev pub with_last_chip : (ChipLines → ChipLines) → PlanLines → PlanLines
 with_last_chip change plan = record plan { controllers = with_last (with_last change) plan.controllers }
 
+-- the plan with one more line of what is wrong with the last chip
 abbrev pub with_defect : DefectLine → PlanLines → PlanLines
 with_defect defect plan = with_last_chip (λ (chip : ChipLines). record chip {
   defects = chip.defects ++ defect
       ∷ [];
 }) plan
 
+-- the plan with one more partition of the last chip
 abbrev pub with_part : PartLine → PlanLines → PlanLines
 with_part part plan = with_last_chip (λ (chip : ChipLines). record chip { parts = chip.parts ++ part ∷ [] }) plan
 
@@ -61,10 +67,12 @@ abbrev pub is_one : Option ℕ → Bool
 is_one None = false
 is_one (Some n) = n == 1
 
+-- the only word is a number of value 1
 abbrev pub is_version : List (List ℕ) → Bool
 is_version (word ∷ []) = is_one (number_of word)
 is_version _ = false
 
+-- the header
 unfoldable pub header_line : PlanLines → List (List ℕ) → Result PlanLines PlanKind
 header_line plan words = do
   _ ← rule (not plan.begun) WrongPlace
@@ -95,6 +103,7 @@ geometry_if page spare pages_per_block blocks t bbt threshold true e =
     })
 geometry_if page spare pages_per_block blocks t bbt threshold false e = None
 
+-- these sizes, where a chip may have them
 abbrev pub geometry_of : (page spare pages_per_block blocks t bbt threshold : ℕ) → Option Geometry
 geometry_of page spare pages_per_block blocks t bbt threshold =
     geometry_if page spare pages_per_block blocks t bbt (threshold_in_force t threshold)
@@ -107,6 +116,7 @@ geometry page spare pages_per_block blocks t bbt threshold = do
   _ ← rule (has_room (code_512 t) page spare bbt) SpareTooSmall
   there (geometry_of page spare pages_per_block blocks t bbt threshold) BadSize
 
+-- the sizes of six numbers, or of seven with the threshold
 unfoldable pub sizes : List ℕ → Result Geometry PlanKind
 sizes (page ∷ spare ∷ pages_per_block ∷ blocks ∷ t ∷ bbt ∷ []) = geometry page spare pages_per_block blocks t bbt 0
 sizes (page ∷ spare ∷ pages_per_block ∷ blocks ∷ t ∷ bbt ∷ threshold
@@ -162,12 +172,14 @@ weak_words chip plan kind at after torn = do
   _ ← rule (not (is_weak chip kind place)) Overlap
   Ok (with_defect (WeakAt (record { kind = kind; at = place; after = calls; tear = bits })) plan)
 
+-- a weak place has four words
 unfoldable pub weak_form : ChipLines → PlanLines → List (List ℕ) → Result PlanLines PlanKind
-weak_form chip plan (word ∷ at ∷ after ∷ torn ∷ []) = do
-  kind ← there (weak_kind word) BadWords
-  weak_words chip plan kind at after torn
-weak_form chip plan _ = Err BadWords
+weak_form chip plan words = do
+  found ← four_words words
+  kind ← there (weak_kind found.0) BadWords
+  weak_words chip plan kind found.1 found.2 found.3
 
+-- a weak place
 unfoldable pub weak_line : PlanLines → List (List ℕ) → Result PlanLines PlanKind
 weak_line plan words = do
   chip ← open_chip plan
@@ -187,13 +199,15 @@ part_words chip plan start count = do
   _ ← rule (not (list_any (share_block (part_in_force chip start count)) chip.parts)) Overlap
   Ok (with_part (part_in_force chip start count) plan)
 
+-- a partition has two words
 unfoldable pub part_form : ChipLines → PlanLines → List (List ℕ) → Result PlanLines PlanKind
-part_form chip plan (first ∷ second ∷ []) = do
-  start ← small_number first
-  count ← small_number second
+part_form chip plan words = do
+  found ← two_words words
+  start ← small_number found.0
+  count ← small_number found.1
   part_words chip plan start count
-part_form chip plan _ = Err BadWords
 
+-- a partition
 unfoldable pub part_line : PlanLines → List (List ℕ) → Result PlanLines PlanKind
 part_line plan words = do
   _ ← rule (is_hardware plan) WrongPlace

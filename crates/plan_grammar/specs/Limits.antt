@@ -1,9 +1,11 @@
 -- The greatest plan.
 use Rattle.std.specs.Prelude.{ℕ}
 
+-- the bytes of a plan
 abbrev pub most_bytes : ℕ
 most_bytes = 16777216
 
+-- the controllers
 abbrev pub most_controllers : ℕ
 most_controllers = 8
 
@@ -19,6 +21,7 @@ most_pages = 524288
 abbrev pub most_data : ℕ
 most_data = 16777216
 
+-- the boots
 abbrev pub most_boots : ℕ
 most_boots = 64
 

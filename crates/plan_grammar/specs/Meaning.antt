@@ -3,7 +3,7 @@ use Rattle.std.specs.Prelude.{ℕ, List, [], ◌∷◌, map, flat_map, Option, S
 use Rattle.nand_model.specs.declared.words.Flip.{Flip}
 use Rattle.nand_model.specs.declared.words.CutAt.{CutAt}
 use Rattle.nand_model.specs.declared.words.Command.{Command}
-use Rattle.report_model.specs.Plan.{PlanData, ChipPlan, BootPlan, SessionPlan}
+use Rattle.plan_model.specs.Plan.{PlanData, ChipPlan, BootPlan, SessionPlan}
 use Rattle.plan_grammar.specs.declared.lines.PlanLines.{PlanLines}
 use Rattle.plan_grammar.specs.declared.lines.ChipLines.{ChipLines}
 use Rattle.plan_grammar.specs.declared.lines.PartLine.{PartLine}
@@ -15,6 +15,7 @@ use Rattle.plan_grammar.specs.declared.lines.FaultLine.TheVariants.{Flip as Flip
 use Rattle.plan_grammar.specs.Devices.{Device, bad_blocks, weak_places, device_at}
 use Rattle.plan_grammar.specs.Costs.{command_on, device_in}
 
+-- a chip of the plan
 abbrev pub chip_plan : ChipLines → ChipPlan
 chip_plan chip =
     record {
@@ -24,10 +25,12 @@ chip_plan chip =
       parts = map (λ (part : PartLine). record { start = part.start; count = part.count }) chip.parts;
     }
 
+-- the flip of a line
 abbrev pub flips_in : FaultLine → List (ℕ × Flip)
 flips_in (FlipOf controller flip) = (controller, flip) ∷ []
 flips_in (CutOf controller cut) = []
 
+-- the cut of a line
 abbrev pub cuts_in : FaultLine → List (ℕ × CutAt)
 cuts_in (FlipOf controller flip) = []
 cuts_in (CutOf controller cut) = (controller, cut) ∷ []
@@ -41,6 +44,7 @@ blocks_of (Some device) = device.part.count
 abbrev pub command_of : PlanLines → CommandLine → Command
 command_of plan command = command_on plan (blocks_of (device_at plan (device_in command))) command
 
+-- a session of the plan
 abbrev pub session_plan : PlanLines → SessionLines → SessionPlan
 session_plan plan session = record {
   controller = session.controller;
@@ -48,6 +52,7 @@ session_plan plan session = record {
       (command_of plan) session.commands;
 }
 
+-- a boot of the plan
 abbrev pub boot_plan : PlanLines → BootLines → BootPlan
 boot_plan plan boot =
     record {

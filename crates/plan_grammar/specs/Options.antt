@@ -17,10 +17,12 @@ pub record Meaning (A : Type 0) : Type 0 where
   pub word : List ℕ
   pub means : A
 
+-- what a word stands for in a table
 abbrev pub meaning_in : {A : Type 0} → List (Meaning A) → List ℕ → Option A
 meaning_in [] word = None
 meaning_in (entry ∷ entries) word = if bytes_eq word entry.word then Some entry.means else meaning_in entries word
 
+-- the options that say what is done with bad blocks
 abbrev pub bad_options : List (Meaning OptionKind)
 bad_options =
     record { word = codes "--bb=padbad"; means = Bad PadBad }
@@ -64,6 +66,7 @@ has_value Seed = true
 has_value Passes = true
 has_value _ = false
 
+-- no option is given
 abbrev pub no_options : Options
 no_options = record {
   no_scan = false;
@@ -107,6 +110,7 @@ given o Length value = record o { length = Some value }
 given o Seed value = record o { seed = Some value }
 given o Passes value = record o { passes = Some value }
 
+-- the options with one more, which is new
 unfoldable pub with_option : Options → OptionKind → Option ℕ → Result Options PlanKind
 with_option o kind value = do
   _ ← rule (not (is_given o kind)) BadWords

@@ -9,6 +9,7 @@ use Rattle.plan_grammar.specs.Forms.{is_name, pieces}
 use Rattle.plan_grammar.specs.Devices.{pieces_length, all_data, data_named}
 use Rattle.plan_grammar.specs.Hardware.{has_chip}
 
+-- data by their words
 unfoldable pub data_words : PlanLines → (name : List ℕ) (words : List (List ℕ)) → Result PlanLines PlanKind
 data_words plan name words = do
   _ ← rule (is_name name && not (is_empty words)) BadWords
@@ -17,6 +18,7 @@ data_words plan name words = do
   _ ← rule (nat_le (all_data plan + pieces_length parts) most_data) TooLarge
   Ok (record plan { payloads = plan.payloads ++ record { name = name; pieces = parts } ∷ [] })
 
+-- data have a name
 unfoldable pub data_form : PlanLines → List (List ℕ) → Result PlanLines PlanKind
 data_form plan [] = Err BadWords
 data_form plan (name ∷ words) = data_words plan name words

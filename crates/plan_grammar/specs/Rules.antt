@@ -18,6 +18,7 @@ abbrev pub there : {A : Type 0} → Option A → PlanKind → Result A PlanKind
 there None kind = Err kind
 there (Some x) kind = Ok x
 
+-- there is no item
 abbrev pub is_empty : {A : Type 0} → List A → Bool
 is_empty [] = true
 is_empty (x ∷ xs) = false

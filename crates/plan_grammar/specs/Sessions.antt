@@ -8,7 +8,7 @@ use Rattle.plan_grammar.specs.declared.lines.BootLines.{BootLines}
 use Rattle.plan_grammar.specs.declared.lines.SessionLines.{SessionLines}
 use Rattle.plan_grammar.specs.Limits.{most_sessions}
 use Rattle.plan_grammar.specs.Rules.{◌>>=◌, rule, is_empty}
-use Rattle.plan_grammar.specs.Forms.{number, numbers}
+use Rattle.plan_grammar.specs.Forms.{one_word, number, numbers}
 use Rattle.plan_grammar.specs.Faults.{last_boot, with_last_boot}
 
 -- the boot to which sessions, commands and a schedule may be added: it has no schedule yet
@@ -18,19 +18,21 @@ running_boot plan = do
   _ ← rule (is_empty boot.schedule) WrongPlace
   Ok boot
 
+-- the plan with one more session in the last boot
 abbrev pub with_session : SessionLines → PlanLines → PlanLines
 with_session session plan = with_last_boot (λ (boot : BootLines). record boot {
   sessions = boot.sessions ++ session
       ∷ [];
 }) plan
 
+-- a session has one word
 unfoldable pub session_form : BootLines → PlanLines → List (List ℕ) → Result PlanLines PlanKind
-session_form boot plan (word ∷ []) = do
+session_form boot plan words = do
+  word ← one_word words
   c ← number word
   _ ← rule (nat_lt c (length plan.controllers)) OutOfChip
   _ ← rule (nat_lt (length boot.sessions) most_sessions) TooLarge
   Ok (with_session (record { controller = c; commands = [] }) plan)
-session_form boot plan _ = Err BadWords
 
 -- `session C`, in a boot
 unfoldable pub session_line : PlanLines → List (List ℕ) → Result PlanLines PlanKind
