@@ -9,9 +9,11 @@ use nand_model::Bytes;
 use std::alloc::{AllocError, Global};
 use std::marker::Model;
 
-/// The state of each block of a chip: 0 good, 1 worn, 2 reserved, 3 factory bad. Contracts see it as the list of these states.
+/// The state of each block of a chip: 0 good, 1 worn, 2 reserved, 3 factory bad. Contracts see it
+/// as the list of these states.
 ///
-/// It is packed four states to a byte, the first in the lowest bits, as in nand_bbt. Blocks are counted from 0, and so are bytes.
+/// It is packed four states to a byte, the first in the lowest bits, as in nand_bbt. Blocks are
+/// counted from 0, and so are bytes.
 #[derive(Drop)]
 pub struct BlockTable {
     packed: Bytes,
@@ -69,7 +71,8 @@ impl BlockTable {
         *byte = with_entry(*byte, block % 4, state as u8);
     }
 
-    /// ORs bits into the state of a block: a good block that is marked with 1 is worn, with 2 reserved, with 3 factory bad.
+    /// ORs bits into the state of a block: a good block that is marked with 1 is worn, with 2
+    /// reserved, with 3 factory bad.
     pub fn mark(&mut self, block: u32, bits: u32)
         requires block { block < length self.old }
         requires bits { bits < 4 }

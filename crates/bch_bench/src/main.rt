@@ -1,4 +1,7 @@
-//! Runs the encoder and the decoder of BCH codes on seeded words, so that their instructions can be counted: the words are an operation (`make`, `encode`, `decode` or `search`), t, how many bits are wrong, and how many words. `make` only makes the words, and `search` takes the plain decoder.
+//! Runs the encoder and the decoder of BCH codes on seeded words, so that their instructions can be
+//! counted: the words are an operation (`make`, `encode`, `decode` or `search`), t, how many bits
+//! are wrong, and how many words. `make` only makes the words, and `search` takes the plain
+//! decoder.
 #![tactic(auto)]
 
 mod words;

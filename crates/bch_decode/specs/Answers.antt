@@ -8,7 +8,8 @@ use Rattle.bch_decode.specs.declared.decoder.Decoded.TheVariants.{Corrected, Fai
 abbrev pub step_word : ℕ → List ℕ → List ℕ → List ℕ
 step_word t step parity = bits_of step ++ take (13 * t) (bits_of parity)
 
--- an answer beside the word that the decoder left: the nearest code word and its distance, or nothing
+-- an answer beside the word that the decoder left: the nearest code word and its distance, or
+-- nothing
 abbrev pub answer_of : Decoded → List ℕ → Option (List ℕ × ℕ)
 answer_of (Corrected n) c = Some (c, n)
 answer_of Failed c = None

@@ -37,7 +37,12 @@ fn part(word: &[u8], step: &mut [u8; 512], parity: &mut [u8])
     parity.copy_from_slice(&word[512..]);
 }
 
-/// Decodes a step of 512 bytes in place by its parity of ⌈13 t / 8⌉ bytes, for t from 1 to 16. The code is that of lib/bch. Its word has the 4096 bits of the step, the highest bit of byte 0 first, and then 13 t bits of the parity without the mask; the padding bits behind them are neither looked at nor changed. `Corrected(n)`: a code word lies within t bits of the word; step and parity now hold it, and n of their bits were wrong. `Failed`: no code word lies within t bits, and both are unchanged. It takes no memory.
+/// Decodes a step of 512 bytes in place by its parity of ⌈13 t / 8⌉ bytes, for t from 1 to 16. The
+/// code is that of lib/bch. Its word has the 4096 bits of the step, the highest bit of byte 0
+/// first, and then 13 t bits of the parity without the mask; the padding bits behind them are
+/// neither looked at nor changed. `Corrected(n)`: a code word lies within t bits of the word; step
+/// and parity now hold it, and n of their bits were wrong. `Failed`: no code word lies within t
+/// bits, and both are unchanged. It takes no memory.
 pub fn decode(t: u32, step: &mut [u8; 512], parity: &mut [u8]) -> Decoded
     requires strength { (0 < t) × (t ≤ 16) }
     requires room { length parity.old ≡ (13 * t + 7) / 8 }

@@ -33,7 +33,8 @@ fn bits_apart(xs: &[u8], ys: &[u8]) -> u32 {
     bits
 }
 
-// A seeded code word with so many wrong bits: corrected up to t, and beyond it an answer that a check from outside accepts.
+// A seeded code word with so many wrong bits: corrected up to t, and beyond it an answer that a
+// check from outside accepts.
 fn seeded_word(rt: &impl Abort, t: u32, wrong: u32, seed: u64)
     requires { (0 < t) × (t ≤ 16) }
 {
@@ -99,7 +100,8 @@ fn seeded_words(rt: HostRuntime) {
     }
 }
 
-// Answers worked out from the polynomials of the code, and for t = 5 and t = 8 two words that lib/bch miscorrects.
+// Answers worked out from the polynomials of the code, and for t = 5 and t = 8 two words that
+// lib/bch miscorrects.
 #[test]
 fn words_from_outside(rt: HostRuntime) {
     let mut generator = [0u8; 512];

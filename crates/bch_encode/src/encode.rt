@@ -6,7 +6,10 @@ ghost use Rattle.code_model.specs.Code.{code_512, parity_len, parity_of, IsCodeW
 use bch_register::put_parity;
 use gf2_poly::generator;
 
-/// Writes the parity of a step for a code that corrects t wrong bits, from 1 to 16: (13 t + 7) / 8 bytes, the highest coefficient first, with 0 in the padding bits of the last byte and no mask put on. The step's bits followed by the 13 t parity bits are a code word, and no other parity bits make one. The code, and the order of its bits, is that of lib/bch.
+/// Writes the parity of a step for a code that corrects t wrong bits, from 1 to 16: (13 t + 7) / 8
+/// bytes, the highest coefficient first, with 0 in the padding bits of the last byte and no mask
+/// put on. The step's bits followed by the 13 t parity bits are a code word, and no other parity
+/// bits make one. The code, and the order of its bits, is that of lib/bch.
 pub fn parity(t: u32, step: &[u8; 512], out: &mut [u8])
     requires strength { (0 < t) × (t ≤ 16) }
     requires room { length out.old ≡ parity_len (code_512 t) }

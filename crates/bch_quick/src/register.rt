@@ -24,7 +24,8 @@ fn four_bytes(body: &[u8], i: usize) -> u32
     first + second + third + u32::from(body[4 * i + 3])
 }
 
-// The sum of the rows of the four bytes of a number: its remainder, moved up by 64 places, by the generator moved up to degree 64.
+// The sum of the rows of the four bytes of a number: its remainder, moved up by 64 places, by the
+// generator moved up to degree 64.
 fn narrow_sum(t: u32, rows: &[[u64; 256]; 4], top: u32) -> u64
     requires strength { (0 < t) × (13 * t ≤ 64) }
     requires rows { AreRows 64 t rows.now }
@@ -54,7 +55,8 @@ fn narrow(t: u32, body: &[u8]) -> u64
     register
 }
 
-// The sum of the rows of the four bytes of a number: its remainder, moved up by 128 places, by the generator moved up to degree 128.
+// The sum of the rows of the four bytes of a number: its remainder, moved up by 128 places, by the
+// generator moved up to degree 128.
 fn middle_sum(t: u32, rows: &[[u128; 256]; 4], top: u32) -> u128
     requires strength { (0 < t) × (13 * t ≤ 128) }
     requires rows { AreRows 128 t rows.now }
@@ -154,7 +156,8 @@ pub(crate) fn remainder_quick(t: u32, step: &[u8; 512], parity: &[u8]) -> U256
     parity_number_quick(t, step) ^ (number_of(parity) >> padding)
 }
 
-/// Writes a number of `degree` bits into (degree + 7) / 8 bytes, the highest first, with 0 in the padding bits of the last byte.
+/// Writes a number of `degree` bits into (degree + 7) / 8 bytes, the highest first, with 0 in the
+/// padding bits of the last byte.
 pub(crate) fn put_number(number: U256, degree: u32, out: &mut [u8])
     requires degree { (0 < degree) × (degree < 256) }
     requires small { number < 2 ^ degree }

@@ -1,4 +1,5 @@
-// Words that no guess puts right: a proof by the locator that no code word is near, or a search, with products by tables.
+// Words that no guess puts right: a proof by the locator that no code word is near, or a search,
+// with products by tables.
 ghost use Rattle.std.specs.Prelude.{◌≡◌, ◌<◌, ◌≤◌, ◌+◌, ◌*◌, ◌/◌, ◌++◌, ℕ, List, length, take, IsTrue};
 ghost use Rattle.code_model.specs.Bits.{bit_of};
 ghost use Rattle.code_model.specs.Code.{code_512, IsNearest, NoneNear, Decodes};
@@ -35,7 +36,8 @@ fn decode_searched(t: u32, step: &mut [u8; 512], parity: &mut [u8]) -> Decoded
     }
 }
 
-// Whether no code word is near, by the locator of the wrong bits. True is sure. `degree` is a guess at a root of the locator outside the word.
+// Whether no code word is near, by the locator of the wrong bits. True is sure. `degree` is a guess
+// at a root of the locator outside the word.
 fn is_word_far(t: u32, step: &[u8; 512], parity: &[u8], degree: u32) -> bool
     requires strength { (0 < t) × (t ≤ 16) }
     requires room { length parity.now ≡ (13 * t + 7) / 8 }
@@ -45,7 +47,8 @@ fn is_word_far(t: u32, step: &[u8; 512], parity: &[u8], degree: u32) -> bool
     is_far::<TableField13>(t, remainder_quick(t, step, parity), count, degree)
 }
 
-/// Decodes a step in place by its parity, as `bch_decode::decode` does, where no guess was right. `degree` is a guess at a root of the locator outside the word.
+/// Decodes a step in place by its parity, as `bch_decode::decode` does, where no guess was right.
+/// `degree` is a guess at a root of the locator outside the word.
 pub(crate) fn decode_unguessed(
     t: u32,
     step: &mut [u8; 512],

@@ -46,7 +46,8 @@ fn flip(bytes: &mut [u8], place: usize)
     bytes[place / 8] ^= 128u8 >> (place % 8);
 }
 
-// Turns over the bits of these degrees among the first `count` bits, the last of which has the degree 0, and tells whether the degrees were below `count` and rose.
+// Turns over the bits of these degrees among the first `count` bits, the last of which has the
+// degree 0, and tells whether the degrees were below `count` and rose.
 fn turn_over(bytes: &mut [u8], count: usize, degrees: &[u16]) -> bool
     requires room { count ≤ 8 * length bytes.old }
     ensures distance { IsTrue result
@@ -91,7 +92,10 @@ fn take_off(own: &mut [u8], parity: &[u8], padding: u32)
     own[last] = (own[last] >> padding) << padding;
 }
 
-/// Decodes a word in place where a guess of its wrong bits is right. Ok(n): the word is the nearest code word, in which n bits were wrong, and the padding is as received. Err: nothing is known, and the word is left as it may be; the number is the greatest degree of the guess, which may lie outside the word, or 0.
+/// Decodes a word in place where a guess of its wrong bits is right. Ok(n): the word is the nearest
+/// code word, in which n bits were wrong, and the padding is as received. Err: nothing is known,
+/// and the word is left as it may be; the number is the greatest degree of the guess, which may lie
+/// outside the word, or 0.
 pub(crate) fn decode_guessed(t: u32, word: &mut [u8]) -> Result<u32, u32>
     requires strength { (0 < t) × (t ≤ 16) }
     requires whole { length word.old ≡ 512 + (13 * t + 7) / 8 }

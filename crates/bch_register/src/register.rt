@@ -30,7 +30,8 @@ fn taken_in(register: U256, byte: u8, modulus: U256) -> U256
     register
 }
 
-/// The remainder of the bytes' bits, as a polynomial with the highest coefficient first, moved up by 256 places, by x^256 + `modulus`.
+/// The remainder of the bytes' bits, as a polynomial with the highest coefficient first, moved up
+/// by 256 places, by x^256 + `modulus`.
 pub fn divide(bytes: &[u8], modulus: U256) -> U256
     ensures { result
         ≡ remainder 256 (with_top modulus) (number_from 0 (bits_of bytes.now) * 2 ^ 256) }

@@ -17,7 +17,8 @@ fn aligned(generator: U256, degree: u32) -> U256
     generator << (256 - degree)
 }
 
-/// The parity of a body as a number: the remainder of the body's polynomial, moved up by the generator's degree, by the generator.
+/// The parity of a body as a number: the remainder of the body's polynomial, moved up by the
+/// generator's degree, by the generator.
 pub fn parity_number(body: &[u8], generator: U256, degree: u32) -> U256
     requires degree { (0 < degree) × (degree < 256) }
     requires generator { HasDegree degree generator }
@@ -39,7 +40,8 @@ pub fn number_of(bytes: &[u8]) -> U256
     number
 }
 
-/// The remainder of a word by the generator: that of the body's bits and then the parity's, without the padding in the parity's last byte.
+/// The remainder of a word by the generator: that of the body's bits and then the parity's, without
+/// the padding in the parity's last byte.
 pub fn remainder_of_word(body: &[u8], parity: &[u8], generator: U256, degree: u32) -> U256
     requires degree { (0 < degree) × (degree < 256) }
     requires generator { HasDegree degree generator }
@@ -52,7 +54,8 @@ pub fn remainder_of_word(body: &[u8], parity: &[u8], generator: U256, degree: u3
     parity_number(body, generator, degree) ^ (number_of(parity) >> padding)
 }
 
-/// Writes a body's parity into (degree + 7) / 8 bytes, the highest coefficient first, with 0 in the padding bits of the last byte.
+/// Writes a body's parity into (degree + 7) / 8 bytes, the highest coefficient first, with 0 in the
+/// padding bits of the last byte.
 pub fn put_parity(body: &[u8], generator: U256, degree: u32, out: &mut [u8])
     requires degree { (0 < degree) × (degree < 256) }
     requires generator { HasDegree degree generator }

@@ -90,7 +90,8 @@ module _ (m f : ℕ) (p : IsPrimitive m f) (t b : ℕ) where
       let here = finds c (subst (λ (w : List ℕ). IsNear m f t w c) (sym before) (near_from_nearest (word_of (code_over m f t b) old) c d (length-word_of old h) nearest)) in
       (here.0 ∙ ap Some (ap (λ w. distance w c) before ∙ nearest.apart), sym after ∙ here.1)
 
-  -- where bits of a word were turned over and the remainder is 0, the result is the nearest code word
+  -- where bits of a word were turned over and the remainder is 0, the result is the nearest code
+  -- word
   pub corrected_nearest : (old new : List ℕ) (n d : ℕ) → n ≡ 8 * b + m * t → 8 * b + m * t ≤ 8 * length old → length new ≡ length old → d ≤ t
       → d ≡ distance (bits_from old 0 n) (bits_from new 0 n) → remainder (m * t) (generator_of m f t) (number_from 0 (word_of (code_over m f t b) new)) ≡ 0
       → IsNearest (code_over m f t b) (word_of (code_over m f t b) old) (word_of (code_over m f t b) new) d

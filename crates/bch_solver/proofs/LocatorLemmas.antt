@@ -59,7 +59,8 @@ module _ (m f : ℕ) (p : IsPrimitive m f) where
       ∙ words_differ m f p (power m f 2 j) w c bw bc same
       ∙ power_sum-moment m f p j (differences w c)
 
-  -- where the word w has the code word c within t, and s its syndromes, the solution of least degree is 0 just at the powers of the degrees where they differ
+  -- where the word w has the code word c within t, and s its syndromes, the solution of least
+  -- degree is 0 just at the powers of the degrees where they differ
   pub found : (t e : ℕ) (w c : List ℕ) (s u : ℕ → ℕ) → t ≤ 16 → e ≤ t → AreBits w → AreBits c → length w ≡ length c → length w ≤ 2 ^ m - 1
       → IsMultiple m f t c → distance w c ≤ t → AreSyndromes t w s
       → SolvesKey m f s t e u → ((e' : ℕ) (u' : ℕ → ℕ) → e' < e → SolvesKey m f s t e' u' → ⊥)

@@ -112,7 +112,8 @@ module _ (m f : ℕ) (p : IsPrimitive m f) where
   different_from_place d (x ∷ xs) (y ∷ ys) e h g p =
       place_cases d xs ys x y (nat_eq x y) refl h (omega arith) (λ q. different_from_place d xs ys (omega arith) h (omega arith) q) p
 
-  -- where v is 0 just where a word differs from c, turning over the bits at which v is 0 makes c of it
+  -- where v is 0 just where a word differs from c, turning over the bits at which v is 0 makes c of
+  -- it
   pub corrected_is : (v : ℕ → ℕ) (xs ys c : List ℕ) (n : ℕ) → n ≤ 2 ^ m - 1 → length c ≡ n → AreBits c
       → ZeroAt v (differences (bits_from xs 0 n) c) → ((y : ℕ) → y < 2 ^ m → v y ≡ 0 → InPlaces y (differences (bits_from xs 0 n) c))
       → ((k : ℕ) → k < n → Turned (v (α (n - suc k))) (bit_of xs k) (bit_of ys k)) → bits_from ys 0 n ≡ c

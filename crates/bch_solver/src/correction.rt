@@ -35,7 +35,9 @@ fn remainder_of(word: &[u8], body_len: usize, generator: U256, degree: u32) -> U
     remainder_of_word(&word[..body_len], &word[body_len..], generator, degree)
 }
 
-// Turns over the bits of a word of `count` bits in which a code word for `strength` errors differs, where one lies within `strength` bits, and says how many. Where none is so near, the word may become one that is no code word.
+// Turns over the bits of a word of `count` bits in which a code word for `strength` errors differs,
+// where one lies within `strength` bits, and says how many. Where none is so near, the word may
+// become one that is no code word.
 fn correct_word<F: FieldProducts>(
     strength: u32,
     word_remainder: U256,
@@ -63,7 +65,10 @@ fn correct_word<F: FieldProducts>(
     }
 }
 
-/// Decodes a word in place: a body of `body_len` bytes, and then its parity with the padding bits in its last byte. Some(n): the word is the nearest code word, in which n bits were wrong, and the padding is as received. None: no code word lies within `strength` bits, and the word is left as it may be.
+/// Decodes a word in place: a body of `body_len` bytes, and then its parity with the padding bits
+/// in its last byte. Some(n): the word is the nearest code word, in which n bits were wrong, and
+/// the padding is as received. None: no code word lies within `strength` bits, and the word is left
+/// as it may be.
 pub fn decode_word<F: FieldProducts>(
     strength: u32,
     generator: U256,

@@ -1,4 +1,5 @@
-// Words near which no code word lies: their locator has a root outside the word, or fewer roots than its degree.
+// Words near which no code word lies: their locator has a root outside the word, or fewer roots
+// than its degree.
 ghost use Rattle.std.specs.Prelude.{◌≡◌, ◌<◌, ◌≤◌, ◌*◌, ◌^◌, ℕ, IsTrue, slice_index};
 ghost use Rattle.bch_solver.specs.Words.{HasNoneNear};
 ghost use Rattle.bch_solver.specs.Rows.{AllBelow};
@@ -38,7 +39,8 @@ fn is_one(residue: &Residue) -> bool
     residue[0] == 1
 }
 
-// Whether x^(2^m - 1) modulo the locator is not 1, where the field has 2^m elements: then the locator has fewer roots other than 0 than its degree.
+// Whether x^(2^m - 1) modulo the locator is not 1, where the field has 2^m elements: then the
+// locator has fewer roots other than 0 than its degree.
 fn lacks_roots<F: FieldProducts>(locator: &Locator) -> bool
     requires locator { IsModulus F.DEGREE locator.now.degree locator.now.coefficients }
     ensures { IsTrue result
@@ -52,7 +54,9 @@ fn lacks_roots<F: FieldProducts>(locator: &Locator) -> bool
     !is_one(&power)
 }
 
-/// Whether no code word for `strength` errors lies within `strength` bits of a word of `count` bits, by the word's remainder by the generator. True is sure; false says nothing. `degree` is a guess at a root of the locator outside the word, as a power of x.
+/// Whether no code word for `strength` errors lies within `strength` bits of a word of `count`
+/// bits, by the word's remainder by the generator. True is sure; false says nothing. `degree` is a
+/// guess at a root of the locator outside the word, as a power of x.
 pub fn is_far<F: FieldProducts>(
     strength: u32,
     word_remainder: U256,

@@ -5,7 +5,8 @@ ghost use Rattle.bch_solver.specs.Rows.{AllBelow, SolvesKey, syndrome_at};
 use crate::rows::{Row, first_row, first_value, reduce_all};
 use binary_field::FieldProducts;
 
-/// A monic polynomial over the field: coefficient l is that of x^l, and those above the degree are 0.
+/// A monic polynomial over the field: coefficient l is that of x^l, and those above the degree are
+/// 0.
 #[derive(Clone, Copy)]
 pub struct Locator {
     pub degree: usize,
@@ -27,7 +28,9 @@ fn locator_of(row: &Row, degree: usize) -> Locator
     }
 }
 
-/// The monic polynomial of least degree, at most `count`, whose sums with the first `count` runs of the syndromes are 0 (the key equation). The syndromes are counted from 1. None: there is no such polynomial.
+/// The monic polynomial of least degree, at most `count`, whose sums with the first `count` runs of
+/// the syndromes are 0 (the key equation). The syndromes are counted from 1. None: there is no such
+/// polynomial.
 pub fn solve<F: FieldProducts>(count: usize, syndromes: &[u16; 32]) -> Option<Locator>
     requires room { count < 17 }
     requires small_syndromes { AllBelow (2 ^ F.DEGREE) syndromes.now }

@@ -6,7 +6,8 @@ ghost use Rattle.bch_solver.specs.Residues.{value_17, square_times, IsModulus, I
 use crate::locator::Locator;
 use binary_field::FieldProducts;
 
-/// A polynomial of a degree below that of a locator: coefficient l is that of x^l, and those from the locator's degree on are 0.
+/// A polynomial of a degree below that of a locator: coefficient l is that of x^l, and those from
+/// the locator's degree on are 0.
 pub type Residue = [u16; 17];
 
 // A residue times x.

@@ -21,7 +21,8 @@ fn add_scaled<F: FieldProducts>(target: &mut Row, source: &Row, factor: u16)
     }
 }
 
-// Takes the value at `pivot` off by a multiple of the source, whose value there has the inverse `inverse`.
+// Takes the value at `pivot` off by a multiple of the source, whose value there has the inverse
+// `inverse`.
 fn reduce<F: FieldProducts>(target: &mut Row, source: &Row, pivot: usize, inverse: u16)
     requires in_row { pivot < 33 }
     requires small_target { AllBelow (2 ^ F.DEGREE) target.old }

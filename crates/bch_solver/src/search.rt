@@ -35,7 +35,8 @@ fn flip(bytes: &mut [u8], place: usize)
     bytes[place / 8] ^= 128u8 >> (place % 8);
 }
 
-/// Turns over each of the first `count` bits at whose power of x the locator is 0, and says how many. The last of these bits has the power 0.
+/// Turns over each of the first `count` bits at whose power of x the locator is 0, and says how
+/// many. The last of these bits has the power 0.
 pub fn correct<F: FieldProducts>(bytes: &mut [u8], count: usize, locator: &Locator) -> u32
     requires room { count ≤ 8 * length bytes.old }
     requires below_order { count < 2 ^ F.DEGREE }

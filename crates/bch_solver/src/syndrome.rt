@@ -24,7 +24,8 @@ fn value_of_bits<F: FieldProducts>(polynomial: U256, degree: u32, x: u16) -> u16
     sum
 }
 
-/// The values of a polynomial of degree below `degree`, where bit k is the coefficient of x^k, at the first `count` powers of x, from x on: the syndromes of a word whose remainder it is.
+/// The values of a polynomial of degree below `degree`, where bit k is the coefficient of x^k, at
+/// the first `count` powers of x, from x on: the syndromes of a word whose remainder it is.
 pub fn syndromes<F: FieldProducts>(polynomial: U256, degree: u32, count: usize) -> [u16; 32]
     requires degree { degree ≤ 256 }
     requires small { polynomial < 2 ^ degree }

@@ -1,4 +1,5 @@
--- Each row of the tables is the remainder that it stands for: eight steps of multiplication by x, tested row by row.
+-- Each row of the tables is the remainder that it stands for: eight steps of multiplication by x,
+-- tested row by row.
 use Rattle.std.proofs.Common.{◌≡◌, ℕ, zero, suc, ◌+◌, ◌-◌, ◌*◌, ◌^◌, ◌<◌, ◌≤◌, refl, sym, ap, ap₂, ◌∙◌, subst, arith, List, [], ◌∷◌, length, get_or, map, true, false, Bool, cond}
 use Rattle.std.specs.Prelude.{nat_eq}
 use Rattle.std.proofs.lemmas.Bool.Decides.{nat_tests}

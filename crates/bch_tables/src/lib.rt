@@ -1,4 +1,5 @@
-//! The remainders of bytes by the generators of the codes over steps of 512 bytes, in four tables for each number of wrong bits.
+//! The remainders of bytes by the generators of the codes over steps of 512 bytes, in four tables
+//! for each number of wrong bits.
 #![tactic(auto)]
 
 mod rows;

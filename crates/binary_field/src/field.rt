@@ -2,7 +2,8 @@
 ghost use Rattle.std.specs.Prelude.{◌≡◌, ◌<◌, ◌≤◌, ◌+◌, ◌-◌, ◌*◌, ◌^◌, ℕ};
 ghost use Rattle.code_model.specs.Binary.{reduced, times, power, IsPrimitive};
 
-/// A field of at most 2^14 elements: polynomials over two elements of degree below `DEGREE`, modulo a primitive polynomial of that degree. Bit k of a number is the coefficient of x^k.
+/// A field of at most 2^14 elements: polynomials over two elements of degree below `DEGREE`, modulo
+/// a primitive polynomial of that degree. Bit k of a number is the coefficient of x^k.
 pub trait BinaryField {
     ghost DEGREE: { ℕ };
 
@@ -17,7 +18,8 @@ pub trait BinaryField {
     ghost small: { DEGREE ≤ 14 };
 }
 
-/// A field with a product and an inverse of its own, for code that is written once over both: by bits, as `product` and `inverse` are, or by tables.
+/// A field with a product and an inverse of its own, for code that is written once over both: by
+/// bits, as `product` and `inverse` are, or by tables.
 pub trait FieldProducts: BinaryField {
     /// The product of two elements, of degree below `DEGREE` each.
     fn product(a: u16, b: u16) -> u16

@@ -4,7 +4,8 @@ ghost use Rattle.code_model.specs.Binary.{times, power};
 
 use crate::field::BinaryField;
 
-/// The sum, `^` of numbers, is associative and commutative, with 0 as its zero, and each element is its own negative.
+/// The sum, `^` of numbers, is associative and commutative, with 0 as its zero, and each element is
+/// its own negative.
 pub fn sum_laws<F: BinaryField>()
     ensures small { (a b : ℕ) → a < 2 ^ F.DEGREE → b < 2 ^ F.DEGREE → bit_xor a b < 2 ^ F.DEGREE }
     ensures associative { (a b c : ℕ) → bit_xor (bit_xor a b) c ≡ bit_xor a (bit_xor b c) }
@@ -34,7 +35,8 @@ pub fn inverse_laws<F: BinaryField>()
         → times F.DEGREE F.MODULUS a b ≡ 1 → times F.DEGREE F.MODULUS a c ≡ 1 → b ≡ c }
 {}
 
-/// The powers of x below 2^m - 1 differ, are all elements other than 0, and then begin again with 1.
+/// The powers of x below 2^m - 1 differ, are all elements other than 0, and then begin again with
+/// 1.
 pub fn power_laws<F: BinaryField>()
     ensures returns { power F.DEGREE F.MODULUS 2 (2 ^ F.DEGREE - 1) ≡ 1 }
     ensures differ { (i j : ℕ) → i < 2 ^ F.DEGREE - 1 → j < 2 ^ F.DEGREE - 1

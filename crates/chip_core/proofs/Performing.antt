@@ -27,7 +27,8 @@ use Rattle.chip_core.specs.Whole.{HasCause, HasPerformed, is_fault, is_refusal, 
 abbrev pub ended : Known → Reply → Finished
 ended k reply = record { reply = reply; known = k }
 
--- a path with this refusal, which is over at once or after one event; only where it reads for a device does it change what is known
+-- a path with this refusal, which is over at once or after one event; only where it reads for a
+-- device does it change what is known
 pub data IsShort (k : Known) (reads : Option ℕ) : Option Reply → Path Finished → Type 0 where
   refused : (refusal : Reply) → is_fault refusal ≡ false → IsShort k reads (Some refusal) (Over (ended k refusal))
   over_at_once : (reply : Reply) → is_refusal reply ≡ false → is_fault reply ≡ false → IsShort k reads None (Over (ended k reply))

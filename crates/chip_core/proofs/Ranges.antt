@@ -1,4 +1,5 @@
--- Which page or block of its chip a page or a block of a device is, and the paths of operations on it.
+-- Which page or block of its chip a page or a block of a device is, and the paths of operations on
+-- it.
 use Rattle.std.proofs.Common.{◌≡◌, ℕ, ◌+◌, ◌*◌, ◌/◌, ◌<◌, ◌≤◌, true, false, List, Option, Some, None, refl, ap, sym, inl, inr, arith, ◌∙◌}
 use Rattle.std.specs.Prelude.{IsSome, IfSome, SomeIff, nat_lt}
 use Rattle.std.proofs.Math.Nat.{mul-add-div_right, mul-le-mul_right}
@@ -48,7 +49,8 @@ module _ (g : Geometry) where
     raw_read_is None dev page = refl
     raw_read_is (Some part) dev page = refl
 
-    -- where an operation looks at the entry of a page's block, it is that of the partition's page, moved by the partition's start
+    -- where an operation looks at the entry of a page's block, it is that of the partition's page,
+    -- moved by the partition's start
     on_good_page : (part : Part) (page : ℕ) (go_on : Path Finished)
         → only_if (has_page g part page) k OutOfRange (λ u. only_if (is_good_block k (chip_page g part page / g.pages_per_block)) k BadBlock (λ u. go_on))
         ≡ only_if (has_page g part page) k OutOfRange (λ u. only_if (is_good_block k (chip_block part (page / g.pages_per_block))) k BadBlock (λ u. go_on))

@@ -24,8 +24,8 @@ read_device (IsBad dev block) = None
 read_device (Mark dev block) = None
 read_device (Stats dev) = None
 
--- an operation that a chip of these sizes takes at this stage: its device is there, and the statistics that a
--- read adds to have room
+-- an operation that a chip of these sizes takes at this stage: its device is there, and the
+-- statistics that a read adds to have room
 pub record CanBegin (g : Geometry) (partitions : Partitions) (stage : Stage) (op : Op) : Type 0 where
   pub device : HasDevice g partitions (device_of op)
   pub taken : IsTaken g op

@@ -50,7 +50,8 @@ erase_from k block = only_if (is_good_block k block) k BadBlock (λ u. erased_fr
 abbrev pub state_from : Known → ℕ → Path Finished
 state_from k block = answer k (State (entry_of k block))
 
--- a task stands for this path where this is known, fits the chip, and adds to the statistics of this device or of none
+-- a task stands for this path where this is known, fits the chip, and adds to the statistics of
+-- this device or of none
 pub record StandsFor (known : Knowledge) (path : Known → Path Finished) (dev : Option ℕ) (task : Task) : Type 0 where
   pub follows : task_left known.geometry (known_in known) task ≡ path (known_in known)
   pub fresh : task_progress task ≡ AtStart

@@ -1,5 +1,5 @@
--- What contracts see of a chip: the state of its flash, its stage, the pages and bits set aside, and the
--- pending note of its attach.
+-- What contracts see of a chip: the state of its flash, its stage, the pages and bits set aside,
+-- and the pending note of its attach.
 use Rattle.std.specs.Prelude.{ℕ, Option, Bool}
 use Rattle.nand_model.specs.Chip.{ChipState}
 use Rattle.chip_paths.specs.Attach.{Attaching}
@@ -16,8 +16,8 @@ chip_state {F} {C} {flash} chip = flash.state chip.flash
 abbrev pub chip_stage : {F C : Type 0} {flash : Ghosts F} → Chip F C flash → Stage
 chip_stage chip = phase_stage chip.known chip.phase
 
--- how many pages may be programmed or flipped beyond those that its attach or its operation in flight may
--- still program, before memory has to be asked for
+-- how many pages may be programmed or flipped beyond those that its attach or its operation in
+-- flight may still program, before memory has to be asked for
 abbrev pub chip_page_room : {F C : Type 0} {flash : Ghosts F} → Chip F C flash → ℕ
 chip_page_room chip = chip.page_room
 

@@ -1,4 +1,5 @@
--- What is left of the attach of a chip without tables: the first pages of the blocks that were not read yet.
+-- What is left of the attach of a chip without tables: the first pages of the blocks that were not
+-- read yet.
 use Rattle.std.specs.Prelude.{ℕ, ◌-◌, ◌==◌, if◌then◌else◌, List, [], ◌∷◌, ◌++◌}
 use Rattle.nand_model.specs.Sizes.{numbers_from, first_page}
 use Rattle.nand_model.specs.Chip.{ChipState, ReadEvent}

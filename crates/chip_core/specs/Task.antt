@@ -117,8 +117,8 @@ counted_by (Decoded dev kind read image) = Some dev
 counted_by (AtOnce reply) = None
 counted_by (Ended reply) = None
 
--- an event of a task is done: the chip is as after it, the task goes on by its answer, and a failure is told
--- and counted
+-- an event of a task is done: the chip is as after it, the task goes on by its answer, and a
+-- failure is told and counted
 pub record Advances {W : Type 0} (model : FaultModel W) (before after : ChipState W) (e : PageEvent) (old new : Task)
     (failure : Option Fairness) : Type 0 where
   pub state : after ≡ happens model before (Complete e)

@@ -26,8 +26,8 @@ known_at_rest (Attaches left quiet) = None
 known_at_rest (Rests known) = Some known
 known_at_rest (Works known progress left) = None
 
--- from this chip and what is known of it to this chip at this stage, by a whole operation with this reply;
--- only a read changes what is known
+-- from this chip and what is known of it to this chip at this stage, by a whole operation with this
+-- reply; only a read changes what is known
 pub record HasPerformed {W : Type 0} (model : FaultModel W) (partitions : Partitions) (k : Known) (op : Op)
     (before after : ChipState W)
     (stage : Stage) (reply : Reply) : Type 0 where
@@ -79,8 +79,8 @@ is_fault ProgramFailed = true
 is_fault EraseFailed = true
 is_fault _ = false
 
--- an operation is refused exactly for its reason, and has no event then; and it fails only where the chip's
--- count of faults rose
+-- an operation is refused exactly for its reason, and has no event then; and it fails only where
+-- the chip's count of faults rose
 pub record HasCause {W : Type 0} (refusal : Option Reply) (before after : ChipState W) (reply : Reply) : Type 0 where
   pub refused : IfSome refusal (λ r. (reply ≡ r) × (after ≡ before))
   pub taken : IfNone refusal (is_refusal reply ≡ false)

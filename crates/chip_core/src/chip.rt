@@ -27,11 +27,14 @@ use std::mem;
 /// The greatest page room: what an operation in flight may still program fits beside it in 32 bits.
 const MOST_PAGE_ROOM: u32 = 4_294_967_288;
 
-/// A chip with its attach or its operation, which is held from its begin to its answer. It has no tables on flash.
+/// A chip with its attach or its operation, which is held from its begin to its answer. It has no
+/// tables on flash.
 ///
-/// Contracts see the state of its flash (`chip_state`); its stage (`chip_stage`): what is left of its attach or of its operation, or what is known of it at
-/// rest; its page room (`chip_page_room`): how many pages may be programmed or flipped beyond those of the attach or the operation; its bits (`chip_bits`): how many bits
-/// may be flipped; and its pending note (`chip_pending_note`): the attach whose note was not handed out yet.
+/// Contracts see the state of its flash (`chip_state`); its stage (`chip_stage`): what is left of
+/// its attach or of its operation, or what is known of it at rest; its page room
+/// (`chip_page_room`): how many pages may be programmed or flipped beyond those of the attach or
+/// the operation; its bits (`chip_bits`): how many bits may be flipped; and its pending note
+/// (`chip_pending_note`): the attach whose note was not handed out yet.
 #[derive(Drop)]
 pub struct Chip<F: Flash, C: PageCode> {
     alloc: Global,
@@ -81,7 +84,8 @@ impl<F: Flash, C: PageCode> Chip<F, C> {
         self.known.geometry
     }
 
-    /// The next event of the attach or of the operation in flight. None comes exactly where neither has an event left.
+    /// The next event of the attach or of the operation in flight. None comes exactly where neither
+    /// has an event left.
     pub fn next_event(&self) -> Option<Event>
         ensures { result ≡ option_map name_of (stage_event (chip_stage self.now)) }
     {
@@ -92,8 +96,8 @@ impl<F: Flash, C: PageCode> Chip<F, C> {
         }
     }
 
-    /// Makes the page room at least `pages`, up to 2^32 - 8 pages, and the bits at least `bits`, and leaves all else as it is. Where memory runs out, neither
-    /// is less than before.
+    /// Makes the page room at least `pages`, up to 2^32 - 8 pages, and the bits at least `bits`,
+    /// and leaves all else as it is. Where memory runs out, neither is less than before.
     pub fn reserve(&mut self, pages: u32, bits: u32) -> Result<(), AllocError>
         ensures page_room { OnOk result (min pages most_page_room ≤ chip_page_room self.new) }
         ensures bits { OnOk result (bits ≤ chip_bits self.new) }
@@ -109,8 +113,8 @@ impl<F: Flash, C: PageCode> Chip<F, C> {
         Ok(())
     }
 
-    /// Turns these bits of a page one after the other; bit 0 is the highest of byte 0. It takes at most one page of the page room, and at most as many bits of the room
-    /// as these are.
+    /// Turns these bits of a page one after the other; bit 0 is the highest of byte 0. It takes at
+    /// most one page of the page room, and at most as many bits of the room as these are.
     pub fn flip(&mut self, page: u32, bits: &BlockList)
         requires place { FitsBits (chip_state self.old).geometry page bits.now }
         requires page_room { 1 ≤ chip_page_room self.old }
@@ -128,7 +132,8 @@ impl<F: Flash, C: PageCode> Chip<F, C> {
         self.phase.see_marker(quiet);
     }
 
-    /// Hands out the note of the attach, under this number of the chip. None comes exactly where attaching is not over or the note was handed out before.
+    /// Hands out the note of the attach, under this number of the chip. None comes exactly where
+    /// attaching is not over or the note was handed out before.
     pub fn attach_note(&mut self, chip: u32) -> Option<Note>
         ensures note { result ≡ option_map (note_of_attach chip) (chip_pending_note self.old) }
         ensures once { chip_pending_note self.new ≡ None }
@@ -183,7 +188,8 @@ impl<F: Flash, C: PageCode> Chip<F, C> {
         }
     }
 
-    /// Begins an operation, and takes all the memory that it needs. Nothing is in flight before. Where memory runs out, all is as before.
+    /// Begins an operation, and takes all the memory that it needs. Nothing is in flight before.
+    /// Where memory runs out, all is as before.
     pub fn begin(&mut self, parts: &Parts, op: &Op) -> Result<(), AllocError>
         requires rests { is_resting (chip_stage self.old) ≡ true }
         requires can { CanBegin (chip_state self.old).geometry parts.now (chip_stage self.old) op.now }
@@ -201,7 +207,8 @@ impl<F: Flash, C: PageCode> Chip<F, C> {
         Ok(())
     }
 
-    /// Does the next event, which is there. Some comes exactly where the event failed. It takes no memory.
+    /// Does the next event, which is there. Some comes exactly where the event failed. It takes no
+    /// memory.
     ///
     /// The event touches no table page, so what is told of a failure is `Plain`.
     pub fn advance(&mut self) -> Option<Fairness>
@@ -234,7 +241,8 @@ impl<F: Flash, C: PageCode> Chip<F, C> {
         }
     }
 
-    /// The reply to the operation in flight, which has no event left. The chip rests then. It takes no memory.
+    /// The reply to the operation in flight, which has no event left. The chip rests then. It takes
+    /// no memory.
     pub fn answer(&mut self) -> Reply
         requires { IsSome (finished_in (chip_stage self.old)) }
         ensures reply { IfSome (finished_in (chip_stage self.old)) (λ finished. result ≡ finished.reply) }
@@ -269,7 +277,8 @@ impl<F: Flash, C: PageCode> Chip<F, C> {
         flash
     }
 
-    // Reads the marker of the next block; after the last one the chip is attached, and there is a note to be handed out.
+    // Reads the marker of the next block; after the last one the chip is attached, and there is a
+    // note to be handed out.
     fn attach_on(&mut self, scan: Scan)
         requires rests { self.old.phase ≡ Resting }
         requires fits { AttachFits self.old.known.geometry self.old.known.sums scan }

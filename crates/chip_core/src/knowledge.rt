@@ -10,7 +10,8 @@ use nand_iface::Op;
 use nand_model::{Bytes, Geometry, Part};
 use std::alloc::{AllocError, Global};
 
-/// The sizes of a chip, the state of each block (0 good, 3 factory bad), and the statistics of its devices.
+/// The sizes of a chip, the state of each block (0 good, 3 factory bad), and the statistics of its
+/// devices.
 #[derive(Drop)]
 pub struct Knowledge {
     pub geometry: Geometry,
@@ -60,7 +61,8 @@ impl Knowledge {
         self.states.as_mut_slice()[block as usize] = state;
     }
 
-    /// Makes an entry for the statistics that an operation adds to, and leaves all that is known as it is.
+    /// Makes an entry for the statistics that an operation adds to, and leaves all that is known as
+    /// it is.
     pub fn expect(&mut self, op: &Op) -> Result<(), AllocError>
         ensures there { OnOk result ((dev : ℕ) → read_device op.now ≡ Some dev → IsSome (place_of self.new.sums dev)) }
         ensures geometry { self.new.geometry ≡ self.old.geometry }

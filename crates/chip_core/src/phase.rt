@@ -30,7 +30,8 @@ impl Phase {
         }
     }
 
-    /// Bits of a page were turned, and the marker of its block has no flip now or it has one. An attach keeps in mind that it has one.
+    /// Bits of a page were turned, and the marker of its block has no flip now or it has one. An
+    /// attach keeps in mind that it has one.
     pub fn see_marker(&mut self, quiet: bool)
         ensures { self.new ≡ seen_marker quiet self.old }
     {

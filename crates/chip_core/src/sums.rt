@@ -68,7 +68,8 @@ impl Sums {
         Ok(())
     }
 
-    /// Adds the corrected bits and the failed steps of a decoded page to the statistics of a device that has an entry. It takes no memory.
+    /// Adds the corrected bits and the failed steps of a decoded page to the statistics of a device
+    /// that has an entry. It takes no memory.
     pub fn add(&mut self, dev: u32, corrected: u32, failed: u32)
         requires there { IsSome (place_of self.old dev) }
         requires small { AreSmall (stats_in self.old dev) }

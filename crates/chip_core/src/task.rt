@@ -39,7 +39,8 @@ pub enum Task {
     Erasing {
         block: u32,
     },
-    /// A page of a device was decoded. No event is left, and its counts are still to be added to the device's statistics.
+    /// A page of a device was decoded. No event is left, and its counts are still to be added to
+    /// the device's statistics.
     Decoded {
         dev: u32,
         kind: PageKind,
@@ -76,7 +77,8 @@ impl Task {
         }
     }
 
-    /// Does the next event, which is there. What is left is a reply, beside what is told of an event that failed.
+    /// Does the next event, which is there. What is left is a reply, beside what is told of an
+    /// event that failed.
     pub fn advance<F: Flash, C: PageCode>(self, flash: &mut F, code: &C) -> (Task, Option<Fairness>)
         requires without_tables { (F.state flash.old).geometry.bbt ≡ 0 }
         requires fits { TaskFits (F.state flash.old).geometry self }

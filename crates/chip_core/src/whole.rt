@@ -13,8 +13,8 @@ use mtd_part::Parts;
 use nand_iface::{Flash, Op, PageCode, Reply};
 use std::alloc::{AllocError, Global};
 
-/// Attaches a chip without tables. Its table is that of its markers, and the note of the attach is still to be handed out. The attach was quiet exactly where the
-/// flash is.
+/// Attaches a chip without tables. Its table is that of its markers, and the note of the attach is
+/// still to be handed out. The attach was quiet exactly where the flash is.
 pub fn attach<F: Flash, C: PageCode>(
     alloc: Global,
     flash: F,

@@ -1,5 +1,5 @@
--- Attaching a chip: the scan of the table blocks or of all markers, and the copies that are written again
--- (nand_bbt; which copy is written again and with which version is this project's own rule).
+-- Attaching a chip: the scan of the table blocks or of all markers, and the copies that are written
+-- again (nand_bbt; which copy is written again and with which version is this project's own rule).
 use Rattle.std.specs.Prelude.{ℕ, ◌==◌, if◌then◌else◌, List, map, ◌-◌, ◌++◌, take, drop, bit_or, [], ◌∷◌, true, false, not, Option, Some, None, Bool}
 use Rattle.nand_model.specs.Page.{marker_byte}
 use Rattle.chip_paths.specs.Writing.{Places, WholeCopies, Writing, whole_count, writing_of, writing_path}
@@ -29,8 +29,8 @@ marker_table g pages = map (λ cells. if marker_byte g cells == 0xff then 0 else
 abbrev pub with_reserved : Geometry → List ℕ → List ℕ
 with_reserved g states = take (g.blocks - 4) states ++ map (λ s. bit_or s 2) (drop (g.blocks - 4) states)
 
--- the outcome of an attach: the table, the copy that it came from, the version, the places, and how many
--- copies are whole
+-- the outcome of an attach: the table, the copy that it came from, the version, the places, and how
+-- many copies are whole
 pub record Attaching : Type 0 where
   pub table : List ℕ
   pub origin : Origin
@@ -61,7 +61,8 @@ attaching_of choice w =
       copies = whole_count w.whole;
     }
 
--- the copies that need it are written, under this version, with this table and the last four blocks reserved
+-- the copies that need it are written, under this version, with this table and the last four blocks
+-- reserved
 abbrev pub rewrite_copies : Geometry → Places → Choice → ℕ → List ℕ → Path Attaching
 rewrite_copies g places choice version states =
     writing_path g (writing_of (with_reserved g states) version places (whole_at_first choice) (rewritten choice))
@@ -79,8 +80,8 @@ use_found g places primary mirror =
     let choice : Choice = choice_of (version_found primary) (version_found mirror) in
     use_copy g places choice (used_copy choice primary mirror)
 
--- an attach: with tables the last four blocks are scanned for copies, without them the markers of all blocks
--- are the table
+-- an attach: with tables the last four blocks are scanned for copies, without them the markers of
+-- all blocks are the table
 abbrev pub attach_by : Bool → Geometry → Path Attaching
 attach_by true g =
     read_first_pages g (table_blocks g) [] (λ pages.

@@ -20,8 +20,8 @@ pub record Pending : Type 0 where
   pub op : Op
   pub answers : List Answer
 
--- a chip in a boot: how the events of its attach were answered, whether each found it quiet, and, once it is
--- attached, what is known of it and what is pending
+-- a chip in a boot: how the events of its attach were answered, whether each found it quiet, and,
+-- once it is attached, what is known of it and what is pending
 pub record ChipRun (W : Type 0) : Type 0 where
   pub chip : ChipState W
   pub attach_answers : List Answer
@@ -85,8 +85,8 @@ abbrev pub known_once_over : Path Attaching → Option Known
 known_once_over (Over attaching) = Some (known_at_first attaching)
 known_once_over (Then event rest) = None
 
--- a chip whose attach or operation has one more answer; during an attach, the chip before the event says
--- whether it was quiet
+-- a chip whose attach or operation has one more answer; during an attach, the chip before the event
+-- says whether it was quiet
 abbrev pub answered_by : {W : Type 0} → ChipRun W → ChipState W → Answer → Option Known → ChipRun W
 answered_by c after answer None =
     let answers : List Answer = c.attach_answers ++ answer ∷ [] in
@@ -145,9 +145,9 @@ progress_of [] = AtStart
 progress_of (first ∷ []) = AfterOne
 progress_of (first ∷ second ∷ answers) = AfterMore
 
--- the table in memory changes within an operation once its second event is answered, which is the program of
--- a mark's marker: from
--- then on it is the one that the operation ends with where no further event fails
+-- the table in memory changes within an operation once its second event is answered, which is the
+-- program of a mark's marker: from then on it is the one that the operation ends with where no
+-- further event fails
 abbrev pub table_at : Progress → Path Finished → List ℕ → List ℕ
 table_at AtStart left table = table
 table_at AfterOne left table = table
@@ -158,7 +158,8 @@ abbrev pub table_during : Geometry → Partitions → Known → Op → List Answ
 table_during g partitions k op answers =
     table_at (progress_of answers) (after_answers answers (operation_path g partitions k op)) k.table
 
--- the table in memory, also while an operation is pending: a mark that has had no event yet leaves it as it is
+-- the table in memory, also while an operation is pending: a mark that has had no event yet leaves
+-- it as it is
 abbrev pub table_now : {W : Type 0} → Partitions → ChipRun W → Option (List ℕ)
 table_now partitions c = go c.known c.pending
   where

@@ -1,6 +1,6 @@
--- The copies of a table on a chip: the candidates, the copies that are disowned and those that are found, the
--- places of the two copies, and the copy that is used (nand_bbt; disowning and the places are this project's
--- own rules).
+-- The copies of a table on a chip: the candidates, the copies that are disowned and those that are
+-- found, the places of the two copies, and the copy that is used (nand_bbt; disowning and the
+-- places are this project's own rules).
 use Rattle.std.specs.Prelude.{◌≡◌, ℕ, ◌+◌, ◌-◌, ◌%◌, Bool, true, false, not, ◌&&◌, ◌||◌, ◌==◌, nat_lt, if◌then◌else◌, List, [], ◌∷◌, map, filter, zip, find, Option, Some, None, unwrap_or, refl}
 use Rattle.std.specs.List.{list_any}
 use Rattle.nand_model.specs.Table.{Copy, copy_in, same_which, calls_bad, table_blocks}
@@ -66,20 +66,22 @@ abbrev pub found_calls_bad : Option (ℕ × Copy) → ℕ → Bool
 found_calls_bad None block = false
 found_calls_bad (Some (place, copy)) block = calls_bad copy.states block
 
--- the highest of these blocks that is not the other copy's place and that neither found copy calls bad
+-- the highest of these blocks that is not the other copy's place and that neither found copy calls
+-- bad
 abbrev pub first_free : Option (ℕ × Copy) → Option (ℕ × Copy) → Option ℕ → List ℕ → Option ℕ
 first_free primary mirror other blocks =
     find (λ block. is_other other block && not (found_calls_bad primary block) && not (found_calls_bad mirror block))
     blocks
 
--- where a copy stands, or is to stand: where it was found, else in the highest candidate that is free, else
--- in the highest of the last four that is not the other's place
+-- where a copy stands, or is to stand: where it was found, else in the highest candidate that is
+-- free, else in the highest of the last four that is not the other's place
 abbrev pub place_beside : Geometry → List ℕ → Option (ℕ × Copy) → Option (ℕ × Copy) → Option ℕ → Option ℕ → ℕ
 place_beside g blocks primary mirror (Some block) other = block
 place_beside g blocks primary mirror None other =
     unwrap_or (first_free primary mirror other blocks) (unwrap_or (first_other other (table_blocks g)) 0)
 
--- the places of the two copies, from the copies found and the candidates' blocks: the primary chooses first
+-- the places of the two copies, from the copies found and the candidates' blocks: the primary
+-- chooses first
 abbrev pub places_for : Geometry → List ℕ → Option (ℕ × Copy) → Option (ℕ × Copy) → Places
 places_for g blocks primary mirror =
     let first : ℕ = place_beside g blocks primary mirror (block_found primary) (block_found mirror) in
@@ -93,7 +95,8 @@ places_of g cs = places_for g (map (λ (c : ℕ × List ℕ). c.0) cs) (found g 
 abbrev pub is_newer : ℕ → ℕ → Bool
 is_newer p m = nat_lt 0 ((p + 256 - m) % 256) && nat_lt ((p + 256 - m) % 256) 128
 
--- the copy that is used, and whether the other is written again, by the versions of the copies that were found
+-- the copy that is used, and whether the other is written again, by the versions of the copies that
+-- were found
 abbrev pub choice_of : Option ℕ → Option ℕ → Choice
 choice_of (Some p) (Some m) =
     if is_newer p m || p == m then UsePrimary (not (p == m)) else UseMirror true

@@ -1,5 +1,5 @@
--- Operations on a chip: which are refused, which events the others have, what they answer, and what is known
--- of the chip then. A bad block is one whose table entry is not 0.
+-- Operations on a chip: which are refused, which events the others have, what they answer, and what
+-- is known of the chip then. A bad block is one whose table entry is not 0.
 use Rattle.std.specs.Prelude.{ℕ, List, Bool, if◌then◌else◌, ◌*◌, nat_lt, ◌+◌, slice_index, ◌==◌, not, count_by, slice_range, Option, Some, None, true, [], ◌∷◌, ◌||◌, nat_le, ◌/◌, ◌≡◌}
 use Rattle.chip_paths.specs.Writing.{Places, marked, next_version, Writing, whole_count, writing_of, writing_path}
 use Rattle.nand_model.specs.Path.{Path, Over, either, Answer, is_failure, Then, cells_of, after_answers, next_event, result_of, GoesAlong, answers_of, is_uncut}
@@ -19,8 +19,8 @@ use Rattle.nand_model.specs.declared.words.Which.TheVariants.{Primary, Mirror}
 use Rattle.nand_model.specs.declared.words.Op.{Op}
 use Rattle.nand_model.specs.declared.words.Op.TheVariants.{Read, Write, RawRead, RawWrite, Erase, IsBad, Mark, Stats}
 
--- what is known of an attached chip, beside the chip itself: its table with the version, places and whole
--- copies, and the ECC statistics of each device
+-- what is known of an attached chip, beside the chip itself: its table with the version, places and
+-- whole copies, and the ECC statistics of each device
 pub record Known : Type 0 where
   pub table : List ℕ
   pub version : ℕ
@@ -95,7 +95,8 @@ after_read g k dev d =
 abbrev pub bad_count : List ℕ → Part → ℕ
 bad_count table part = count_by (λ state. not (state == 0)) (slice_range table part.start (part.start + part.count))
 
--- what is known once the block stands marked in the table, with tables on flash under the next version
+-- what is known once the block stands marked in the table, with tables on flash under the next
+-- version
 abbrev pub with_mark : Geometry → Known → ℕ → Known
 with_mark g k block =
     record k { table = marked k.table block; version = if has_tables g then next_version k.version else k.version }
@@ -123,12 +124,14 @@ abbrev pub mark_writing : Known → Writing
 mark_writing k =
     writing_of k.table k.version k.places (record { primary = true; mirror = true }) (Primary ∷ Mirror ∷ [])
 
--- a mark with tables: the copies are written; table, version, places and whole copies are then those of the writing
+-- a mark with tables: the copies are written; table, version, places and whole copies are then
+-- those of the writing
 abbrev pub write_tables : Geometry → Known → Answer → Path Finished
 write_tables g k marker =
     writing_path g (mark_writing k) (λ w. answer (after_writing k w) (mark_reply marker (writing_reply w.failed)))
 
--- a mark: the erase of the block, whose failure is ignored, the program of its marker, and then the table
+-- a mark: the erase of the block, whose failure is ignored, the program of its marker, and then the
+-- table
 abbrev pub mark_path : Geometry → Known → ℕ → Path Finished
 mark_path g k block =
     Then (EraseEvent block) (λ erased.
@@ -182,7 +185,8 @@ abbrev pub operation_path : Geometry → Partitions → Known → Op → Path Fi
 operation_path g partitions k op = operation_by g k (part_of partitions (device_of op)) op
 
 module _ {W : Type 0} (model : FaultModel W) where
-  -- one whole operation: from this chip and what is known of it, along this trace, to this reply and what is known then
+  -- one whole operation: from this chip and what is known of it, along this trace, to this reply
+  -- and what is known then
   pub record Performs (partitions : Partitions) (chip : ChipState W) (k : Known) (op : Op) (trace : List ChipEvent)
       (reply : Reply) (after : Known) : Type 0 where
     pub along : GoesAlong model (next_event (operation_path chip.geometry partitions k op)) chip [] trace

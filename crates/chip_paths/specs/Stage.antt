@@ -1,4 +1,5 @@
--- Where a chip stands in a boot: what is left of the path of its attach, or of its operation in flight.
+-- Where a chip stands in a boot: what is left of the path of its attach, or of its operation in
+-- flight.
 use Rattle.std.specs.Prelude.{Bool, true, Option, None, ◌&&◌, Some, ℕ, false, List}
 use Rattle.nand_model.specs.Path.{Path, Over, Then, first_event, Answer, result_of, is_failure, answer_to, after_answers}
 use Rattle.chip_paths.specs.Attach.{Attaching, attach_path}
@@ -13,9 +14,9 @@ use Rattle.nand_model.specs.declared.words.Fairness.{Fairness}
 use Rattle.nand_model.specs.declared.words.Stats.{Stats}
 use Rattle.nand_model.specs.declared.words.Op.{Op}
 
--- a chip is being attached, and all its events so far were quiet or not; or it is attached with nothing in
--- flight; or an operation is in
--- flight, of which this was known before, how far it has come and what is left
+-- a chip is being attached, and all its events so far were quiet or not; or it is attached with
+-- nothing in flight; or an operation is in flight, of which this was known before, how far it has
+-- come and what is left
 pub data Stage : Type 0 where
   Attaches : (left : Path Attaching) → (quiet : Bool) → Stage
   Rests : (known : Known) → Stage
@@ -47,13 +48,15 @@ one_further AtStart = AfterOne
 one_further AfterOne = AfterMore
 one_further AfterMore = AfterMore
 
--- the stage after an event that was answered so; an attach stays quiet where the chip was quiet just before it
+-- the stage after an event that was answered so; an attach stays quiet where the chip was quiet
+-- just before it
 abbrev pub stage_after : Bool → Answer → Stage → Stage
 stage_after now_quiet answer (Attaches left quiet) = attach_stage (path_after answer left) (quiet && now_quiet)
 stage_after now_quiet answer (Rests known) = Rests known
 stage_after now_quiet answer (Works known progress left) = Works known (one_further progress) (path_after answer left)
 
--- what an attach note says that an event brings: the attach that it ends, and whether that was quiet
+-- what an attach note says that an event brings: the attach that it ends, and whether that was
+-- quiet
 abbrev pub attach_end : Path Attaching → Bool → Option (Bool × Attaching)
 attach_end (Over attaching) quiet = Some (quiet, attaching)
 attach_end (Then event rest) quiet = None

@@ -1,5 +1,5 @@
--- A writing of copies of a table. A block that fails is called bad in the table, and another of the last four
--- takes its place (all rules here are this project's own).
+-- A writing of copies of a table. A block that fails is called bad in the table, and another of the
+-- last four takes its place (all rules here are this project's own).
 use Rattle.std.specs.Prelude.{ℕ, zero, suc, ◌+◌, ◌*◌, ◌%◌, Bool, true, false, not, ◌&&◌, ◌==◌, List, [], ◌∷◌, length, find, slice_index, slice_set, Option, Some, None, bit_or}
 use Rattle.nand_model.specs.Sizes.{first_page}
 use Rattle.nand_model.specs.Table.{table_page, table_blocks}
@@ -61,10 +61,10 @@ count_if false = 0
 abbrev pub whole_count : WholeCopies → ℕ
 whole_count whole = count_if whole.primary + count_if whole.mirror
 
--- how far a writing has come: the table, the version and the places in force; which copies are whole; the
--- copies still to be written, and whether the block of the
--- first of these was erased; how many more blocks may take the place of one that failed; and the copy for
--- which the writing has failed
+-- how far a writing has come: the table, the version and the places in force; which copies are
+-- whole; the copies still to be written, and whether the block of the first of these was erased;
+-- how many more blocks may take the place of one that failed; and the copy for which the writing
+-- has failed
 pub record Writing : Type 0 where
   pub table : List ℕ
   pub version : ℕ
@@ -75,8 +75,8 @@ pub record Writing : Type 0 where
   pub chances : ℕ
   pub failed : Option Which
 
--- a writing at its start. Two of the last four blocks are the places, so at most two more can take the place
--- of one that failed
+-- a writing at its start. Two of the last four blocks are the places, so at most two more can take
+-- the place of one that failed
 abbrev pub writing_of : List ℕ → ℕ → Places → WholeCopies → List Which → Writing
 writing_of table version places whole left =
     record {
@@ -90,8 +90,8 @@ writing_of table version places whole left =
       failed = None;
     }
 
--- the block that takes the place of one that failed: the highest of the last four whose entry is 2 and that
--- is not the other copy's place
+-- the block that takes the place of one that failed: the highest of the last four whose entry is 2
+-- and that is not the other copy's place
 abbrev pub next_place : Geometry → List ℕ → ℕ → Option ℕ
 next_place g table other = find (λ block. slice_index table block == 2 && not (block == other)) (table_blocks g)
 
@@ -114,7 +114,8 @@ with_retired g w which =
     moved (record w { table = table; whole = with_whole w.whole which false; erased = false }) which
     (next_place g table (place_of w.places (other_of which))) w.chances
 
--- after a good erase the block is erased, and after a good program the copy is whole and leaves the list
+-- after a good erase the block is erased, and after a good program the copy is whole and leaves the
+-- list
 abbrev pub after_good : Writing → Which → List Which → Bool → Writing
 after_good w which more false = record w { whole = with_whole w.whole which false; erased = true }
 after_good w which more true = record w { whole = with_whole w.whole which true; left = more; erased = false }
@@ -133,8 +134,8 @@ written_by g w (which ∷ more) good = after_event g w which more good
 abbrev pub writing_after : Geometry → Writing → Answer → Writing
 writing_after g w answer = written_by g w w.left (is_good answer)
 
--- the next event of a writing: the erase of the block of the first copy that is left, and, once it is erased,
--- the program of its first page with the table and the version
+-- the next event of a writing: the erase of the block of the first copy that is left, and, once it
+-- is erased, the program of its first page with the table and the version
 abbrev pub event_once : (erased : Bool) → Geometry → Writing → Which → PageEvent
 event_once false g w which = EraseEvent (place_of w.places which)
 event_once true g w which = ProgramEvent (first_page g (place_of w.places which)) (table_page g which w.version w.table)

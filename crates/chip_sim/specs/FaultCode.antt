@@ -1,4 +1,5 @@
--- A code for what the faults of a simulated chip depend on, by which a proof tells its values apart.
+-- A code for what the faults of a simulated chip depend on, by which a proof tells its values
+-- apart.
 use Rattle.std.specs.Prelude.{◌≡◌, ℕ, Bool, true, false, ◌⊎◌, List, refl}
 use Rattle.std.proofs.Common.{inl, inr}
 use Rattle.std.specs.Coded.{Coded, code_by, coded_ℕ, coded_bool, coded_list, coded×, coded⊎}

@@ -1,4 +1,5 @@
--- The slots of a chip's pages: a page that was programmed or flipped since its last good erase, or nothing.
+-- The slots of a chip's pages: a page that was programmed or flipped since its last good erase, or
+-- nothing.
 use Rattle.std.specs.Prelude.{◌≡◌, ℕ, Bool, false, List, length, slice_index_or, Option, Some, None}
 use Rattle.nand_model.specs.Chip.{PageState}
 use Rattle.chip_sim.specs.Blanks.{blank_cells}
@@ -22,6 +23,7 @@ is_flipped_since (Some page) = page.flipped_since
 abbrev pub IsWholeSlot : ℕ → Option Page → Type 0
 IsWholeSlot raw slot = length (cells_of raw slot) ≡ raw
 
--- the page that a slot and a list of flips stand for: nothing befell it but good programs, good erases and flips
+-- the page that a slot and a list of flips stand for: nothing befell it but good programs, good
+-- erases and flips
 abbrev pub page_of : ℕ → List ℕ → Option Page → PageState
 page_of raw flips slot = record { cells = cells_of raw slot; flips = flips; torn = false; flipped_since = is_flipped_since slot }

@@ -6,7 +6,8 @@ use nand_model::Bytes;
 use std::alloc::{AllocError, Global};
 use std::marker::Model;
 
-/// A store of erased pages. Contracts see it as the bytes of a page and the number of pages that are left.
+/// A store of erased pages. Contracts see it as the bytes of a page and the number of pages that
+/// are left.
 #[derive(Drop)]
 pub struct BlankPages {
     raw_len: usize,

@@ -11,7 +11,8 @@ use nand_iface::{EraseFailed, Flash, ProgramFailed};
 use nand_model::{BlockList, Geometry};
 use std::alloc::{AllocError, Global};
 
-/// A simulated NAND flash chip, after nandsim. It keeps cells only for the pages that were programmed or flipped since their last good erase. It never fails.
+/// A simulated NAND flash chip, after nandsim. It keeps cells only for the pages that were
+/// programmed or flipped since their last good erase. It never fails.
 #[derive(Drop)]
 pub struct SimChip {
     geometry: Geometry,
@@ -27,7 +28,8 @@ impl SimChip {
     ghost use Rattle.nand_model.specs.Chip.{new_chip};
     ghost use Rattle.chip_sim.specs.State.{sim_state};
 
-    /// A chip that is erased, except that spare byte 0 of the first page of each block of `bad` is 0x00.
+    /// A chip that is erased, except that spare byte 0 of the first page of each block of `bad` is
+    /// 0x00.
     pub fn new(alloc: Global, g: Geometry, bad: &BlockList) -> Result<SimChip, AllocError>
         requires { All (λ block. block < g.blocks) bad.now }
         ensures { IfOk result (λ chip. sim_state chip ≡ new_chip g bad.now []) }

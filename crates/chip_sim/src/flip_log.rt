@@ -14,7 +14,8 @@ pub struct FlippedBit {
     bit: u32,
 }
 
-/// The flips of all pages since their last good erases, in the order in which they were made. Contracts see them beside the room for more.
+/// The flips of all pages since their last good erases, in the order in which they were made.
+/// Contracts see them beside the room for more.
 #[derive(Drop)]
 pub struct FlipLog {
     flips: Vec<FlippedBit>,
@@ -68,7 +69,8 @@ impl FlipLog {
             .retain(|flip| flip.page < first || end <= flip.page);
     }
 
-    /// The number of flips of a page in bits `from` up to but not including `to`; 2^32 - 1 where there are more.
+    /// The number of flips of a page in bits `from` up to but not including `to`; 2^32 - 1 where
+    /// there are more.
     pub fn count(&self, page: u32, from: u32, to: u32) -> u32
         ensures { result ≡ min (flips_between (flips_of self.now.flips page) from to) (2 ^ 32 - 1) }
     {

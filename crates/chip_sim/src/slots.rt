@@ -84,7 +84,8 @@ pub fn program_slot(slot: &mut Option<Page>, blanks: &mut BlankPages, image: &[u
     *slot = Some(page);
 }
 
-/// Turns bits of the page of a slot one after the other. Where it has no cells, it takes a blank page.
+/// Turns bits of the page of a slot one after the other. Where it has no cells, it takes a blank
+/// page.
 pub fn flip_slot(slot: &mut Option<Page>, blanks: &mut BlankPages, bits: &BlockList)
     requires whole { IsWholeSlot blanks.old.raw slot.old }
     requires bits { All (λ bit. bit < 8 * blanks.old.raw) bits.now }

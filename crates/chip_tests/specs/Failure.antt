@@ -4,7 +4,8 @@ use Rattle.nand_model.specs.Chip.{Call, ProgramCall, EraseCall, DoneBits, FaultM
 use Rattle.chip_tests.specs.declared.failing_flash.Failure.{Failure}
 use Rattle.chip_tests.specs.declared.failing_flash.Failure.TheVariants.{Ahead, Torn, Past}
 
--- a fault state is the number of programs up to the one that fails, itself among them, or 0 once it lies behind
+-- a fault state is the number of programs up to the one that fails, itself among them, or 0 once it
+-- lies behind
 abbrev pub fails_at : ℕ → Call → Option DoneBits
 fails_at left (ProgramCall page) = if left == 1 then Some (λ q i. 0xff) else None
 fails_at left (EraseCall block) = None

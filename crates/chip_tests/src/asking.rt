@@ -1,4 +1,5 @@
-// A device and operations for tests: each operation is tested for what a chip needs of it, and its reply is told in short.
+// A device and operations for tests: each operation is tested for what a chip needs of it, and its
+// reply is told in short.
 ghost use Rattle.std.specs.Prelude.{◌≡◌, ◌<◌, ◌*◌, true, length, All, IfOk, IsTrue};
 ghost use Rattle.nand_model.specs.Sizes.{page_count, raw_len};
 ghost use Rattle.chip_paths.specs.Stage.{is_resting};
@@ -21,7 +22,8 @@ pub fn one_device(alloc: Global) -> Result<Parts, Fail> {
     Ok(parts)
 }
 
-/// An operation on the one device, whose pages have 2,048 bytes, a spare of 64 and 34 free bytes; or flips.
+/// An operation on the one device, whose pages have 2,048 bytes, a spare of 64 and 34 free bytes;
+/// or flips.
 #[derive(Clone, Copy)]
 pub enum Ask {
     IsBad(u32),
@@ -46,7 +48,8 @@ pub enum Told {
     MarkerByte,
     ProgramFailed,
     State(u32),
-    /// The kind of a page, its corrected bits, the most of a step, its failed steps, and its first byte.
+    /// The kind of a page, its corrected bits, the most of a step, its failed steps, and its first
+    /// byte.
     Page(PageKind, u32, u32, u32, u8),
     /// The corrected bits, the failed steps, and the bad blocks of the device.
     Counts(u64, u64, u32),

@@ -51,7 +51,8 @@ impl Failure {
     }
 }
 
-/// A simulated chip without bad blocks on which one program fails, with all of its bits done, and every other call is good.
+/// A simulated chip without bad blocks on which one program fails, with all of its bits done, and
+/// every other call is good.
 #[derive(Drop)]
 pub struct FailingFlash {
     chip: SimChip,

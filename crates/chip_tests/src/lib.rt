@@ -1,4 +1,5 @@
-//! Tests of a chip, from its attach to its last answer, over a simulated flash and over one of which one program fails.
+//! Tests of a chip, from its attach to its last answer, over a simulated flash and over one of
+//! which one program fails.
 #![tactic(auto)]
 
 #[cfg(test)]

@@ -14,7 +14,8 @@ use nand_model::{BlockList, Geometry};
 use std::alloc::{AllocError, Global};
 use std::test::Fail;
 
-// A new chip whose block 5 is factory-bad. Its code corrects four bits of a step, and its threshold is 3.
+// A new chip whose block 5 is factory-bad. Its code corrects four bits of a step, and its threshold
+// is 3.
 fn small_chip(alloc: Global) -> Result<SimChip, Fail>
     ensures { IfOk result (λ chip. (sim_state chip).geometry.bbt ≡ 0) }
 {

@@ -43,7 +43,8 @@ fn add_session(
     Ok(())
 }
 
-/// The controller's part of a plan's boot: its partitions, its flips, and its sessions with their commands.
+/// The controller's part of a plan's boot: its partitions, its flips, and its sessions with their
+/// commands.
 pub fn boot_of_plan(alloc: Global, plan: &PlanLines) -> Result<ControllerBoot, AllocError>
     requires { IsPlan plan.now }
     ensures { IfOk result (λ boot. boot ≡ boot_part (plan_of plan.now) 0 (map chip_of plan.now.chips) (boot_of plan.now)) }

@@ -52,7 +52,8 @@ fn dump_of(dev: u32, blocks: u32, off: u32, raw: bool, bad: BadMode) -> Command
     }
 }
 
-/// The command of a line, with the number of its device's blocks, and for a nandwrite the plan's data.
+/// The command of a line, with the number of its device's blocks, and for a nandwrite the plan's
+/// data.
 pub fn command_of_line(
     alloc: Global,
     chips: &ItemList<ChipLines>,

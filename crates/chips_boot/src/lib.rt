@@ -1,4 +1,5 @@
-//! The controller's part of a several-chip plan's boot, and what holds of it at the controller's start.
+//! The controller's part of a several-chip plan's boot, and what holds of it at the controller's
+//! start.
 #![tactic(auto)]
 
 mod boot;

@@ -70,7 +70,8 @@ fn add_part(parts: &mut Parts, part: Part, blocks: u32) -> Result<(), AllocError
     }
 }
 
-/// The partitions of chips: each chip has one, from its first block on, and its device has the chip's number.
+/// The partitions of chips: each chip has one, from its first block on, and its device has the
+/// chip's number.
 pub fn parts_of_chips(alloc: Global, chips: &ItemList<ChipLines>) -> Result<Parts, AllocError>
     requires few { length chips.now ≤ 8 }
     requires chips { All IsChip chips.now }

@@ -10,7 +10,8 @@ use Rattle.chips_reader.specs.declared.head.Head.TheVariants.{Header, Controller
 use Rattle.chips_reader.specs.declared.line.Line.{Line}
 use Rattle.chips_reader.specs.declared.line.Line.TheVariants.{Header as FirstLine, Controller as OneController, Chip as OneChip, Part as OnePart, Data as TheData, Boot as TheBoot, Flip as OneFlip, Session as OneSession, Command, Schedule as TheSchedule}
 
--- the kind of a line by some of its bytes: the first, the fifth, and for nanddump and nandwrite a letter of the options
+-- the kind of a line by some of its bytes: the first, the fifth, and for nanddump and nandwrite a
+-- letter of the options
 abbrev kind_by : (first fifth letter other : ℕ) → Head
 kind_by first fifth letter other =
     if first == 110 then (if fifth == 108 then Header

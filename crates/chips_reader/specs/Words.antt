@@ -1,4 +1,5 @@
--- The lines of a several-chip plan one by one: the first words of each, which tell its kind, and what follows them.
+-- The lines of a several-chip plan one by one: the first words of each, which tell its kind, and
+-- what follows them.
 use Rattle.std.specs.Prelude.{◌≡◌, ◌≢◌, ℕ, ◌<◌, ◌^◌, ◌⊎◌, List, [], ◌∷◌, ◌++◌, ⊤, All, codes, decimal, flat_map}
 use Rattle.hex.specs.Hex.{IsBytes, encode_lower}
 use Rattle.report_model.specs.Report.{line}

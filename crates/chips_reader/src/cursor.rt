@@ -16,7 +16,8 @@ pub fn before<'a>(text: &'a [u8], suffix: &[u8]) -> Option<&'a [u8]>
     text.strip_suffix(suffix)
 }
 
-/// The text before the first such byte, and the rest, which begins with it; all of the text where there is none.
+/// The text before the first such byte, and the rest, which begins with it; all of the text where
+/// there is none.
 pub fn split_before(text: &[u8], byte: u8) -> (&[u8], &[u8])
     ensures joined { text.now ≡ result.0.now ++ result.1.now }
     ensures front { Lacks byte result.0.now }

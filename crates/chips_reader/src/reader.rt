@@ -30,7 +30,8 @@ fn empty_plan(alloc: Global) -> Result<PlanLines, AllocError>
     })
 }
 
-// The plan that lines make, one after the other. Where the bytes are lines of no plan, it is any plan, or none.
+// The plan that lines make, one after the other. Where the bytes are lines of no plan, it is any
+// plan, or none.
 fn gathered(alloc: Global, bytes: &[u8]) -> Result<Option<PlanLines>, AllocError>
     ensures { (lines : List Line) → All IsProper lines → bytes.now ≡ flat_map line_text lines
         → IfOk result (λ found. found ≡ Some (fold with_line new_plan lines)) }
@@ -61,8 +62,9 @@ fn has_text(alloc: Global, plan: &PlanLines, bytes: &[u8]) -> Result<bool, Alloc
 
 /// The lines of a several-chip plan; None exactly where the bytes are no such plan.
 ///
-/// It is a plan of one controller with one to eight chips, of bits of these that turn over, and of one to eight sessions, in at most 8,192 bytes: lines without comments, with one space between words,
-/// numbers without leading zeros, and an LF at the end of each.
+/// It is a plan of one controller with one to eight chips, of bits of these that turn over, and of
+/// one to eight sessions, in at most 8,192 bytes: lines without comments, with one space between
+/// words, numbers without leading zeros, and an LF at the end of each.
 pub fn read_several_chips(alloc: Global, bytes: &[u8]) -> Result<Option<PlanLines>, AllocError>
     ensures some { IfOk result (λ found. IfSome found (IsSeveralChipPlan bytes.now)) }
     ensures none { IfOk result (λ found. IfNone found (IsOfTheForm bytes.now → ⊥)) }

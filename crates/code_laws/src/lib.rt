@@ -1,4 +1,5 @@
-//! The laws of BCH codes over steps of bytes, as contracts of functions without a body, for code above to cite.
+//! The laws of BCH codes over steps of bytes, as contracts of functions without a body, for code
+//! above to cite.
 #![tactic(auto)]
 
 mod bound;

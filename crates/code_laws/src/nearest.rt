@@ -3,7 +3,8 @@ ghost use Rattle.std.specs.Prelude.{◌≡◌, ◌↔◌, ℕ, List, Option, len
 ghost use Rattle.code_model.specs.Word.{AreBits};
 ghost use Rattle.code_model.specs.Code.{Code, IsBchCode, IsCodeWord, Decodes, is_code_word, nearest, word_bits};
 
-/// A word is a code word exactly where it has as many bits as the code's words and no remainder by the generator.
+/// A word is a code word exactly where it has as many bits as the code's words and no remainder by
+/// the generator.
 pub fn code_word_test()
     ensures { (code : Code) (w : List ℕ)
         → IsBchCode code → IsTrue (is_code_word code w) ↔ IsCodeWord code w }

@@ -113,7 +113,8 @@ module _ (size : ℕ) (mul : ℕ → ℕ → ℕ) (d : IsDomain size mul) where
   combined_zeros (k ∷ ks) [] l z = refl
   combined_zeros (k ∷ ks) (u ∷ us) l z = ap₂ bit_xor (ap (λ x. mul x (u l)) z.0 ∙ d.mul_comm 0 (u l) ∙ d.mul_zero (u l)) (combined_zeros ks us l z.1)
 
-  -- where the rows of monic polynomials of degrees 0 to w - 1 are in echelon form, only 0 of degree below w has the row 0
+  -- where the rows of monic polynomials of degrees 0 to w - 1 are in echelon form, only 0 of degree
+  -- below w has the row 0
   pub zero_from_echelon : (s : ℕ → ℕ) (n rows : ℕ) (us : List (ℕ → ℕ)) (c : ℕ → ℕ) → 0 < size → AreMonicFrom 0 us → IsEchelon rows (rows_of mul s n us)
       → ((l : ℕ) → c l < size) → ((l : ℕ) → length us ≤ l → c l ≡ 0) → ((j : ℕ) → j < rows → against mul s n c (suc j) ≡ 0) → (l : ℕ) → c l ≡ 0
   zero_from_echelon s n rows us c o m i s_lt above z l =

@@ -118,7 +118,8 @@ module _ (size : ℕ) (mul : ℕ → ℕ → ℕ) (d : IsDomain size mul) where
       xor_cancel _ _ (ap (bit_xor (term mul t.0 y j)) (sym (moment-zeros ts j rest)) ∙ ap (moment mul (t ∷ ts)) (sym j0) ∙ z 0 (omega arith)) in
       (zero_from_term t.0 y j s.0.0 s.0.1 n.0 first, rest)
 
-  -- Vandermonde: where the sums of w terms a x^j are 0 for w neighbouring j, and the x differ and are not 0, each a is 0
+  -- Vandermonde: where the sums of w terms a x^j are 0 for w neighbouring j, and the x differ and
+  -- are not 0, each a is 0
   pub zero_moments : (ts : List (ℕ × ℕ)) (j : ℕ) → Every Small ts → Every (λ u. u.1 ≢ 0) ts → Apart ts → ((i : ℕ) → i < length ts → moment mul ts (j + i) ≡ 0) → Every (λ u. u.0 ≡ 0) ts
   zero_moments ts j s n a z = vandermonde (length ts) ts j refl s n a z
 

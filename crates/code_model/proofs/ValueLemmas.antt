@@ -215,7 +215,8 @@ module _ (m f : ℕ) (p : IsPrimitive m f) where
   length-places [] = refl
   length-places (k ∷ ks) = ap suc (length-places ks)
 
-  -- two code words that differ in at most w places are equal, where the generator has w neighbouring powers as roots
+  -- two code words that differ in at most w places are equal, where the generator has w
+  -- neighbouring powers as roots
   pub bound : (t w : ℕ) (xs ys : List ℕ) → ((j : ℕ) → 0 < j → j ≤ w → value_at m f (power m f 2 j) (generator_of m f t) ≡ 0)
       → AreBits xs → AreBits ys → length xs ≡ length ys → length xs ≤ 2 ^ m - 1 → distance xs ys ≤ w → IsMultiple m f t xs → IsMultiple m f t ys → xs ≡ ys
   bound t w xs ys roots s r e room near cx cy =

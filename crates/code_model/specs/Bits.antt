@@ -1,4 +1,5 @@
--- Bits of bytes, as the numbers 0 and 1. Bit 0 is the highest bit of the first byte, the order in which lib/bch reads a message and its parity.
+-- Bits of bytes, as the numbers 0 and 1. Bit 0 is the highest bit of the first byte, the order in
+-- which lib/bch reads a message and its parity.
 use Rattle.std.specs.Prelude.{ℕ, zero, suc, ◌-◌, ◌/◌, ◌%◌, ◌^◌, List, [], ◌∷◌, ◌++◌, slice_index, bit_xor}
 use Rattle.code_model.specs.Word.{number_from}
 

@@ -1,4 +1,5 @@
--- BCH codes over steps of bytes, and the code word nearest to a word. Generator, order of bits and mask are those of lib/bch and of nand_ecc's software BCH.
+-- BCH codes over steps of bytes, and the code word nearest to a word. Generator, order of bits and
+-- mask are those of lib/bch and of nand_ecc's software BCH.
 use Rattle.std.specs.Prelude.{◌≡◌, ℕ, zero, suc, ◌+◌, ◌-◌, ◌*◌, ◌/◌, ◌^◌, ◌<◌, ◌≤◌, Bool, ◌&&◌, nat_eq, nat_lt, List, [], ◌∷◌, ◌++◌, length, map, replicate, Option, Some, None, find, bit_xor}
 use Rattle.std.specs.List.{list_all}
 use Rattle.code_model.specs.Binary.{remainder, IsPrimitive}
@@ -6,7 +7,8 @@ use Rattle.code_model.specs.Generator.{generator_of}
 use Rattle.code_model.specs.Word.{number_from, AreBits, IsMultiple, distance}
 use Rattle.code_model.specs.Bits.{bits_of, bytes_of, xor_bytes}
 
--- a code: the degree and the modulus of its field, how many wrong bits it corrects, and the bytes of a step
+-- a code: the degree and the modulus of its field, how many wrong bits it corrects, and the bytes
+-- of a step
 pub record Code : Type 0 where
   pub degree : ℕ
   pub modulus : ℕ
@@ -41,7 +43,8 @@ word_bits code = body_bits code + parity_bits code
 abbrev pub generator : Code → ℕ
 generator code = generator_of code.degree code.modulus code.strength
 
--- a body and its parity which, as a polynomial with the highest coefficient first, are a multiple of the generator
+-- a body and its parity which, as a polynomial with the highest coefficient first, are a multiple
+-- of the generator
 pub record IsCodeWord (code : Code) (word : List ℕ) : Type 0 where
   pub long : length word ≡ word_bits code
   pub bits : AreBits word
@@ -62,7 +65,8 @@ pub record IsNearest (code : Code) (w c : List ℕ) (d : ℕ) : Type 0 where
 abbrev pub NoneNear : Code → List ℕ → Type 0
 NoneNear code w = (c : List ℕ) → IsCodeWord code c → code.strength < distance w c
 
--- what a decoder answers to a word: the nearest code word with its distance, or nothing where none is near
+-- what a decoder answers to a word: the nearest code word with its distance, or nothing where none
+-- is near
 abbrev pub Decodes : Code → List ℕ → Option (List ℕ × ℕ) → Type 0
 Decodes code w (Some (c, d)) = IsNearest code w c d
 Decodes code w None = NoneNear code w

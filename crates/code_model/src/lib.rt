@@ -1,2 +1,3 @@
-//! Definitions and laws of binary BCH codes: polynomials over two elements, fields of 2^m elements, generators, words and the nearest code word.
+//! Definitions and laws of binary BCH codes: polynomials over two elements, fields of 2^m elements,
+//! generators, words and the nearest code word.
 #![tactic(auto)]

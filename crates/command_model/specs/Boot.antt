@@ -7,7 +7,8 @@ use Rattle.nand_model.specs.declared.words.CutAt.{CutAt}
 use Rattle.nand_model.specs.declared.words.Command.{Command}
 use Rattle.nand_model.specs.declared.geometry.Geometry.{Geometry}
 
--- a controller's part of a boot: its partitions, its sessions with their commands, its flips and its cut
+-- a controller's part of a boot: its partitions, its sessions with their commands, its flips and
+-- its cut
 pub record Boot : Type 0 where
   pub partitions : Partitions
   pub sessions : List (ℕ × List Command)

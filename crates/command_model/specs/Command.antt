@@ -1,6 +1,6 @@
--- Commands: the operations that each asks for, as its replies come, and its outcome (the names and options
--- are those of mtd-utils; the sequence of operations, the counters and the behaviour after a failure are this
--- project's own).
+-- Commands: the operations that each asks for, as its replies come, and its outcome (the names and
+-- options are those of mtd-utils; the sequence of operations, the counters and the behaviour after
+-- a failure are this project's own).
 use Rattle.std.specs.Prelude.{List, [], ◌∷◌, Bool, false, not, ◌==◌, true, ℕ, zero, suc, ◌+◌, if◌then◌else◌, ◌-◌, ◌++◌, length, take, drop, replicate, slice_range, ◌*◌, ◌/◌, min, ◌%◌, map, bytes_eq, ◌^◌, ◌&&◌, nat_lt, nat_le, ◌||◌, ◌≢◌, ◌≤◌, ◌≡◌, ⊤, ◌<◌}
 use Rattle.nand_model.specs.Sizes.{raw_len, parity_start, numbers_from}
 use Rattle.nand_model.specs.Seeds.{seed_byte}
@@ -113,7 +113,8 @@ after_write BadBlock good failed skipped marker = skipped
 after_write MarkerByte good failed skipped marker = marker
 after_write _ good failed skipped marker = good
 
--- the pages of one block: `taken` are the units that are left where the block begins, to which a failure goes back
+-- the pages of one block: `taken` are the units that are left where the block begins, to which a
+-- failure goes back
 abbrev pub write_pages : Geometry → WriteMode → ℕ → List (List ℕ) → WriteCounts
     → (List (List ℕ) → WriteCounts → Script) → (in_block place : ℕ) → List (List ℕ) → Script
 write_pages g m block taken c next_block in_block place [] = written_end (record c { pages = c.pages + in_block }) Whole
@@ -190,7 +191,8 @@ dump_pages g m (suc left) page c go_on =
     Ask (if m.raw then RawRead m.dev page else Read m.dev page)
     (λ r. dump_pages g m left (page + 1) (with_page_read g m c r) go_on)
 
--- the n pages of the range in one block: its state is asked first, unless bad blocks are dumped like others
+-- the n pages of the range in one block: its state is asked first, unless bad blocks are dumped
+-- like others
 abbrev pub dump_block : Geometry → DumpMode → (n page : ℕ) → DumpCounts → (DumpCounts → Script) → Script
 dump_block g m n page c go_on =
     if is_dump_bad m.bad then dump_pages g m n page c go_on
@@ -394,8 +396,8 @@ cost_of g (NandTest dev blocks keep mark seed passes off len) weak =
     passes * count * (2 * g.pages_per_block + 3) + (if keep then passes * count * (2 * g.pages_per_block + 1) else 0)
 cost_of g _ weak = 1
 
--- a range of an offset and a length lies on a device of so many bytes and consists of units of one size,
--- where length 0 means to the end
+-- a range of an offset and a length lies on a device of so many bytes and consists of units of one
+-- size, where length 0 means to the end
 abbrev pub is_range : (unit size off len : ℕ) → Bool
 is_range unit size off len = off % unit == 0 && len % unit == 0 && nat_lt off size && nat_le (off + len) size
 
@@ -425,12 +427,13 @@ command_blocks (MarkBad dev blocks block) = blocks
 command_blocks (AskBad dev blocks block) = blocks
 command_blocks (AskStats dev blocks) = blocks
 
--- a command fits a geometry: its numbers meet the rules of its line, and its device has from 1 to 32,768 blocks
+-- a command fits a geometry: its numbers meet the rules of its line, and its device has from 1 to
+-- 32,768 blocks
 abbrev pub fits : Geometry → Command → Bool
 fits g command = nat_le 1 (command_blocks command) && nat_le (command_blocks command) 32768 && fits_device g command
 
--- the answers to each kind of operation, beside out of range; a page's counts are at most 128 each, and a raw
--- page's are 0
+-- the answers to each kind of operation, beside out of range; a page's counts are at most 128 each,
+-- and a raw page's are 0
 abbrev pub IsDecodedPage : Reply → Type 0
 IsDecodedPage (Page kind read image) =
     (kind ≢ Raw) × (read.corrected ≤ 128) × (read.greatest ≤ 128) × (read.failed ≤ 128)
@@ -481,8 +484,8 @@ abbrev pub IsCounts : Reply → Type 0
 IsCounts (Counts corrected failed bad) = ⊤
 IsCounts _ = ⊥
 
--- the reply is one that the operation may have, where a command asks for it: the pages and blocks of a
--- command that fits are there, but for those of `markbad` and `isbad`
+-- the reply is one that the operation may have, where a command asks for it: the pages and blocks
+-- of a command that fits are there, but for those of `markbad` and `isbad`
 abbrev pub IsAnswerOf : Op → Reply → Type 0
 IsAnswerOf (Read dev page) reply = IsDecodedPage reply
 IsAnswerOf (Write dev page body free) reply = IsWriteAnswer reply

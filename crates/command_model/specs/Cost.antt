@@ -5,14 +5,14 @@ use Rattle.nand_model.specs.declared.geometry.Geometry.{Geometry}
 use Rattle.nand_model.specs.declared.words.Command.{Command}
 use Rattle.nand_model.specs.declared.words.Command.TheVariants.{NandWrite}
 
--- the blocks that may give a command trouble: those of a nandwrite from the block of its offset to the end of
--- the device
+-- the blocks that may give a command trouble: those of a nandwrite from the block of its offset to
+-- the end of the device
 abbrev pub troubled_blocks : Geometry → Command → ℕ
 troubled_blocks g (NandWrite dev blocks mark raw oob pad off bytes) = blocks - off / block_size g
 troubled_blocks g _ = 0
 
--- the most operations of a command on a chip of these sizes, whatever the replies are: each such block may be
--- in trouble once
+-- the most operations of a command on a chip of these sizes, whatever the replies are: each such
+-- block may be in trouble once
 abbrev pub command_cost : (Command → Geometry) → Command → ℕ
 command_cost sizes command = cost_of (sizes command) command (troubled_blocks (sizes command) command)
 

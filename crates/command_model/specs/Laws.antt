@@ -29,8 +29,8 @@ troubles [] script = 0
 troubles (r ∷ replies) (End outcome) = 0
 troubles (r ∷ replies) (Ask op go_on) = trouble_of op r + troubles replies (go_on r)
 
--- Each block to which a nandwrite comes gives it at most one trouble, so that its cost with these blocks as the
--- allowance is a bound for every list of replies
+-- Each block to which a nandwrite comes gives it at most one trouble, so that its cost with these
+-- blocks as the allowance is a bound for every list of replies
 abbrev pub TroublesAreFew : Geometry → Type 0
 TroublesAreFew g =
     (dev blocks : ℕ) (mark raw oob pad : Bool) (off : ℕ) (bytes : List ℕ) (replies : List Reply) →
@@ -42,7 +42,8 @@ abbrev pub IsOver : Next → Type 0
 IsOver (Over outcome) = ⊤
 IsOver (Do op) = ⊥
 
--- a command ends after at most its cost, for every list of replies with no more trouble than is allowed for
+-- a command ends after at most its cost, for every list of replies with no more trouble than is
+-- allowed for
 abbrev pub CommandsEnd : Geometry → Command → Type 0
 CommandsEnd g command =
     (weak : ℕ) (replies : List Reply) → troubles replies (script_of g command) ≤ weak → cost_of g command weak

@@ -1,5 +1,5 @@
--- Which commands can be run: `nandwrite -p` of one unit and `nanddump` of one page, both also with `-n`,
--- `flash_erase -N` of a device, `isbad` and `stats`.
+-- Which commands can be run: `nandwrite -p` of one unit and `nanddump` of one page, both also with
+-- `-n`, `flash_erase -N` of a device, `isbad` and `stats`.
 use Rattle.std.specs.Prelude.{ℕ, ◌≤◌, ◌≡◌, Bool, true, false, List, length, ◌*◌, ◌%◌, ◌<◌}
 use Rattle.command_model.specs.Command.{block_size}
 use Rattle.nand_model.specs.declared.geometry.Geometry.{Geometry}

@@ -9,7 +9,8 @@ use Rattle.nand_model.specs.declared.words.Op.{Op}
 use Rattle.nand_model.specs.declared.words.Note.{Note}
 use Rattle.nand_model.specs.declared.words.Note.TheVariants.{Began, Answered, Attached, Torn}
 
--- a session: its commands that are not finished, the replies to the first of these, and the outcomes of those that are
+-- a session: its commands that are not finished, the replies to the first of these, and the
+-- outcomes of those that are
 pub record SessionRun : Type 0 where
   pub number : ℕ
   pub commands : List Command
@@ -73,8 +74,8 @@ abbrev pub exchanges_of : ℕ → List Note → List Exchange
 exchanges_of session [] = []
 exchanges_of session (note ∷ notes) = exchange_in session note ++ exchanges_of session notes
 
--- the exchanges of a session are those of its commands, in order and each once: from each state of its
--- commands, nothing, or the next operation, and after its reply so on
+-- the exchanges of a session are those of its commands, in order and each once: from each state of
+-- its commands, nothing, or the next operation, and after its reply so on
 abbrev pub FollowsCommands : (Command → Geometry) → SessionRun → List Exchange → Type 0
 FollowsCommands sizes s [] = ⊤
 FollowsCommands sizes s (Asked op ∷ []) = next_op_of sizes s.commands s.replies ≡ Some op

@@ -10,7 +10,8 @@ pub fn commands_ask_one_device()
     ensures { (g : Geometry) (command : Command) → AsksOnly (command_device command) (script_of g command) }
 {}
 
-/// At most one written page of each block of a nandwrite is answered program failed or bad block, for every list of replies.
+/// At most one written page of each block of a nandwrite is answered program failed or bad block,
+/// for every list of replies.
 pub fn troubles_are_few()
     ensures { (g : Geometry) → TroublesAreFew g }
 {}

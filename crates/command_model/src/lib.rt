@@ -1,5 +1,5 @@
-//! Definitions of commands and sessions: the operations that each command asks for, as its replies come, and its outcome; with laws of
-//! commands alone.
+//! Definitions of commands and sessions: the operations that each command asks for, as its replies
+//! come, and its outcome; with laws of commands alone.
 #![tactic(auto)]
 
 mod laws;

@@ -107,7 +107,8 @@ module _ {F C : Type 0} {flash : Ghosts F} where
       all_set (HasRoom (1 + pages) (length flip.bits + bits)) (HasRoom pages bits) slots k slot now at here
       (λ other r. record { page_room = omega (arith, r.page_room); bits_room = omega (arith, r.bits_room) }) all
 
-  -- the loop over the flips stands at place n: chips and room are those of the flips before, and those that are left can be made
+  -- the loop over the flips stands at place n: chips and room are those of the flips before, and
+  -- those that are left can be made
   pub record FlipsLeft (flips : List Flip) (event n : ℕ) (start : List (SlotState flash.FaultState)) (slots : List (Slot F C flash)) : Type 0 where
     pub there : All (CanFlip (map slot_state slots)) flips
     pub room : All (HasRoom (length (due_flips (drop n flips) event)) (bit_count (due_flips (drop n flips) event))) slots

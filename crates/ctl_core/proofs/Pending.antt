@@ -1,4 +1,5 @@
--- What a course says of a session with a pending operation: the operation is its next one, and is pending on one chip alone.
+-- What a course says of a session with a pending operation: the operation is its next one, and is
+-- pending on one chip alone.
 use Rattle.std.proofs.Common.{◌≡◌, inl, inr, ℕ, true, false, List, Some, ap, sym, ◌∙◌}
 use Rattle.std.specs.Prelude.{slice_get}
 use Rattle.nand_model.specs.Chip.{ChipState, FaultModel}

@@ -15,13 +15,14 @@ abbrev pub next_chip : {W : Type 0} → Partitions → (Command → Geometry) �
 next_chip partitions sizes course session =
     option_and_then (λ (op : Op). chip_of partitions (device_of op)) (next_op sizes (session_run course session))
 
--- a session without a pending operation is held up by the one that has an operation pending on this chip
+-- a session without a pending operation is held up by the one that has an operation pending on this
+-- chip
 abbrev pub held_unless_pending : {W : Type 0} → Course W → Option ℕ → Option ℕ → Option ℕ
 held_unless_pending course None chip = session_at course chip
 held_unless_pending course (Some k) chip = None
 
--- the session that holds another one up: this one has nothing pending, and that one has an operation pending
--- on the chip of this one's next operation
+-- the session that holds another one up: this one has nothing pending, and that one has an
+-- operation pending on the chip of this one's next operation
 abbrev pub held_by : {W : Type 0} → Partitions → (Command → Geometry) → Course W → ℕ → Option ℕ
 held_by partitions sizes course session =
     held_unless_pending course (pending_chip course session) (next_chip partitions sizes course session)
@@ -34,8 +35,8 @@ abbrev pub done_or : Bool → Turn → Turn
 done_or true turn = Done
 done_or false turn = turn
 
--- a turn of a session is answered Done where its commands are over, else Held where another session holds it
--- up, else Did
+-- a turn of a session is answered Done where its commands are over, else Held where another session
+-- holds it up, else Did
 abbrev pub turn_answer : {W : Type 0} → Partitions → (Command → Geometry) → Course W → ℕ → Turn
 turn_answer partitions sizes course session =
     done_or (is_done course session) (held_or_did (held_by partitions sizes course session))

@@ -57,8 +57,8 @@ past_of journal = record {
   turns = journal.turns.items;
 }
 
--- a board stands where its controller's past has led: chips are attached before any turn, each attach step
--- did an event, and each turn of the list did something
+-- a board stands where its controller's past has led: chips are attached before any turn, each
+-- attach step did an event, and each turn of the list did something
 pub record IsOnCourse {F C : Type 0} {flash : Ghosts F} (past : Past F) (board : Board F C flash) : Type 0 where
   pub conditions : CanStart past.boot (starts_of flash.state past)
   pub stands : StandsAt past (course_of flash.fault_model flash.state past) board
@@ -75,7 +75,8 @@ pub record StandsAlike {F C : Type 0} {flash : Ghosts F} (old new : Board F C fl
   pub notes : new.notes.notes ≡ old.notes.notes
   pub sessions : new.sessions.items ≡ old.sessions.items
 
--- the flips that are due are made, and event e of chip k, which stood so after them, is done and noted
+-- the flips that are due are made, and event e of chip k, which stood so after them, is done and
+-- noted
 pub record DidEvent {F C : Type 0} {flash : Ghosts F} (flips : List Flip) (k : ℕ) (c : SlotState flash.FaultState)
     (e : PageEvent) (old new : Board F C flash)
     : Type 0 where

@@ -1,4 +1,5 @@
--- The flips of a controller's chips: which are due before an event, and what they make of the chips.
+-- The flips of a controller's chips: which are due before an event, and what they make of the
+-- chips.
 use Rattle.std.specs.Prelude.{ℕ, List, length, sum_by, fold, ◌≡◌, slice_get, Some}
 use Rattle.nand_model.specs.Chip.{FaultModel, after_trace, flip_events}
 use Rattle.ctl_core.specs.SlotState.{SlotState}

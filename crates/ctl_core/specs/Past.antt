@@ -9,8 +9,8 @@ use Rattle.turn_laws.specs.Laws.{most_turns}
 use Rattle.run_model.specs.Course.{Course, session_run, course_after, turn_step, sizes_of}
 use Rattle.command_model.specs.Session.{SessionRun, is_finished}
 
--- a controller's boot, the flashes with which it was started, the number of its attach steps, and the
--- sessions whose turns did something, in order
+-- a controller's boot, the flashes with which it was started, the number of its attach steps, and
+-- the sessions whose turns did something, in order
 pub record Past (F : Type 0) : Type 0 where
   pub boot : Boot
   pub started : List F

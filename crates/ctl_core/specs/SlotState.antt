@@ -1,5 +1,5 @@
--- A chip as its controller keeps it: its state and its stage, an attach note that is still to be written, and
--- the session that holds it.
+-- A chip as its controller keeps it: its state and its stage, an attach note that is still to be
+-- written, and the session that holds it.
 use Rattle.std.specs.Prelude.{ℕ, Bool, false, not, ◌==◌, List, [], ◌∷◌, map, position, Option, Some, None}
 use Rattle.nand_model.specs.Chip.{ChipState, FaultModel, PageEvent, Complete, happens}
 use Rattle.nand_model.specs.Path.{answer_to}

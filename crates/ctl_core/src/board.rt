@@ -27,7 +27,8 @@ pub struct Slot<F: Flash, C: PageCode> {
 impl<F: Flash, C: PageCode> Slot<F, C> {
     ghost use Rattle.ctl_core.specs.Board.{slot_state};
 
-    // Does the chip's next event, as event `number` of the controller, and puts down what there is to note of it.
+    // Does the chip's next event, as event `number` of the controller, and puts down what there is
+    // to note of it.
     pub fn advance(&mut self, chip: u32, number: u32, notes: &mut History)
         requires event { IsSome (stage_event (slot_state self.old).stage) }
         requires room { 2 ≤ notes.old.room }
@@ -104,7 +105,8 @@ fn is_held_by(holder: Option<u32>, session: u32) -> bool
     }
 }
 
-/// What the steps of a controller change: its chips, the number of page events so far, its notes and its sessions.
+/// What the steps of a controller change: its chips, the number of page events so far, its notes
+/// and its sessions.
 #[derive(Drop)]
 pub struct Board<F: Flash, C: PageCode> {
     pub slots: Vec<Slot<F, C>>,
@@ -141,8 +143,9 @@ impl<F: Flash, C: PageCode> Board<F, C> {
         self.sessions.iter().position(|one| one.number() == session)
     }
 
-    // Makes the flips that are due before the next event, and does this event, which is one of chip `k`. Memory is taken first; where there is none, chips, notes and
-    // sessions stand as they stood.
+    // Makes the flips that are due before the next event, and does this event, which is one of chip
+    // `k`. Memory is taken first; where there is none, chips, notes and sessions stand as they
+    // stood.
     pub fn do_event(&mut self, faults: &Faults, k: usize) -> Result<(), AllocError>
         requires few { length self.old.slots.items ≤ 8 }
         requires event { IsSome (event_at self.old k) }

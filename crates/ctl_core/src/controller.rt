@@ -24,8 +24,9 @@ use tool_steps::{ControllerBoot, FlashList};
 
 /// A controller in one boot: its chips, its sessions and its notes, one step a turn.
 ///
-/// Contracts see what it did so far (`Past`): its boot, the flashes with which it was started, the number of its attach steps, and the sessions whose turns
-/// did something, in order. From these follows the course that it is on (`course_of`), with its notes, chips and sessions.
+/// Contracts see what it did so far (`Past`): its boot, the flashes with which it was started, the
+/// number of its attach steps, and the sessions whose turns did something, in order. From these
+/// follows the course that it is on (`course_of`), with its notes, chips and sessions.
 #[derive(Drop)]
 pub struct Core<F: Flash, C: PageCode> {
     journal: Journal<F>,
@@ -45,10 +46,13 @@ impl<F: Flash, C: PageCode> Model for Core<F, C> {
 }
 
 impl<F: Flash, C: PageCode> Core<F, C> {
-    /// A controller at the start of its part of a boot. It takes the memory that the attaches of its chips need.
+    /// A controller at the start of its part of a boot. It takes the memory that the attaches of
+    /// its chips need.
     ///
-    /// There are at most eight flashes, without tables, whose pages are in this code. The partitions lie on these chips, the flips turn bits of their pages, and there is no cut;
-    /// the commands name devices that are there, with their sizes, and can be run; the sessions' numbers ascend; and the commands cost at most 16,777,216 operations together.
+    /// There are at most eight flashes, without tables, whose pages are in this code. The
+    /// partitions lie on these chips, the flips turn bits of their pages, and there is no cut; the
+    /// commands name devices that are there, with their sizes, and can be run; the sessions'
+    /// numbers ascend; and the commands cost at most 16,777,216 operations together.
     pub fn start(
         alloc: Global,
         boot: ControllerBoot,
@@ -77,9 +81,11 @@ impl<F: Flash, C: PageCode> Core<F, C> {
         })
     }
 
-    /// The flips that are due, and one page event of the first chip that is not attached; the last one of an attach also puts its note down.
+    /// The flips that are due, and one page event of the first chip that is not attached; the last
+    /// one of an attach also puts its note down.
     ///
-    /// `Done` comes exactly where all chips are attached, and `Did` else. Only `Did` makes anything of the controller: it counts one more attach step.
+    /// `Done` comes exactly where all chips are attached, and `Did` else. Only `Did` makes anything
+    /// of the controller: it counts one more attach step.
     pub fn attach_turn(&mut self) -> Result<Turn, AllocError>
         ensures answer { IfOk result (λ turn. turn ≡ attach_answer (unattached (course_of F.fault_model F.state self.old))) }
         ensures past { self.new ≡ after_attach_turn result self.old }
@@ -96,11 +102,14 @@ impl<F: Flash, C: PageCode> Core<F, C> {
         Ok(Turn::Did)
     }
 
-    /// One step of a session of this controller, whose chips are all attached: its operation in flight does its next page event, after the flips that are due before it, or is
-    /// answered, or its next operation begins.
+    /// One step of a session of this controller, whose chips are all attached: its operation in
+    /// flight does its next page event, after the flips that are due before it, or is answered, or
+    /// its next operation begins.
     ///
-    /// `Done` comes exactly where the session's commands are over; else `Held(by)` exactly where it has nothing in flight and session `by` has an operation in flight on the chip of its
-    /// next operation; else `Did`. Only `Did` makes anything of the controller: it is one more turn of this session.
+    /// `Done` comes exactly where the session's commands are over; else `Held(by)` exactly where it
+    /// has nothing in flight and session `by` has an operation in flight on the chip of its next
+    /// operation; else `Did`. Only `Did` makes anything of the controller: it is one more turn of
+    /// this session.
     pub fn turn(&mut self, session: u32) -> Result<Turn, AllocError>
         requires attached { unattached (course_of F.fault_model F.state self.old) ≡ None }
         requires own { HasSession self.old.boot session }
@@ -127,14 +136,16 @@ impl<F: Flash, C: PageCode> Core<F, C> {
         self.board.place_of(session).is_some()
     }
 
-    /// The number of the session at place `k`, counted from 0. None comes exactly where there is none.
+    /// The number of the session at place `k`, counted from 0. None comes exactly where there is
+    /// none.
     pub fn session(&self, k: usize) -> Option<u32>
         ensures { result ≡ session_number self.now.boot k }
     {
         self.journal.boot.session(k)
     }
 
-    /// Lends the notes: they are those of one thread, and the operations of each session are those of its commands, in order and each once.
+    /// Lends the notes: they are those of one thread, and the operations of each session are those
+    /// of its commands, in order and each once.
     pub fn notes(&self) -> &History
         ensures notes { result.now.notes ≡ (course_of F.fault_model F.state self.now).notes }
         ensures one_thread { CoursesAreFaithful F.fault_model self.now.boot (starts_of F.state self.now) self.now.attaches self.now.turns }
@@ -165,8 +176,9 @@ impl<F: Flash, C: PageCode> Core<F, C> {
         self.journal.turns.len()
     }
 
-    /// What a controller that is over leaves: its flashes as the course leaves the chips, its notes, the outcomes of each session in order, the statistics of each device and
-    /// the number of bad blocks.
+    /// What a controller that is over leaves: its flashes as the course leaves the chips, its
+    /// notes, the outcomes of each session in order, the statistics of each device and the number
+    /// of bad blocks.
     pub fn finish(self) -> Result<Ended<F>, AllocError>
         requires { is_over (course_of F.fault_model F.state self) ≡ true }
         ensures flashes { IfOk result (λ ended. map F.state ended.flashes ≡ end_states (course_of F.fault_model F.state self)) }

@@ -10,7 +10,8 @@ use fault_plan::{Faults, Flip};
 use nand_iface::{Flash, PageCode};
 use std::alloc::AllocError;
 
-// Makes the flips that are due before an event, in the order of their lines. Memory is taken first; where there is none, no bit is turned.
+// Makes the flips that are due before an event, in the order of their lines. Memory is taken first;
+// where there is none, no bit is turned.
 pub fn make_due_flips<F: Flash, C: PageCode>(
     slots: &mut Vec<Slot<F, C>>,
     faults: &Faults,

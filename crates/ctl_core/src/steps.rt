@@ -19,7 +19,8 @@ use tool_steps::ControllerBoot;
 impl<F: Flash, C: PageCode> Board<F, C> {
     ghost use Rattle.ctl_core.specs.Board.{slot_states, finished_at, past_of, IsOnCourse, IsAtTurn, StandsAt};
 
-    // One step of a session of the boot, where all chips are attached. Where memory runs out, chips, sessions and notes stand where they stood.
+    // One step of a session of the boot, where all chips are attached. Where memory runs out,
+    // chips, sessions and notes stand where they stood.
     pub fn step(&mut self, journal: &Journal<F>, session: u32) -> Result<Turn, AllocError>
         requires on_course { IsOnCourse (past_of journal.now) self.old }
         requires attached { unattached (course_of F.fault_model F.state (past_of journal.now)) ≡ None }
@@ -63,8 +64,9 @@ impl<F: Flash, C: PageCode> Board<F, C> {
         true
     }
 
-    // Does the next event of the operation that a session has in flight on chip `k`, or answers it where no event is left.
-    // Where memory runs out, chips, sessions and notes stand where they stood.
+    // Does the next event of the operation that a session has in flight on chip `k`, or answers it
+    // where no event is left. Where memory runs out, chips, sessions and notes stand where they
+    // stood.
     fn go_on(
         &mut self,
         journal: &Journal<F>,
@@ -99,8 +101,9 @@ impl<F: Flash, C: PageCode> Board<F, C> {
         self.sessions[place].replied(at);
     }
 
-    // Begins the next operation of a session that has none in flight, where its commands are not over and its chip is free.
-    // Where memory runs out, chips, sessions and notes stand where they stood.
+    // Begins the next operation of a session that has none in flight, where its commands are not
+    // over and its chip is free. Where memory runs out, chips, sessions and notes stand where they
+    // stood.
     fn begin(
         &mut self,
         journal: &Journal<F>,

@@ -1,4 +1,5 @@
--- Boots of two chips with one device each: two sessions that erase and ask, and one that dumps a page.
+-- Boots of two chips with one device each: two sessions that erase and ask, and one that dumps a
+-- page.
 use Rattle.std.specs.Prelude.{◌≡◌, ◌<◌, ℕ, true, false, List, [], ◌∷◌, All, refl, ◌≤◌, length}
 use Rattle.nand_model.specs.Chip.{ChipState}
 use Rattle.nand_model.specs.Partitions.{Partitions}

@@ -77,7 +77,8 @@ fn is_quiet(note: &Note) -> Option<bool> {
     }
 }
 
-// Whether the attaches of both chips, and then the first bytes of the three dumps, are these. Each attach note is one of two, and each dump has two notes.
+// Whether the attaches of both chips, and then the first bytes of the three dumps, are these. Each
+// attach note is one of two, and each dump has two notes.
 fn tells(history: &History, quiet: [bool; 2], seen: [u8; 3]) -> bool {
     if history.len() != 8 {
         return false;
@@ -89,7 +90,8 @@ fn tells(history: &History, quiet: [bool; 2], seen: [u8; 3]) -> bool {
         && first_byte(history.get(7)) == Some(seen[2])
 }
 
-// Attaches two chips of eight blocks, by events 1 to 8 and 9 to 16, and dumps the first page of chip 0 by events 17, 18 and 19. Whether that is told.
+// Attaches two chips of eight blocks, by events 1 to 8 and 9 to 16, and dumps the first page of
+// chip 0 by events 17, 18 and 19. Whether that is told.
 fn shows(alloc: Global, flips: &[Turned], quiet: [bool; 2], seen: [u8; 3]) -> Result<bool, Fail>
     requires { length flips.now ≤ 65536 }
 {

@@ -72,7 +72,8 @@ fn fine(outcome: &Outcome) -> bool {
     )
 }
 
-// Plays the sessions that the first bits of `order` name, and then both in turn to their end. Whether each turn is answered and noted as the rules say.
+// Plays the sessions that the first bits of `order` name, and then both in turn to their end.
+// Whether each turn is answered and noted as the rules say.
 fn play<F: Flash, C: PageCode>(
     core: &mut Core<F, C>,
     order: u32,

@@ -1,4 +1,5 @@
-//! Tests of a controller over simulated flashes: every interleaving of two sessions on two chips, and flips between the events.
+//! Tests of a controller over simulated flashes: every interleaving of two sessions on two chips,
+//! and flips between the events.
 #![tactic(auto)]
 
 mod driving;

@@ -1,4 +1,5 @@
-// Two sessions on two chips, played by the rules alone: an operation begins, has its page events, and is answered.
+// Two sessions on two chips, played by the rules alone: an operation begins, has its page events,
+// and is answered.
 use ctl_core::Turn;
 
 /// What a note says.
@@ -14,14 +15,16 @@ pub enum Told {
     Other,
 }
 
-/// Where a session stands: how many operations are answered, and how many page events the one in flight still has.
+/// Where a session stands: how many operations are answered, and how many page events the one in
+/// flight still has.
 #[derive(Clone, Copy)]
 pub struct Side {
     answered: u32,
     left: Option<u32>,
 }
 
-/// The device of a session's next operation, which is the only one on its chip, and the number of its page events.
+/// The device of a session's next operation, which is the only one on its chip, and the number of
+/// its page events.
 fn next(session: u32, answered: u32) -> Option<(u32, u32)> {
     match (session, answered) {
         (0, 0) => Some((0, 1)),
@@ -46,7 +49,8 @@ impl Side {
         }
     }
 
-    /// A turn of a session beside the other one: where it stands then, how the turn is answered, and what is noted.
+    /// A turn of a session beside the other one: where it stands then, how the turn is answered,
+    /// and what is noted.
     pub fn turn(self, session: u32, other: Side) -> (Side, Turn, Option<Told>) {
         match (self.left, next(session, self.answered)) {
             (Some(0), _) => {

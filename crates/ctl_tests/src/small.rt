@@ -13,15 +13,17 @@ use nand_model::{BadMode, BlockList, Command, Geometry, Part};
 use std::alloc::{AllocError, Global};
 use std::test::Fail;
 
-/// A controller of two chips of eight blocks, with device 0 on the first block of chip 0 and device 1 on that of chip 1.
-/// Session 0 erases device 0 and asks for the state of device 1's block; session 1 asks for that of device 0's block and erases device 1.
+/// A controller of two chips of eight blocks, with device 0 on the first block of chip 0 and device
+/// 1 on that of chip 1. Session 0 erases device 0 and asks for the state of device 1's block;
+/// session 1 asks for that of device 0's block and erases device 1.
 pub fn small_core(alloc: Global) -> Result<Core<SimChip, EccPage>, Fail> {
     let boot = small_boot(alloc)?;
     let flashes = small_flashes(alloc)?;
     Ok(Core::start(alloc, boot, flashes, EccPage)?)
 }
 
-/// A controller of the same chips and devices with these flips. Session 0 dumps the first page of device 0 three times, by its cells alone.
+/// A controller of the same chips and devices with these flips. Session 0 dumps the first page of
+/// device 0 three times, by its cells alone.
 pub fn reading_core(alloc: Global, faults: Faults) -> Result<Core<SimChip, EccPage>, Fail>
     requires small { All IsSmallFlip faults }
     requires few { length faults ≤ 65536 }

@@ -157,7 +157,8 @@ zeros_most bytes k inside =
     let len = length-take-le k bytes inside in
     omega arith
 
--- the zero bits of a step's word: those of the body, of all bytes of its parity but the last, and of the last without its padding
+-- the zero bits of a step's word: those of the body, of all bytes of its parity but the last, and
+-- of the last without its padding
 pub zero_bits_parts : (t : ℕ) (body stored : List ℕ) → 0 < t → length stored ≡ parity_len (code_512 t) → get_or stored (length stored - 1) 0 < 256
     → count_by is_zero (bits_of body) + count_by is_zero (bits_of (take (length stored - 1) stored))
     + count_ones ((255 - get_or stored (length stored - 1) 0) / 2 ^ (8 * length stored - 13 * t))

@@ -60,7 +60,8 @@ mask-distance t b b' p p' lb lp lp' =
     ∙ distance-sum x x' m (AreBits-take (13 * t) _ (AreBits-bits_of p)) (AreBits-take (13 * t) _ (AreBits-bits_of p')) (lx' ∙ sym lx) (lmt ∙ sym lx))
     ∙ sym (distance-append (bits_of b) (bits_of b') x x' long)
 
--- a read gives the body and the parity bits that were written, its padding as it was stored, and d for the bits that were off
+-- a read gives the body and the parity bits that were written, its padding as it was stored, and d
+-- for the bits that were off
 pub record ReadsBack (t : ℕ) (written stored : List ℕ) (d : ℕ) (read : StepRead) : Type 0 where
   pub body : read.body ≡ written
   pub front : take (13 * t) (bits_of read.parity) ≡ take (13 * t) (bits_of (parity_stored t written))

@@ -5,7 +5,10 @@ ghost use Rattle.code_model.specs.Code.{code_512, parity_len};
 ghost use Rattle.ecc_page.specs.Erased.{IsErasedRead, is_zero, zero_bits};
 ghost use Rattle.ecc_page.specs.Steps.{read_of};
 
-/// Tells whether a step with its stored parity of (13 t + 7) / 8 bytes, for t from 1 to 16, is that of an erased page with at most t bits gone to 0: `Some(n)` exactly where n bits of its 4096 + 13 t are 0, and n is at most t. The padding does not count. The decoder then puts these n bits right and leaves the padding. It takes no memory.
+/// Tells whether a step with its stored parity of (13 t + 7) / 8 bytes, for t from 1 to 16, is that
+/// of an erased page with at most t bits gone to 0: `Some(n)` exactly where n bits of its 4096 + 13
+/// t are 0, and n is at most t. The padding does not count. The decoder then puts these n bits
+/// right and leaves the padding. It takes no memory.
 pub fn erased_check(t: u32, step: &[u8; 512], parity: &[u8]) -> Option<u32>
     requires strength { (0 < t) × (t ≤ 16) }
     requires room { length parity.now ≡ parity_len (code_512 t) }

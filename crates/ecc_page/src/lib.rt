@@ -1,4 +1,5 @@
-//! The code of a page: where its parities stand, the mask over them, and the encoder and decoder of a whole page.
+//! The code of a page: where its parities stand, the mask over them, and the encoder and decoder of
+//! a whole page.
 #![tactic(auto)]
 
 mod erased;

@@ -9,7 +9,8 @@ use crate::step::{decode_step, encode_step, step_at};
 use nand_iface::PageCode;
 use nand_model::{Geometry, PageRead};
 
-/// The BCH code over steps of 512 bytes, with its stored parities at the end of the spare (the layout of nand_base for large pages, the code and the mask of nand_ecc's software BCH).
+/// The BCH code over steps of 512 bytes, with its stored parities at the end of the spare (the
+/// layout of nand_base for large pages, the code and the mask of nand_ecc's software BCH).
 #[derive(Clone, Copy, Debug, PartialEq, Eq)]
 pub struct EccPage;
 

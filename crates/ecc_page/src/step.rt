@@ -28,7 +28,8 @@ pub(crate) fn encode_step(t: u32, mask: &[u8], step: &[u8; 512], out: &mut [u8])
     put_mask(out, mask);
 }
 
-// Corrects a step and its stored parity, and gives the number of bits that were wrong; leaves both as they are where no code word is near.
+// Corrects a step and its stored parity, and gives the number of bits that were wrong; leaves both
+// as they are where no code word is near.
 pub(crate) fn decode_step(t: u32, mask: &[u8], step: &mut [u8], stored: &mut [u8]) -> Option<u32>
     requires strength { (0 < t) × (t ≤ 16) }
     requires mask { mask.now ≡ mask_of (code_512 t) }

@@ -31,7 +31,8 @@ fn masks(t: u32) -> [u8; 26]
     masks
 }
 
-// Pages of each size at t = 4: an erased step, one with its last bit 0, one of zeros, and erased ones; then flips in three of them.
+// Pages of each size at t = 4: an erased step, one with its last bit 0, one of zeros, and erased
+// ones; then flips in three of them.
 #[test]
 fn pages_of_each_size(rt: HostRuntime) -> Result<(), Fail> {
     let stored = [
@@ -108,7 +109,8 @@ fn parities_of_lib_bch(rt: HostRuntime) -> Result<(), Fail> {
     Ok(())
 }
 
-// Two words in an erased page that lib/bch miscorrects: no code word is near, so the step fails and nothing changes.
+// Two words in an erased page that lib/bch miscorrects: no code word is near, so the step fails and
+// nothing changes.
 #[test]
 fn words_that_lib_bch_gets_wrong(rt: HostRuntime) -> Result<(), Fail> {
     for (t, bits) in [

@@ -47,7 +47,8 @@ impl Faults {
         self.flips.len()
     }
 
-    /// The first place, counted from 0, at or after `from` of a flip whose bits turn over before this page event. None comes exactly where there is none.
+    /// The first place, counted from 0, at or after `from` of a flip whose bits turn over before
+    /// this page event. None comes exactly where there is none.
     pub fn due(&self, event: u32, from: usize) -> Option<usize>
         ensures first { result ≡ first_due self.now event from }
         ensures within { IfSome result (λ n. (from ≤ n) × (n < length self.now)) }

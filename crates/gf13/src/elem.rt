@@ -6,7 +6,8 @@ use crate::field::Field13;
 use binary_field::{inverse, logarithm, power_of_x, product};
 use std::marker::Model;
 
-/// An element of the field: a polynomial over two elements of degree below 13. Contracts see it as the number whose bit k is the coefficient of x^k.
+/// An element of the field: a polynomial over two elements of degree below 13. Contracts see it as
+/// the number whose bit k is the coefficient of x^k.
 #[derive(Clone, Copy, PartialEq, Eq, Debug)]
 pub struct Elem {
     bits: u16,

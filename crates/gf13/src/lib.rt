@@ -1,4 +1,5 @@
-//! The field of 2^13 elements: polynomials over two elements modulo x^13 + x^4 + x^3 + x + 1, the field of lib/bch's codes over steps of 512 bytes.
+//! The field of 2^13 elements: polynomials over two elements modulo x^13 + x^4 + x^3 + x + 1, the
+//! field of lib/bch's codes over steps of 512 bytes.
 #![tactic(auto)]
 
 mod elem;

@@ -34,7 +34,8 @@ pub fn power_of(i: usize) -> u16
     POWERS[i]
 }
 
-/// An exponent below 8192, by the table of logarithms. That x to this exponent is the element is not claimed, and so tested where it matters.
+/// An exponent below 8192, by the table of logarithms. That x to this exponent is the element is
+/// not claimed, and so tested where it matters.
 #[inline(always)]
 pub fn likely_logarithm(a: u16) -> usize
     ensures { result < 8192 }

@@ -1,4 +1,5 @@
-//! The field of 2^13 elements modulo x^13 + x^4 + x^3 + x + 1, with products by tables of powers and logarithms.
+//! The field of 2^13 elements modulo x^13 + x^4 + x^3 + x + 1, with products by tables of powers
+//! and logarithms.
 #![tactic(auto)]
 
 mod field;

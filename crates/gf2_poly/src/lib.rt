@@ -1,4 +1,5 @@
-//! Polynomials over two elements of degree up to 255, and the generators of the code over steps of 512 bytes.
+//! Polynomials over two elements of degree up to 255, and the generators of the code over steps of
+//! 512 bytes.
 #![tactic(auto)]
 
 mod generators;

@@ -8,7 +8,8 @@ ghost use Rattle.gf2_poly.specs.Degree.{DegreeSumAtMost};
 use std::marker::Model;
 use u256::U256;
 
-/// A polynomial over two elements of degree up to 255. As a number, bit k is the coefficient of x^k.
+/// A polynomial over two elements of degree up to 255. As a number, bit k is the coefficient of
+/// x^k.
 #[derive(Clone, Copy, PartialEq, Eq, Debug)]
 pub struct Poly {
     bits: U256,
@@ -27,7 +28,8 @@ impl Model for Poly {
 }
 
 impl Poly {
-    /// The polynomial with these coefficients, that of x^k in bit k: `high` from x^128 on, `low` below.
+    /// The polynomial with these coefficients, that of x^k in bit k: `high` from x^128 on, `low`
+    /// below.
     pub fn from_halves(high: u128, low: u128) -> Poly
         ensures { result ≡ high * 2 ^ 128 + low }
     {
@@ -84,7 +86,8 @@ impl Poly {
         Poly { bits: sum }
     }
 
-    /// The remainder by `by`: the one polynomial of lower degree than `by` that differs from `self` by a multiple of `by`.
+    /// The remainder by `by`: the one polynomial of lower degree than `by` that differs from `self`
+    /// by a multiple of `by`.
     pub fn remainder(&self, by: &Poly) -> Poly
         requires { by.now ≢ 0 }
         ensures remainder { IsRemainder self.now by.now result }

@@ -1,4 +1,5 @@
--- What a report of a run says: histories of one thread, pages that read back, and marks that survive cuts.
+-- What a report of a run says: histories of one thread, pages that read back, and marks that
+-- survive cuts.
 use Rattle.std.specs.Prelude.{◌≡◌, ℕ, zero, suc, Bool, false, ◌==◌, List, [], ◌∷◌, ◌++◌, length, map, filter, replicate, take, slice_get, slice_index_or, Option, Some, None}
 use Rattle.std.specs.List.{AllZip, concat}
 use Rattle.nand_model.specs.Sizes.{numbers_from}
@@ -21,8 +22,9 @@ Courses = List (List (Course SimFaults))
 abbrev pub boot_parts : PlanData → ℕ → List ChipPlan → List Boot
 boot_parts plan c chips = map (boot_part plan c chips) plan.boots
 
--- A legal run of the plan: each controller goes through its boots, each from the states that the one before it left,
--- by these turns. Nothing more is asked, so that a judge of reports needs no more than this.
+-- A legal run of the plan: each controller goes through its boots, each from the states that the
+-- one before it left, by these turns. Nothing more is asked, so that a judge of reports needs no
+-- more than this.
 pub record IsRun (plan : PlanData) (turns : List (List (List ℕ))) (courses : Courses) : Type 0 where
   pub controllers : length courses ≡ length plan.controllers
   pub boots : (c : ℕ) (chips : List ChipPlan) (own : List (Course SimFaults))
@@ -48,31 +50,35 @@ starts_at starts courses zero = starts
 starts_at starts [] (suc n) = starts
 starts_at starts (course ∷ courses) (suc n) = starts_at (end_states course) courses n
 
--- the first part of the headline, of one controller with these lives of its chips: its notes are a history of
--- one thread
+-- the first part of the headline, of one controller with these lives of its chips: its notes are a
+-- history of one thread
 pub record IsHistoryOfRun (plan : PlanData) (c : ℕ) (chips : List ChipPlan) (own : List (Course SimFaults))
     (lives : List (List ChipBoot)) : Type 0 where
-  -- the chips' lives are what befell them by one list of page events in each boot, with the boot's flips and cut
+  -- the chips' lives are what befell them by one list of page events in each boot, with the boot's
+  -- flips and cut
   pub logs : List Log
   pub counted : map (λ (course : Course SimFaults). course.events) own ≡ map (λ (log : Log). length log) logs
   pub of_logs : AreOfLogs sim_faults (new_chips chips) (boot_parts plan c chips) own lives logs
   -- each chip did one operation after another
   pub one_thread : AreOneThread sim_faults (devices_of plan c chips) (new_chips chips) lives
       (map (λ (course : Course SimFaults). course.notes) own)
-  -- each session's operations stand once and in order, and on a controller that was not cut nothing is left
+  -- each session's operations stand once and in order, and on a controller that was not cut nothing
+  -- is left
   pub in_order : AllZip (λ boot (course : Course SimFaults). AreInOrder boot (new_chips chips) course.notes)
       (boot_parts plan c chips) own
   pub complete : AllZip (λ boot (course : Course SimFaults). course.dark ≡ false
       → AreComplete boot (new_chips chips) course.notes)
       (boot_parts plan c chips) own
 
--- the second part: a programmed page with few flips reads back its bytes and exact counts, over all boots
+-- the second part: a programmed page with few flips reads back its bytes and exact counts, over all
+-- boots
 abbrev pub ReadsBackInRun : List ChipPlan → List (List ChipBoot) → Type 0
 ReadsBackInRun chips lives =
     (k : ℕ) (s : ChipState SimFaults) (life : List ChipBoot) →
     slice_get (new_chips chips) k ≡ Some s → slice_get lives k ≡ Some life → ReadsBackAlong sim_faults s [] life
 
--- what is true of a controller's courses in a legal run: the first two parts, of the same lives of its chips
+-- what is true of a controller's courses in a legal run: the first two parts, of the same lives of
+-- its chips
 pub record IsTrueHistory (plan : PlanData) (c : ℕ) (chips : List ChipPlan) (own : List (Course SimFaults)) : Type 0
   where
     pub lives : List (List ChipBoot)
@@ -85,9 +91,9 @@ AreTrueHistories plan courses =
     (c : ℕ) (chips : List ChipPlan) (own : List (Course SimFaults)) →
     slice_get plan.controllers c ≡ Some chips → slice_get courses c ≡ Some own → IsTrueHistory plan c chips own
 
--- (Not proved yet.) The third part: after any cut, rescanning shows bad what was acknowledged, and nothing
--- whose marking had not begun;
--- and at each moment of each boot one whole copy of a table stays, and two whole copies hold the table in memory.
+-- (Not proved yet.) The third part: after any cut, rescanning shows bad what was acknowledged, and
+-- nothing whose marking had not begun; and at each moment of each boot one whole copy of a table
+-- stays, and two whole copies hold the table in memory.
 pub record KeepsMarks (plan : PlanData) (c : ℕ) (chips : List ChipPlan) (own : List (Course SimFaults)) : Type 0 where
   pub marks : (k : ℕ) (chip : ChipPlan) → slice_get chips k ≡ Some chip
       → MarksSurvive (devices_of plan c chips) k chip.geometry chip.bad own
@@ -114,8 +120,8 @@ is_session_of c (Some session) = session.controller == c
 abbrev pub is_own : BootPlan → ℕ → ℕ → Bool
 is_own boot c s = is_session_of c (slice_get boot.sessions s)
 
--- the turns of a replay: those of the schedule, and then so many rounds of all sessions, as far as they are
--- this controller's
+-- the turns of a replay: those of the schedule, and then so many rounds of all sessions, as far as
+-- they are this controller's
 abbrev pub replay_turns : BootPlan → ℕ → ℕ → List ℕ
 replay_turns boot rounds c =
     filter (is_own boot c) (boot.schedule ++ concat (replicate rounds (numbers_from 0 (length boot.sessions))))

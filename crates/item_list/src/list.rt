@@ -50,7 +50,8 @@ impl<T> ItemList<T> {
         Vec::from(self.items)
     }
 
-    /// Adds an item at the end. Where memory runs out, the item is handed back and the list is as before.
+    /// Adds an item at the end. Where memory runs out, the item is handed back and the list is as
+    /// before.
     pub fn push(&mut self, item: T) -> Result<(), (T, AllocError)>
         ensures ok { OnOk result (self.new ≡ self.old ++ item ∷ []) }
         ensures err { OnErr result (self.new ≡ self.old) }
@@ -104,7 +105,8 @@ impl<T> ItemList<T> {
 }
 
 impl<T: Drop> ItemList<T> {
-    /// Adds an item at the end. Where memory runs out, the item is dropped and the list is as before.
+    /// Adds an item at the end. Where memory runs out, the item is dropped and the list is as
+    /// before.
     pub fn append(&mut self, item: T) -> Result<(), AllocError>
         ensures ok { OnOk result (self.new ≡ self.old ++ item ∷ []) }
         ensures err { OnErr result (self.new ≡ self.old) }

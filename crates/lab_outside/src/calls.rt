@@ -5,7 +5,8 @@ ghost use Rattle.lab_outside.specs.Outside.{raised};
 use crate::Failed;
 use nand_model::BlockList;
 
-/// How many calls were made, how many of them failed, and the numbers of those that are to fail, counted from 1.
+/// How many calls were made, how many of them failed, and the numbers of those that are to fail,
+/// counted from 1.
 #[derive(Drop)]
 pub struct Calls {
     made: u64,

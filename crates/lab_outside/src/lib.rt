@@ -1,4 +1,5 @@
-//! The outside of a run: sources of bytes and sinks of bytes, in memory and over std's readers and writers.
+//! The outside of a run: sources of bytes and sinks of bytes, in memory and over std's readers and
+//! writers.
 #![tactic(auto)]
 
 mod calls;

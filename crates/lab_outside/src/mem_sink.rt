@@ -8,7 +8,8 @@ use nand_model::BlockList;
 use std::alloc::{AllocError, Global};
 use std::marker::Model;
 
-/// A sink that takes at most `piece` bytes in a call, holds at most `room` bytes, and fails at chosen calls.
+/// A sink that takes at most `piece` bytes in a call, holds at most `room` bytes, and fails at
+/// chosen calls.
 #[derive(Drop)]
 pub struct MemSink {
     bytes: Vec<u8>,
@@ -29,8 +30,8 @@ impl Model for MemSink {
 }
 
 impl MemSink {
-    /// An empty sink with memory for `room` bytes, which fails exactly at the call numbers in `failing`, counted from 1,
-    /// and where it is full.
+    /// An empty sink with memory for `room` bytes, which fails exactly at the call numbers in
+    /// `failing`, counted from 1, and where it is full.
     pub fn new(
         alloc: Global,
         room: usize,
@@ -63,10 +64,12 @@ impl Sink for MemSink {
 
     ghost faults = { λ s. s.faults };
 
-    /// Takes the front of `bytes`: at most `piece` bytes, as many as there is room for. It takes no memory.
+    /// Takes the front of `bytes`: at most `piece` bytes, as many as there is room for. It takes no
+    /// memory.
     ///
-    /// Errors: `Failed` exactly where the number of this call is one of those that fail, or where there is no room left
-    /// for bytes that are not empty. Nothing but the counts of calls and of faults changes then.
+    /// Errors: `Failed` exactly where the number of this call is one of those that fail, or where
+    /// there is no room left for bytes that are not empty. Nothing but the counts of calls and of
+    /// faults changes then.
     fn write(&mut self, bytes: &[u8]) -> Result<usize, Failed>
         ensures fails { IsErr result
             ↔ (Contains self.old.failing (raised self.old.calls) ⊎ ((0 < length bytes.now) × (length self.old.held ≡ self.old.room))) }

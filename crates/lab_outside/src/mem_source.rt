@@ -7,7 +7,8 @@ use crate::{Failed, Source};
 use nand_model::{BlockList, Bytes};
 use std::marker::Model;
 
-/// A source that gives the bytes of a list in order, at most `piece` of them in a call, and fails at chosen calls.
+/// A source that gives the bytes of a list in order, at most `piece` of them in a call, and fails
+/// at chosen calls.
 #[derive(Drop)]
 pub struct MemSource {
     bytes: Bytes,
@@ -47,10 +48,11 @@ impl Source for MemSource {
 
     ghost faults = { λ s. s.faults };
 
-    /// The next bytes: at most `piece` of them, as many as are left and as `buf` holds. The rest of `buf` stays.
+    /// The next bytes: at most `piece` of them, as many as are left and as `buf` holds. The rest of
+    /// `buf` stays.
     ///
-    /// Errors: `Failed` exactly where the number of this call is one of those that fail. Nothing but the counts
-    /// of calls and of faults changes then.
+    /// Errors: `Failed` exactly where the number of this call is one of those that fail. Nothing
+    /// but the counts of calls and of faults changes then.
     fn read(&mut self, buf: &mut [u8]) -> Result<usize, Failed>
         ensures fails { IsErr result ↔ Contains self.old.failing (raised self.old.calls) }
         ensures failed { OnErr result (self.new

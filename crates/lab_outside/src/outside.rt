@@ -10,7 +10,8 @@ use thiserror::Error;
 #[error("the outside failed")]
 pub struct Failed;
 
-/// A source of bytes. It may tell the bytes that it has left, and tells them either always or never.
+/// A source of bytes. It may tell the bytes that it has left, and tells them either always or
+/// never.
 ///
 /// Its count of faults is a `u64` that never falls, and that stays at 2^64 - 1.
 pub trait Source {
@@ -19,10 +20,11 @@ pub trait Source {
 
     ghost faults: { Self → ℕ };
 
-    /// Puts the next bytes into the front of `buf` and answers their number. 0 for a buffer that is not empty is
-    /// the end of the input.
+    /// Puts the next bytes into the front of `buf` and answers their number. 0 for a buffer that is
+    /// not empty is the end of the input.
     ///
-    /// Errors: `Failed` only where the count of faults rose in this call, and then no byte was taken. It rises in no other call.
+    /// Errors: `Failed` only where the count of faults rose in this call, and then no byte was
+    /// taken. It rises in no other call.
     fn read(&mut self, buf: &mut [u8]) -> Result<usize, Failed>
         ensures count { faults self.old ≤ faults self.new }
         ensures counted { faults self.new < 2 ^ 64 }
@@ -45,9 +47,11 @@ pub trait Sink {
 
     ghost faults: { Self → ℕ };
 
-    /// Takes a prefix of `bytes` and answers its length, which is at least 1 where `bytes` is not empty.
+    /// Takes a prefix of `bytes` and answers its length, which is at least 1 where `bytes` is not
+    /// empty.
     ///
-    /// Errors: `Failed` only where the count of faults rose in this call, and then no byte was taken.
+    /// Errors: `Failed` only where the count of faults rose in this call, and then no byte was
+    /// taken.
     fn write(&mut self, bytes: &[u8]) -> Result<usize, Failed>
         ensures count { faults self.old ≤ faults self.new }
         ensures counted { faults self.new < 2 ^ 64 }

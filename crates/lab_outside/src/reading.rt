@@ -46,8 +46,8 @@ const PIECE: usize = 65_536;
 
 /// Reads all that the source has left, at most `limit` bytes, in pieces of up to 65,536 bytes.
 ///
-/// Errors: `TooLong` as soon as more bytes than `limit` have come. `Failed` where a call of the source failed before that.
-/// `Memory` where memory ran out. What had come is lost then.
+/// Errors: `TooLong` as soon as more bytes than `limit` have come. `Failed` where a call of the
+/// source failed before that. `Memory` where memory ran out. What had come is lost then.
 pub fn read_to_end<S: Source>(
     alloc: Global,
     source: &mut S,

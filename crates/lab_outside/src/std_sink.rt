@@ -38,7 +38,8 @@ impl<W: Write> Sink for StdSink<W> {
 
     /// What the writer takes.
     ///
-    /// Errors: `Failed` where the writer answers an error, of any kind, or takes nothing of bytes that are not empty.
+    /// Errors: `Failed` where the writer answers an error, of any kind, or takes nothing of bytes
+    /// that are not empty.
     fn write(&mut self, bytes: &[u8]) -> Result<usize, Failed> {
         match self.writer.write(bytes) {
             Ok(count) if count > 0 || bytes.is_empty() => Ok(count),

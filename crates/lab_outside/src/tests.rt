@@ -85,7 +85,8 @@ fn whole_texts(rt: HostRuntime) -> Result<(), Fail> {
     Ok(())
 }
 
-/// Gives the bytes of a text, at most three in a call, but answers an error in place of the second call.
+/// Gives the bytes of a text, at most three in a call, but answers an error in place of the second
+/// call.
 #[derive(Drop)]
 struct Faltering<'a> {
     left: &'a [u8],
@@ -122,7 +123,8 @@ fn reader_as_a_source(rt: HostRuntime) {
     }
 }
 
-/// Takes at most three bytes in a call, but answers an error in place of the second call, and takes nothing in the fourth.
+/// Takes at most three bytes in a call, but answers an error in place of the second call, and takes
+/// nothing in the fourth.
 #[derive(Drop)]
 struct Short {
     taken: Vec<u8>,

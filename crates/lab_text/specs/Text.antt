@@ -38,8 +38,8 @@ blank_length bytes = prefix_len is_blank bytes
 abbrev pub word_length : List ℕ → ℕ
 word_length bytes = position_or_len is_blank bytes
 
--- a byte that is no blank, before a text: it begins a word where a blank or the end follows, else it belongs to the
--- word that follows
+-- a byte that is no blank, before a text: it begins a word where a blank or the end follows, else
+-- it belongs to the word that follows
 abbrev pub with_letter : ℕ → List ℕ → List (List ℕ) → List (List ℕ)
 with_letter byte [] runs = (byte ∷ []) ∷ runs
 with_letter byte (next ∷ bytes) runs = if is_blank next then (byte ∷ []) ∷ runs else with_byte byte runs

@@ -9,9 +9,8 @@ const LONGEST: usize = 65_536;
 #[derive(Clone, Copy, Debug, PartialEq, Eq)]
 pub struct LineTooLong;
 
-/// The place of the LF that ends the line at `from`, or the end of the bytes where none follows. `LineTooLong` comes
-/// exactly where the line has more than
-/// 65,536 bytes. It takes no memory.
+/// The place of the LF that ends the line at `from`, or the end of the bytes where none follows.
+/// `LineTooLong` comes exactly where the line has more than 65,536 bytes. It takes no memory.
 pub fn line_end(bytes: &[u8], from: usize) -> Result<usize, LineTooLong>
     requires { from ≤ length bytes.now }
     ensures place { IfOk result (λ end. end ≡ from + line_length (drop from bytes.now)) }
@@ -60,9 +59,9 @@ fn skip_letters(line: &[u8], from: usize) -> usize
     place
 }
 
-/// The start and the end of the next word of a line at or after `from`. Words stand between spaces and tabs, and one
-/// that begins with `#` begins a comment up to
-/// the line's end. None comes exactly where no word follows. It takes no memory.
+/// The start and the end of the next word of a line at or after `from`. Words stand between spaces
+/// and tabs, and one that begins with `#` begins a comment up to the line's end. None comes exactly
+/// where no word follows. It takes no memory.
 pub fn word(line: &[u8], from: usize) -> Option<(usize, usize)>
     requires { from ≤ length line.now }
     ensures none { IfNone result (words_of (drop from line.now) ≡ []) }

@@ -35,9 +35,8 @@ fn value_of(digits: &[u8], base: u32) -> Option<u64>
     Some(value)
 }
 
-/// The number of a word: decimal digits, or `0x` and hexadecimal digits of either case. None comes exactly where the
-/// word is no number or one above 2^64 - 1.
-/// It takes no memory.
+/// The number of a word: decimal digits, or `0x` and hexadecimal digits of either case. None comes
+/// exactly where the word is no number or one above 2^64 - 1. It takes no memory.
 pub fn number(word: &[u8]) -> Option<u64>
     ensures { result ≡ number_of word.now }
 {
@@ -47,15 +46,16 @@ pub fn number(word: &[u8]) -> Option<u64>
     }
 }
 
-/// The number of decimal digits. None comes exactly where the word is no such number or one above 2^64 - 1. It takes
-/// no memory.
+/// The number of decimal digits. None comes exactly where the word is no such number or one above
+/// 2^64 - 1. It takes no memory.
 pub fn decimal(word: &[u8]) -> Option<u64>
     ensures { result ≡ number_in 10 word.now }
 {
     value_of(word, 10)
 }
 
-/// Appends the decimal digits of a number, without leading zeros. Where memory runs out, a part of them may be there.
+/// Appends the decimal digits of a number, without leading zeros. Where memory runs out, a part of
+/// them may be there.
 pub fn put_number(out: &mut Bytes, n: u64) -> Result<(), AllocError>
     ensures { OnOk result (out.new ≡ out.old ++ decimal n) }
 {
@@ -63,7 +63,8 @@ pub fn put_number(out: &mut Bytes, n: u64) -> Result<(), AllocError>
     out.push_slice(buffer.format(n).as_bytes())
 }
 
-/// Appends the eight hexadecimal digits of a number, in lower case. Where memory runs out, a part of them may be there.
+/// Appends the eight hexadecimal digits of a number, in lower case. Where memory runs out, a part
+/// of them may be there.
 pub fn put_hex8(out: &mut Bytes, n: u32) -> Result<(), AllocError>
     ensures { OnOk result (out.new ≡ out.old ++ encode_lower (to_be_bytes w32 n)) }
 {

@@ -19,7 +19,8 @@ LeavesChip blocks part = (part.count ≡ 0) ⊎ (blocks < part.start + part.coun
 abbrev pub AreApart : List Part → Type 0
 AreApart parts = (i j : ℕ) (a b : Part) → slice_get parts i ≡ Some a → slice_get parts j ≡ Some b → SharesBlock a b → i ≡ j
 
--- the partitions of a controller: each lies within the largest chip, no block is in two of them, and each has a device number
+-- the partitions of a controller: each lies within the largest chip, no block is in two of them,
+-- and each has a device number
 pub record ArePartitions (first : ℕ) (parts : List Part) : Type 0 where
   pub within : All (LiesWithin 4096) parts
   pub apart : AreApart parts

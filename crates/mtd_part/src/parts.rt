@@ -8,7 +8,8 @@ use std::alloc::{AllocFailed, Global};
 use std::marker::Model;
 use thiserror::Error;
 
-/// The partitions of a controller by device number, from a first number on. No two of them share a block (after Linux's mtdpart).
+/// The partitions of a controller by device number, from a first number on. No two of them share a
+/// block (after Linux's mtdpart).
 #[derive(Drop)]
 pub struct Parts {
     lowest: u32,
@@ -63,7 +64,8 @@ impl Parts {
         }
     }
 
-    /// Adds a partition of a chip that has so many blocks, and gives its device number. Where it is refused, the partitions are as before.
+    /// Adds a partition of a chip that has so many blocks, and gives its device number. Where it is
+    /// refused, the partitions are as before.
     pub fn add(&mut self, part: Part, blocks: u32) -> Result<u32, PartError>
         requires blocks { blocks ≤ 4096 }
         requires numbers { self.old.first + length self.old.parts < 2 ^ 32 - 1 }
@@ -114,7 +116,8 @@ impl Parts {
         self.items.get((dev - self.lowest) as usize)
     }
 
-    /// The chip's block of a block of a device. None comes exactly where the number is not below the partition's.
+    /// The chip's block of a block of a device. None comes exactly where the number is not below
+    /// the partition's.
     pub fn block(&self, dev: u32, block: u32) -> Option<u32>
         requires { IsSome (part_of self.now dev) }
         ensures { IfSome (part_of self.now dev) (λ part. SomeIff result (block < part.count) (part.start + block)) }
@@ -127,7 +130,8 @@ impl Parts {
         }
     }
 
-    /// The chip's page of a page of a device. None comes exactly where the number is not below the partition's.
+    /// The chip's page of a page of a device. None comes exactly where the number is not below the
+    /// partition's.
     pub fn page(&self, dev: u32, page: u32, pages_per_block: u32) -> Option<u32>
         requires device { IsSome (part_of self.now dev) }
         requires pages { pages_per_block ≤ 128 }

@@ -19,8 +19,10 @@ pub struct EraseFailed;
 
 /// A NAND flash chip, by page reads, page programs and block erases.
 ///
-/// Pages are counted from 0 over the whole chip, blocks from 0. A page is read and programmed with its spare area, in slices of `raw_len` bytes.
-/// Contracts see a chip as its `state`: the cells of each page and what befell them, the data from which it follows which call fails, and a count of faults.
+/// Pages are counted from 0 over the whole chip, blocks from 0. A page is read and programmed with
+/// its spare area, in slices of `raw_len` bytes. Contracts see a chip as its `state`: the cells of
+/// each page and what befell them, the data from which it follows which call fails, and a count of
+/// faults.
 pub trait Flash: Drop {
     /// The data of an implementation's own, by which calls fail.
     ghost FaultState: { Type 0 };
@@ -45,7 +47,8 @@ pub trait Flash: Drop {
         ensures sizes { result ≡ (state self.now).geometry }
         ensures whole_pages { HasWholePages (state self.now) };
 
-    /// Makes the room at least `pages` and the bit room at least `bits`, and changes nothing else. Where memory runs out, neither is less than before.
+    /// Makes the room at least `pages` and the bit room at least `bits`, and changes nothing else.
+    /// Where memory runs out, neither is less than before.
     fn reserve(&mut self, pages: u32, bits: u32) -> Result<(), AllocError>
         ensures room { OnOk result (pages ≤ room self.new) }
         ensures bit_room { OnOk result (bits ≤ bit_room self.new) }
@@ -60,7 +63,8 @@ pub trait Flash: Drop {
 
     /// Programs a page: its cells become `old AND image`. It takes at most one page of the room.
     ///
-    /// `ProgramFailed` comes exactly where the chip's fault model fails this call. The count of faults then rises, and the page is torn.
+    /// `ProgramFailed` comes exactly where the chip's fault model fails this call. The count of
+    /// faults then rises, and the page is torn.
     fn program_page(&mut self, page: u32, image: &[u8]) -> Result<(), ProgramFailed>
         requires place { FitsPage (state self.old).geometry page image.now }
         requires room { 0 < room self.old }
@@ -72,7 +76,8 @@ pub trait Flash: Drop {
 
     /// Erases a block: the cells of its pages become 0xFF throughout. It takes no room.
     ///
-    /// `EraseFailed` comes exactly where the chip's fault model fails this call. The count of faults then rises, and the pages of the block are torn.
+    /// `EraseFailed` comes exactly where the chip's fault model fails this call. The count of
+    /// faults then rises, and the pages of the block are torn.
     fn erase_block(&mut self, block: u32) -> Result<(), EraseFailed>
         requires { block < (state self.old).geometry.blocks }
         ensures state { state self.new ≡ happens fault_model (state self.old) (Complete (EraseEvent block)) }
@@ -81,8 +86,9 @@ pub trait Flash: Drop {
         ensures room { room self.old ≤ room self.new }
         ensures bit_room { bit_room self.old ≤ bit_room self.new };
 
-    /// Turns these bits of a page one after the other; bit 0 is the highest of byte 0. Each counts as one flip, and a bit that stands twice is turned twice.
-    /// It takes at most one page of the room, and of the bit room at most the number of the bits.
+    /// Turns these bits of a page one after the other; bit 0 is the highest of byte 0. Each counts
+    /// as one flip, and a bit that stands twice is turned twice. It takes at most one page of the
+    /// room, and of the bit room at most the number of the bits.
     fn flip(&mut self, page: u32, bits: &BlockList)
         requires place { FitsBits (state self.old).geometry page bits.now }
         requires room { 0 < room self.old }
@@ -91,12 +97,15 @@ pub trait Flash: Drop {
         ensures room { room self.old ≤ room self.new + 1 }
         ensures bit_room { bit_room self.old ≤ bit_room self.new + length bits.now };
 
-    /// The number of flips that were made in bits `from` up to but not including `to` of a page since its last erase that answered Ok, or since the chip was made; 2^32 - 1 where there are more.
+    /// The number of flips that were made in bits `from` up to but not including `to` of a page
+    /// since its last erase that answered Ok, or since the chip was made; 2^32 - 1 where there are
+    /// more.
     fn flips(&self, page: u32, from: u32, to: u32) -> u32
         requires { page < page_count (state self.now).geometry }
         ensures { result ≡ min (flips_between ((state self.now).pages page).flips from to) (2 ^ 32 - 1) };
 
-    /// Whether a bit of a page was flipped since its last good program or erase, or since the first torn or failed one after that.
+    /// Whether a bit of a page was flipped since its last good program or erase, or since the first
+    /// torn or failed one after that.
     fn flipped_since(&self, page: u32) -> bool
         requires { page < page_count (state self.now).geometry }
         ensures { result ≡ ((state self.now).pages page).flipped_since };

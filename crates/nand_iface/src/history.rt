@@ -5,7 +5,8 @@ use nand_model::Note;
 use std::alloc::{AllocError, Global};
 use std::marker::Model;
 
-/// A list of notes in the order in which they were made. Contracts see it as the notes beside its room: how many more may be added without memory.
+/// A list of notes in the order in which they were made. Contracts see it as the notes beside its
+/// room: how many more may be added without memory.
 #[derive(Drop)]
 pub struct History {
     notes: Vec<Note>,
@@ -30,7 +31,8 @@ impl History {
         }
     }
 
-    /// Makes the room at least `notes`, and leaves the notes as they are. Where memory runs out, the room is no less than before.
+    /// Makes the room at least `notes`, and leaves the notes as they are. Where memory runs out,
+    /// the room is no less than before.
     pub fn reserve(&mut self, notes: u32) -> Result<(), AllocError>
         ensures room { OnOk result (notes ≤ self.new.room) }
         ensures no_less { self.old.room ≤ self.new.room }

@@ -9,7 +9,8 @@ ghost use Rattle.nand_model.specs.Counts.{HasRisen};
 use crate::{EraseFailed, Flash, ProgramFailed};
 use nand_model::BlockList;
 
-/// Programs a page as `Flash::program_page` does. Its clauses say what a caller sees of the pages, and that the state is still the fold of its trace.
+/// Programs a page as `Flash::program_page` does. Its clauses say what a caller sees of the pages,
+/// and that the state is still the fold of its trace.
 pub fn program_one_page<F: Flash>(
     flash: &mut F,
     page: u32,
@@ -29,7 +30,8 @@ pub fn program_one_page<F: Flash>(
     flash.program_page(page, image)
 }
 
-/// Erases a block as `Flash::erase_block` does. Its clauses say what a caller sees of the pages, and that the state is still the fold of its trace.
+/// Erases a block as `Flash::erase_block` does. Its clauses say what a caller sees of the pages,
+/// and that the state is still the fold of its trace.
 pub fn erase_one_block<F: Flash>(flash: &mut F, block: u32) -> Result<(), EraseFailed>
     requires { block < (F.state flash.old).geometry.blocks }
     ensures erased { OnOk result ((p : ℕ) → p / (F.state flash.old).geometry.pages_per_block ≡ block
@@ -45,7 +47,8 @@ pub fn erase_one_block<F: Flash>(flash: &mut F, block: u32) -> Result<(), EraseF
     flash.erase_block(block)
 }
 
-/// Turns bits of a page as `Flash::flip` does. Its clauses say what a caller sees of the pages, and that the state is still the fold of its trace.
+/// Turns bits of a page as `Flash::flip` does. Its clauses say what a caller sees of the pages, and
+/// that the state is still the fold of its trace.
 pub fn turn_bits<F: Flash>(flash: &mut F, page: u32, bits: &BlockList)
     requires place { FitsBits (F.state flash.old).geometry page bits.now }
     requires room { 0 < F.room flash.old }

@@ -1,4 +1,5 @@
-//! What the layers above a chip know of it: the traits of a flash chip and of a page's code, and the list of notes that a controller keeps.
+//! What the layers above a chip know of it: the traits of a flash chip and of a page's code, and
+//! the list of notes that a controller keeps.
 #![tactic(auto)]
 
 mod flash;

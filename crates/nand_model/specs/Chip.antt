@@ -1,5 +1,5 @@
--- A chip: the cells of its pages, what befell them, and the events that change them (nandsim in outline;
--- tears and weak places are this project's own).
+-- A chip: the cells of its pages, what befell them, and the events that change them (nandsim in
+-- outline; tears and weak places are this project's own).
 use Rattle.std.specs.Prelude.{ℕ, ◌+◌, ◌-◌, ◌*◌, ◌/◌, ◌%◌, ◌^◌, min, Bool, true, false, ◌&&◌, nat_le, nat_lt, ◌==◌, if◌then◌else◌, List, [], ◌∷◌, ◌++◌, map, replicate, slice_index, slice_set, bit_and, bit_or, Option, Some, None}
 use Rattle.std.specs.List.{list_any}
 use Rattle.nand_model.specs.Seeds.{seed_byte}
@@ -12,8 +12,8 @@ use Rattle.nand_model.specs.declared.words.Weak.{Weak}
 use Rattle.nand_model.specs.declared.words.WeakKind.{WeakKind}
 use Rattle.nand_model.specs.declared.words.WeakKind.TheVariants.{Program as WeakProgram, Erase as WeakErase}
 
--- the bits that a torn event did: for each page of a block (0 for a program) and each byte of the page, a
--- number whose low 8 bits count
+-- the bits that a torn event did: for each page of a block (0 for a program) and each byte of the
+-- page, a number whose low 8 bits count
 abbrev pub DoneBits : Type 0
 DoneBits = ℕ → ℕ → ℕ
 
@@ -42,9 +42,9 @@ torn_programmed old image done =
 abbrev pub torn_erased : List ℕ → (ℕ → ℕ) → List ℕ
 torn_erased old done = map_from 0 (λ i byte. bit_or byte (done i % 0x100)) old
 
--- a page's cells, the bits flipped since its last good erase, whether its last program or erase was torn or
--- failed, and whether a bit was flipped since its last good program or erase, or since the first torn or
--- failed one after that
+-- a page's cells, the bits flipped since its last good erase, whether its last program or erase was
+-- torn or failed, and whether a bit was flipped since its last good program or erase, or since the
+-- first torn or failed one after that
 pub record PageState : Type 0 where
   pub cells : List ℕ
   pub flips : List ℕ
@@ -60,8 +60,8 @@ pub data Call : Type 0 where
   ProgramCall : (page : ℕ) → Call
   EraseCall : (block : ℕ) → Call
 
--- a fault model: from data of an implementation's own it follows which call fails, with which done bits, and
--- what each call makes of the data
+-- a fault model: from data of an implementation's own it follows which call fails, with which done
+-- bits, and what each call makes of the data
 pub record FaultModel (W : Type 0) : Type 0 where
   pub fails : W → Call → Option DoneBits
   pub after_call : W → Call → W
@@ -79,8 +79,8 @@ pub data PageEvent : Type 0 where
   ProgramEvent : (page : ℕ) → (image : List ℕ) → PageEvent
   EraseEvent : (block : ℕ) → PageEvent
 
--- what may befall a chip: an event that is completed (good or failed), an event that a power cut tears, or a
--- flip of a bit
+-- what may befall a chip: an event that is completed (good or failed), an event that a power cut
+-- tears, or a flip of a bit
 pub data ChipEvent : Type 0 where
   Complete : PageEvent → ChipEvent
   PowerCut : PageEvent → DoneBits → ChipEvent
@@ -193,8 +193,8 @@ module _ {W : Type 0} (model : FaultModel W) where
   after_trace s [] = s
   after_trace s (e ∷ es) = after_trace (happens s e) es
 
--- A simulated chip: its fault model goes by its weak places, each with the number of calls so far, counted up
--- to its `after`.
+-- A simulated chip: its fault model goes by its weak places, each with the number of calls so far,
+-- counted up to its `after`.
 
 -- a weak place with its number of calls
 abbrev pub WeakCount : Type 0
@@ -226,8 +226,8 @@ weak_after_call [] call = []
 weak_after_call ((weak, calls) ∷ rest) call =
     (weak, (if is_weak_at weak call then min (calls + 1) weak.after else calls)) ∷ weak_after_call rest call
 
--- what the faults of a simulated chip depend on: the bytes of its pages, by which a tear's bits are numbered,
--- and its weak places
+-- what the faults of a simulated chip depend on: the bytes of its pages, by which a tear's bits are
+-- numbered, and its weak places
 pub record SimFaults : Type 0 where
   pub raw : ℕ
   pub weak : List WeakCount

@@ -2,7 +2,8 @@
 --
 --   spare bytes                          use
 --   0, 1                                 marker; only byte 0 is looked at
---   2 up to the first parity byte        free; with a table header in the spare, pattern in 8 to 11 and version in 12
+--   2 up to the first parity byte        free; with a table header in the spare, pattern in 8 to 11
+-- and version in 12
 --   from there on, step after step       the stored parity of each step
 use Rattle.std.specs.Prelude.{ℕ, ◌+◌, ◌-◌, ◌*◌, ◌/◌, ◌%◌, Bool, ◌&&◌, ◌||◌, not, ◌==◌, nat_le, IsTrue, if◌then◌else◌}
 use Rattle.code_model.specs.Code.{Code, code_512, parity_len}

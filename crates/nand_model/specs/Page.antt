@@ -1,4 +1,5 @@
--- A page with its steps, words and parities (the large-page layout of nand_base), and what a read of it decodes.
+-- A page with its steps, words and parities (the large-page layout of nand_base), and what a read
+-- of it decodes.
 use Rattle.std.specs.Prelude.{ℕ, ◌+◌, ◌*◌, ◌<◌, max, List, [], ◌∷◌, ◌++◌, map, take, drop, flat_map, sum_by, count_by, fold, slice_range, Option, Some, None, is_none, unwrap_or, slice_index, ◌==◌, nat_le, if◌then◌else◌, ◌-◌, replicate, ◌≡◌, length, All}
 use Rattle.code_model.specs.Bits.{bits_of, bytes_of_bits}
 use Rattle.code_model.specs.Code.{Code, body_bits, parity_bits, IsCodeWord, nearest, parity_of, masked}
@@ -17,7 +18,8 @@ stored_parity g cells s =
     slice_range cells (g.page + parity_start g + s * parity_bytes g) (g.page + parity_start g + (s + 1) * parity_bytes
     g)
 
--- the word of a step: its body bits and the parity bits as they are stored; no padding bit belongs to it
+-- the word of a step: its body bits and the parity bits as they are stored; no padding bit belongs
+-- to it
 abbrev pub step_word : Geometry → List ℕ → ℕ → List ℕ
 step_word g cells s =
     bits_of (step_body g cells s) ++ take (parity_bits (code_of g)) (bits_of (stored_parity g cells s))
@@ -31,7 +33,8 @@ abbrev pub IsWhole : Geometry → List ℕ → Type 0
 IsWhole g cells = (s : ℕ) → s < step_count g
     → IsCodeWord (code_of g) (received_word (code_of g) (step_body g cells s) (stored_parity g cells s))
 
--- the page of a body and free bytes: the marker bytes are 0xFF, and each parity completes its step, with padding bits 1
+-- the page of a body and free bytes: the marker bytes are 0xFF, and each parity completes its step,
+-- with padding bits 1
 abbrev pub page_image : Geometry → List ℕ → List ℕ → List ℕ
 page_image g body free =
     body ++ (0xff ∷ 0xff ∷ []) ++ free
@@ -45,8 +48,8 @@ free_bytes g cells = slice_range cells (g.page + 2) (g.page + parity_start g)
 abbrev pub encoded : Geometry → List ℕ → List ℕ
 encoded g cells = page_image g (take g.page cells) (free_bytes g cells)
 
--- what the decoding of a step gives: its body and stored parity, and the number of bits put right, or nothing
--- where it failed
+-- what the decoding of a step gives: its body and stored parity, and the number of bits put right,
+-- or nothing where it failed
 pub record StepRead : Type 0 where
   pub body : List ℕ
   pub parity : List ℕ

@@ -68,7 +68,8 @@ module _ {W : Type 0} (model : FaultModel W) where
   answer_to s (ProgramEvent page image) = good_or_failed (failure_of model s (ProgramCall page))
   answer_to s (EraseEvent block) = good_or_failed (failure_of model s (EraseCall block))
 
-  -- the trace goes along the path, with flips between its events, and may end with the next event torn by a power cut
+  -- the trace goes along the path, with flips between its events, and may end with the next event
+  -- torn by a power cut
   abbrev pub GoesAlong : (List Answer → Option PageEvent) → ChipState W → List Answer → List ChipEvent → Type 0
   GoesAlong next s answers [] = ⊤
   GoesAlong next s answers (Flipped page bit ∷ trace) =

@@ -1,5 +1,5 @@
--- What a torn event leaves of a table page (its fairness), and when the markers and tables of a chip are free
--- of foreign flips (the quiet of an attach). Both are this project's own.
+-- What a torn event leaves of a table page (its fairness), and when the markers and tables of a
+-- chip are free of foreign flips (the quiet of an attach). Both are this project's own.
 use Rattle.std.specs.Prelude.{ℕ, ◌+◌, ◌*◌, Bool, true, false, not, ◌&&◌, ◌||◌, ◌==◌, nat_le, if◌then◌else◌, List, Option, Some, None}
 use Rattle.std.specs.List.{list_any, list_all}
 use Rattle.nand_model.specs.Sizes.{code_of, step_count, parity_bytes, parity_start, numbers_from, first_page}
@@ -24,12 +24,14 @@ abbrev pub judged_beside : Copy → Option Copy → Fairness
 judged_beside seen (Some wanted) = if same_copy seen wanted then Whole else Foul
 judged_beside seen None = Foul
 
--- a page that holds no copy is missing one, one that holds the copy wanted is whole, and anything else is foul
+-- a page that holds no copy is missing one, one that holds the copy wanted is whole, and anything
+-- else is foul
 abbrev pub judged : Option Copy → Option Copy → Fairness
 judged None wanted = Missing
 judged (Some seen) wanted = judged_beside seen wanted
 
--- a page after a torn event beside the page that was wanted there, where the page is one that tables stand in
+-- a page after a torn event beside the page that was wanted there, where the page is one that
+-- tables stand in
 abbrev pub fairness_if : Bool → Geometry → List ℕ → List ℕ → Fairness
 fairness_if true g seen wanted = judged (copy_in g seen) (copy_in g wanted)
 fairness_if false g seen wanted = Plain
@@ -56,7 +58,8 @@ word_flips g flips s =
 abbrev pub is_correctable : Geometry → PageState → Bool
 is_correctable g page = list_all (λ s. nat_le (word_flips g page.flips s) g.t) (numbers_from 0 (step_count g))
 
--- a table page: no flip in a header in the spare, few enough in each word, and none since a torn or failed event
+-- a table page: no flip in a header in the spare, few enough in each word, and none since a torn or
+-- failed event
 abbrev pub is_quiet_table_page : Geometry → PageState → Bool
 is_quiet_table_page g page =
     (not (g.bbt == 1) || has_no_flip_in page (g.page + 8) (g.page + 13))

@@ -1,13 +1,13 @@
--- Tables of block states (0 good, 1 worn, 2 reserved, 3 factory bad), their bytes, their pages, and the copy
--- that a page holds (nand_bbt).
+-- Tables of block states (0 good, 1 worn, 2 reserved, 3 factory bad), their bytes, their pages, and
+-- the copy that a page holds (nand_bbt).
 --
 --                        header in the spare     header in the body
 --   pattern, 4 bytes     spare 8 to 11           body 0 to 3
 --   version, 1 byte      spare 12                body 4
 --   table, blocks / 4    body from 0             body from 5
 --
--- The entry of block b stands in table byte b / 4 at bits 2 (b mod 4) and the next higher one; all other
--- bytes are 0xFF.
+-- The entry of block b stands in table byte b / 4 at bits 2 (b mod 4) and the next higher one; all
+-- other bytes are 0xFF.
 use Rattle.std.specs.Prelude.{◌≡◌, ℕ, ◌+◌, ◌-◌, ◌*◌, ◌/◌, ◌%◌, Bool, true, false, ◌&&◌, ◌==◌, if◌then◌else◌, List, [], ◌∷◌, ◌++◌, length, map, flat_map, slice_range, slice_index, replicate, Option, Some, None, is_none, is_some, bytes_eq, refl, not, ◌||◌}
 use Rattle.nand_model.specs.Page.{Decoding, encoded, decoded, step_read}
 use Rattle.nand_model.specs.declared.geometry.Geometry.{Geometry}
@@ -71,8 +71,8 @@ which_of bytes =
     if bytes_eq bytes (pattern Primary) then Some Primary else (if bytes_eq bytes (pattern Mirror) then Some Mirror
     else None)
 
--- where the header stands: its four bytes of pattern and its version, and the bytes of the table, in a page
--- as it is read
+-- where the header stands: its four bytes of pattern and its version, and the bytes of the table,
+-- in a page as it is read
 abbrev pub header_at : Geometry → ℕ
 header_at g = if g.bbt == 1 then g.page + 8 else 0
 
@@ -110,7 +110,8 @@ copy_if false g cells = let d : Decoding = decoded g cells in copy_of_kind g d (
 abbrev pub copy_in : Geometry → List ℕ → Option Copy
 copy_in g cells = copy_if (g.bbt == 1) g cells
 
--- why a page holds no copy: there is no pattern, which a header in the body shows only where its step is readable
+-- why a page holds no copy: there is no pattern, which a header in the body shows only where its
+-- step is readable
 abbrev pub has_no_pattern : Bool → Geometry → List ℕ → Bool
 has_no_pattern true g cells = is_none (kind_in g cells)
 has_no_pattern false g cells = is_some (step_read g cells 0).corrected && is_none (kind_in g (decoded g cells).image)

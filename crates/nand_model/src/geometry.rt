@@ -5,7 +5,8 @@ ghost use Rattle.nand_model.specs.Layout.{IsGeometry, has_sizes, has_page_size, 
 
 use thiserror::Error;
 
-/// The sizes of a chip, the strength of its code, where its bad-block tables stand, and its threshold of bit flips (after the parameters of nandsim).
+/// The sizes of a chip, the strength of its code, where its bad-block tables stand, and its
+/// threshold of bit flips (after the parameters of nandsim).
 #[derive(Clone, Copy, Debug, PartialEq, Eq)]
 pub struct Geometry {
     /// Bytes of a page's body.
@@ -18,7 +19,8 @@ pub struct Geometry {
     pub blocks: u32,
     /// Wrong bits that the code corrects in each step of 512 bytes.
     pub t: u32,
-    /// 0: no tables on flash; 1: their header stands in the spare; 2: it stands at the head of the body.
+    /// 0: no tables on flash; 1: their header stands in the spare; 2: it stands at the head of the
+    /// body.
     pub bbt: u32,
     /// Corrected bits of a step from which on a read reports bit flips.
     pub threshold: u32,
@@ -39,10 +41,12 @@ pub enum GeometryError {
 impl Geometry {
     ghost use Rattle.nand_model.specs.Sizes.{step_count, parity_bytes, parity_start, raw_len};
 
-    /// The geometry of these sizes. A threshold of 0 stands for three quarters of `t`, rounded up, as in nand_base.
+    /// The geometry of these sizes. A threshold of 0 stands for three quarters of `t`, rounded up,
+    /// as in nand_base.
     ///
-    /// `BadSize` comes exactly where (page, spare) is none of (2048, 64), (4096, 128), (4096, 224), or `pages_per_block` is neither 64 nor 128,
-    /// or `blocks` is not a multiple of 4 from 8 to 4,096, or `t` is not from 1 to 16, or `bbt` is above 2, or `threshold` is above `t`.
+    /// `BadSize` comes exactly where (page, spare) is none of (2048, 64), (4096, 128), (4096, 224),
+    /// or `pages_per_block` is neither 64 nor 128, or `blocks` is not a multiple of 4 from 8 to
+    /// 4,096, or `t` is not from 1 to 16, or `bbt` is above 2, or `threshold` is above `t`.
     /// Otherwise `SpareTooSmall` comes exactly where the spare does not hold the layout.
     pub fn new(
         page: u32,

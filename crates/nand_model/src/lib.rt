@@ -1,4 +1,5 @@
-//! Sizes, numbers, lists and plain data of the raw NAND core, and the definitions of a chip that all contracts speak of.
+//! Sizes, numbers, lists and plain data of the raw NAND core, and the definitions of a chip that
+//! all contracts speak of.
 #![tactic(auto)]
 
 mod bytes;

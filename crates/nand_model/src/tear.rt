@@ -11,9 +11,11 @@ pub enum Tear {
     Nothing,
     /// All.
     Everything,
-    /// In byte i of page q of a block, the seed byte of this seed at q times the bytes of a raw page, plus i.
+    /// In byte i of page q of a block, the seed byte of this seed at q times the bytes of a raw
+    /// page, plus i.
     Seed(u64),
-    /// All bits of the bytes in these spans, each from its first byte up to but not including its second, and none elsewhere.
+    /// All bits of the bytes in these spans, each from its first byte up to but not including its
+    /// second, and none elsewhere.
     Spans(SpanList),
 }
 
@@ -30,7 +32,8 @@ pub fn mix(seed: u64, index: u64) -> u64
 impl Tear {
     ghost use Rattle.nand_model.specs.Chip.{done_bits};
 
-    /// The bits that were done in a byte: byte `offset` of page `page_in_block` of a block (0 for a program), in pages of `raw_len` bytes.
+    /// The bits that were done in a byte: byte `offset` of page `page_in_block` of a block (0 for a
+    /// program), in pages of `raw_len` bytes.
     pub fn done(&self, offset: u32, page_in_block: u32, raw_len: u32) -> u8
         ensures { result ≡ done_bits raw_len self.now page_in_block offset }
     {

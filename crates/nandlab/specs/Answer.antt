@@ -56,12 +56,14 @@ Answers bytes Fine text = IsReportOfBytes bytes text
 Answers bytes PlanRefused text = IsRefusalOf bytes text
 Answers bytes _ text = ⊥
 
--- what is written where a call with these words, whose source has these bytes left, ends with this status
+-- what is written where a call with these words, whose source has these bytes left, ends with this
+-- status
 abbrev pub Writes : Words → List ℕ → Status → List ℕ → Type 0
 Writes words bytes Usage text = (is_served words ≡ false) × (text ≡ usage_line)
 Writes words bytes status text = (is_served words ≡ true) × Answers bytes status text
 
--- what the sink holds then: all of the text, a prefix of it where the sink failed, and nothing more where reading or memory did
+-- what the sink holds then: all of the text, a prefix of it where the sink failed, and nothing more
+-- where reading or memory did
 abbrev pub Holds : Words → List ℕ → Status → List ℕ → List ℕ → Type 0
 Holds words bytes ReadFault before after = after ≡ before
 Holds words bytes Memory before after = after ≡ before

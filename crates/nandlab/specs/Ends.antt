@@ -1,4 +1,5 @@
--- How a boot's sessions ended and what its devices counted, by the notes of their controller, and the lines of both.
+-- How a boot's sessions ended and what its devices counted, by the notes of their controller, and
+-- the lines of both.
 use Rattle.std.specs.Prelude.{ℕ, ◌+◌, Bool, true, false, not, List, [], ◌∷◌, ◌++◌, length, map, sum_by, codes, decimal}
 use Rattle.command_model.specs.Session.{SessionRun, is_finished, without_finished, exchanges_of, session_after}
 use Rattle.nand_model.specs.Sizes.{numbers_from}

@@ -11,7 +11,8 @@ use Rattle.session_run.specs.Replay.{IsReplayed}
 use Rattle.several_chip_plan.specs.declared.lines.PlanLines.{PlanLines}
 use Rattle.chips_boot.specs.Ready.{the_boot, the_chips}
 
--- the notes of a replay of the plan, how its sessions ended by these notes, and the statistics of its devices
+-- the notes of a replay of the plan, how its sessions ended by these notes, and the statistics of
+-- its devices
 pub record EndsRun (plan : PlanLines) (notes : List Note) (ends : List EndOfSession) (stats : List (ℕ × Stats)) : Type 0 where
   pub course : Course SimFaults
   pub replayed : IsReplayed sim_faults (the_boot plan) (the_chips plan) plan.schedule course

@@ -25,7 +25,8 @@ fn words_behind(alloc: Global, args: Args) -> Result<Vec<String>, AllocError>
     Ok(words)
 }
 
-/// Serves the arguments of a call, of which the first is the program's name, as `serial_top` serves the words behind it, and gives the exit status of the process.
+/// Serves the arguments of a call, of which the first is the program's name, as `serial_top` serves
+/// the words behind it, and gives the exit status of the process.
 pub fn exit_status<S: Source, K: Sink>(
     alloc: Global,
     args: Args,

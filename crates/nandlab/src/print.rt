@@ -89,7 +89,8 @@ fn leading_rows(row: &[u8], bytes: &[u8]) -> usize
     count
 }
 
-/// Appends the rows of bytes: cut into rows of 32, each longest run of equal neighbouring rows is one line. Offsets are printed by their low 32 bits.
+/// Appends the rows of bytes: cut into rows of 32, each longest run of equal neighbouring rows is
+/// one line. Offsets are printed by their low 32 bits.
 pub fn put_rows(alloc: Global, out: &mut Bytes, bytes: &[u8]) -> Result<(), AllocError>
     ensures { OnOk result (out.new ≡ out.old ++ rows_text bytes.now) }
 {
@@ -255,7 +256,8 @@ fn put_answered(
     put_reply_rows(alloc, out, reply)
 }
 
-// Appends a block with its letter where its state is worn or factory bad, after a comma where one came before; answers whether one came by now.
+// Appends a block with its letter where its state is worn or factory bad, after a comma where one
+// came before; answers whether one came by now.
 fn put_bad_block(
     alloc: Global,
     out: &mut Bytes,
@@ -277,7 +279,8 @@ fn put_bad_block(
     Ok(true)
 }
 
-// Appends the blocks of a table that are worn or factory bad, each with its letter, parted by commas; `-` where there is none.
+// Appends the blocks of a table that are worn or factory bad, each with its letter, parted by
+// commas; `-` where there is none.
 fn put_bad_blocks(alloc: Global, out: &mut Bytes, states: &[u8]) -> Result<(), AllocError>
     ensures { OnOk result (out.new ≡ out.old ++ joined_by_commas (bad_entries 0 states.now)) }
 {

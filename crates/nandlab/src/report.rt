@@ -35,7 +35,8 @@ fn put_sessions(
     Ok(())
 }
 
-// The text of the report of a plan, from the notes of its controller, how its sessions ended, and what its devices counted.
+// The text of the report of a plan, from the notes of its controller, how its sessions ended, and
+// what its devices counted.
 fn boot_report(
     alloc: Global,
     plan: &PlanLines,

@@ -37,7 +37,8 @@ fn new_flashes(alloc: Global, chips: &ItemList<ChipLines>) -> Result<FlashList<S
     Ok(flashes)
 }
 
-/// Runs a plan over new chips: they are attached, the turns of its schedule are taken, and then those of its sessions in their order, round after round, until all is over.
+/// Runs a plan over new chips: they are attached, the turns of its schedule are taken, and then
+/// those of its sessions in their order, round after round, until all is over.
 pub fn run_plan(alloc: Global, plan: &PlanLines) -> Result<Ended<SimChip>, AllocError>
     requires legal { IsPlan plan.now }
     requires ready { CanStart (the_boot plan.now) (the_chips plan.now) }

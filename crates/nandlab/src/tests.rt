@@ -35,7 +35,8 @@ fn numbers(alloc: Global, of: &[u32]) -> Result<BlockList, AllocError> {
     Ok(list)
 }
 
-// The call with the word `replay`, and what its sink holds then. The numbers name the calls of source and sink that fail.
+// The call with the word `replay`, and what its sink holds then. The numbers name the calls of
+// source and sink that fail.
 fn replayed(
     alloc: Global,
     plan: &str,

@@ -41,10 +41,13 @@ fn written<K: Sink>(sink: &mut K, text: &[u8], status: Status) -> Status
     }
 }
 
-/// Serves the words of a call: `replay` reads a plan from the source, runs it, and writes its report to the sink.
+/// Serves the words of a call: `replay` reads a plan from the source, runs it, and writes its
+/// report to the sink.
 ///
-/// The plan is a several-chip plan: one controller with one to eight chips, and one to eight sessions under one list of turns. Other bytes are refused with
-/// `line 0: NotBuilt`, or `line 0: TooLong` where more than 16,777,216 have come, and other words with the usage line. It waits for nobody.
+/// The plan is a several-chip plan: one controller with one to eight chips, and one to eight
+/// sessions under one list of turns. Other bytes are refused with `line 0: NotBuilt`, or `line 0:
+/// TooLong` where more than 16,777,216 have come, and other words with the usage line. It waits for
+/// nobody.
 pub fn serial_top<S: Source, K: Sink>(
     alloc: Global,
     words: &Vec<String>,

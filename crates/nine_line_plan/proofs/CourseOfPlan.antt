@@ -45,7 +45,8 @@ abbrev pub commands_of : List ℕ → List Command
 commands_of payload = write_command payload ∷ dump_command ∷ []
 
 module _ (payload : List ℕ) where
-  -- the session before its first reply, after one and after two, and once its first command and both are over
+  -- the session before its first reply, after one and after two, and once its first command and
+  -- both are over
   abbrev pub session_new : SessionRun
   session_new = session_with (commands_of payload) [] []
 
@@ -188,7 +189,8 @@ module _ (bytes payload : List ℕ) (h : IsNineLinePlan bytes payload) where
   pub course_of_rounds-same : (rounds : ℕ) → 8 ≤ rounds → course_of_rounds rounds payload ≡ course_of payload
   course_of_rounds-same rounds enough = course_of_rounds-end rounds enough ∙ sym course_of-end
 
-  -- the plan's one boot is a whole boot of its controller, with the turns of a replay of eight rounds or more
+  -- the plan's one boot is a whole boot of its controller, with the turns of a replay of eight
+  -- rounds or more
   pub are_boots : (rounds : ℕ) → 8 ≤ rounds
       → AreBoots sim_faults starts (map (boot_part (plan_of payload) 0 (chip ∷ [])) (plan_of payload).boots)
       (slice_index_or (all_replay_turns (plan_of payload) rounds) 0 []) (course_of_rounds rounds payload ∷ [])

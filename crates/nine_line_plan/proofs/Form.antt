@@ -51,7 +51,8 @@ length-plan_text payload =
     length-join text_before (encode_lower payload) text_after
     ∙ ap (λ n. length text_before + n + length text_after) (length-encode_with lower_digits payload)
 
--- what a reader of the form finds in a plan with this data: both ends, and between them the lower-case digits of 1 to 2,048 bytes
+-- what a reader of the form finds in a plan with this data: both ends, and between them the
+-- lower-case digits of 1 to 2,048 bytes
 pub record HasParts (bytes payload : List ℕ) : Type 0 where
   pub long : length text_before + length text_after ≤ length bytes
   pub begins : take (length text_before) bytes ≡ text_before

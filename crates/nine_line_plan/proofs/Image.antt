@@ -1,4 +1,5 @@
--- The image that the plan writes: its length, its bytes, its marker, and what its program leaves of a blank page.
+-- The image that the plan writes: its length, its bytes, its marker, and what its program leaves of
+-- a blank page.
 use Rattle.std.proofs.Common.{◌≡◌, ℕ, zero, suc, ◌+◌, ◌-◌, ◌<◌, ◌≤◌, List, [], ◌∷◌, ◌++◌, length, take, refl, ap, sym, ◌∙◌, arith, add-zero}
 use Rattle.std.specs.Prelude.{replicate, slice_index, bit_and}
 use Rattle.std.proofs.Math.Nat.{mod-eq_of_lt}

@@ -1,4 +1,5 @@
--- The turns of the plan's session, one lemma for each kind: an operation begins, does its event, and is answered.
+-- The turns of the plan's session, one lemma for each kind: an operation begins, does its event,
+-- and is answered.
 use Rattle.std.proofs.Common.{◌≡◌, ℕ, Bool, true, false, List, [], ◌∷◌, ◌++◌, length, refl, ap, ◌∙◌}
 use Rattle.std.specs.Prelude.{◌==◌, not, Option, Some, None, replicate, slice_index}
 use Rattle.hex.specs.Hex.{IsBytes}

@@ -1,4 +1,5 @@
--- The nine-line plan, which writes one raw page of a new chip and dumps it: its text, its data, its course, its notes, its outcomes and its report.
+-- The nine-line plan, which writes one raw page of a new chip and dumps it: its text, its data, its
+-- course, its notes, its outcomes and its report.
 --
 --   nandlab 1
 --   controller
@@ -10,7 +11,8 @@
 --   nandwrite -n -p mtd0 img
 --   nanddump -n --bb=dumpbad -l 2048 mtd0
 --
--- Each line ends with LF. DIGITS are the 2 to 4,096 lower-case hexadecimal digits of 1 to 2,048 bytes of data.
+-- Each line ends with LF. DIGITS are the 2 to 4,096 lower-case hexadecimal digits of 1 to 2,048
+-- bytes of data.
 use Rattle.std.specs.Prelude.{◌≡◌, ℕ, ◌≤◌, true, false, List, [], ◌∷◌, ◌++◌, length, replicate, codes, refl}
 use Rattle.hex.specs.Hex.{IsBytes, encode_lower}
 use Rattle.nand_model.specs.Chip.{ChipState, SimFaults, sim_faults}
@@ -93,7 +95,8 @@ part_of_boot payload = boot_part (plan_of payload) 0 (chip ∷ []) (boot_of payl
 abbrev pub starts : List (ChipState SimFaults)
 starts = new_chips (chip ∷ [])
 
--- the course after the attach, which reads the first page of each block, and so many rounds of a replay
+-- the course after the attach, which reads the first page of each block, and so many rounds of a
+-- replay
 unfoldable pub course_of_rounds : ℕ → List ℕ → Course SimFaults
 course_of_rounds rounds payload = course_after sim_faults (part_of_boot payload) starts 8 (replay_turns (boot_of payload) rounds 0)
 

@@ -1,2 +1,3 @@
-//! Definitions of the nine-line plan: one raw page written and dumped, its course, its outcomes and its report.
+//! Definitions of the nine-line plan: one raw page written and dumped, its course, its outcomes and
+//! its report.
 #![tactic(auto)]

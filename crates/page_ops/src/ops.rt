@@ -11,9 +11,12 @@ use crate::{EraseError, WriteError};
 use nand_iface::{Flash, PageCode, PageKind, PageRead, ProgramFailed};
 use nand_model::Geometry;
 
-/// Reads a page and corrects it by its code: `image` becomes the corrected page, steps that could not be decoded as they were read.
+/// Reads a page and corrects it by its code: `image` becomes the corrected page, steps that could
+/// not be decoded as they were read.
 ///
-/// `Uncorrectable` comes exactly where some step could not be decoded, else `Bitflips` exactly where the greatest number of corrected bits of a step is at least the chip's threshold (nand_base).
+/// `Uncorrectable` comes exactly where some step could not be decoded, else `Bitflips` exactly
+/// where the greatest number of corrected bits of a step is at least the chip's threshold
+/// (nand_base).
 pub fn read<F: Flash, C: PageCode>(
     flash: &F,
     code: &C,
@@ -70,10 +73,12 @@ fn program<F: Flash>(flash: &mut F, page: u32, image: &[u8]) -> Result<(), Write
     }
 }
 
-/// Writes a page whose block has this entry: `image`, a body with its free bytes, is completed by marker bytes and parities, and programmed.
+/// Writes a page whose block has this entry: `image`, a body with its free bytes, is completed by
+/// marker bytes and parities, and programmed.
 ///
-/// `BadBlock` comes exactly where the entry is not 0, and then nothing changes. `MarkerByte` never comes. `ProgramFailed` comes exactly where the chip fails
-/// the program, and its count of faults then rises. It takes at most one page of the room.
+/// `BadBlock` comes exactly where the entry is not 0, and then nothing changes. `MarkerByte` never
+/// comes. `ProgramFailed` comes exactly where the chip fails the program, and its count of faults
+/// then rises. It takes at most one page of the room.
 pub fn write<F: Flash, C: PageCode>(
     flash: &mut F,
     code: &C,
@@ -102,8 +107,10 @@ pub fn write<F: Flash, C: PageCode>(
 
 /// Programs a page whose block has this entry with the image as it is.
 ///
-/// `BadBlock` comes exactly where the entry is not 0; then `MarkerByte` exactly where spare byte 0 of the image is not 0xFF; nothing changes on either.
-/// `ProgramFailed` comes exactly where the chip then fails the program, and its count of faults rises. It takes at most one page of the room.
+/// `BadBlock` comes exactly where the entry is not 0; then `MarkerByte` exactly where spare byte 0
+/// of the image is not 0xFF; nothing changes on either. `ProgramFailed` comes exactly where the
+/// chip then fails the program, and its count of faults rises. It takes at most one page of the
+/// room.
 pub fn write_raw<F: Flash>(
     flash: &mut F,
     page: u32,
@@ -134,7 +141,8 @@ pub fn write_raw<F: Flash>(
 
 /// Erases a block that has this entry.
 ///
-/// `BadBlock` comes exactly where the entry is not 0, and then nothing changes. `EraseFailed` comes exactly where the chip fails the erase, and its count of faults then rises.
+/// `BadBlock` comes exactly where the entry is not 0, and then nothing changes. `EraseFailed` comes
+/// exactly where the chip fails the erase, and its count of faults then rises.
 pub fn erase<F: Flash>(flash: &mut F, block: u32, state: u32) -> Result<(), EraseError>
     requires { block < (F.state flash.old).geometry.blocks }
     ensures refused { state ≢ 0 → (result ≡ Err EraseError.BadBlock) × (flash.new ≡ flash.old) }
@@ -153,9 +161,11 @@ pub fn erase<F: Flash>(flash: &mut F, block: u32, state: u32) -> Result<(), Eras
     }
 }
 
-/// Marks a block on the chip: programs 0x00 into spare byte 0 of its first page and 0xFF elsewhere. `image` is where the page is put together, and has it afterwards.
+/// Marks a block on the chip: programs 0x00 into spare byte 0 of its first page and 0xFF elsewhere.
+/// `image` is where the page is put together, and has it afterwards.
 ///
-/// `ProgramFailed` comes exactly where the chip fails the program, and its count of faults then rises. It takes at most one page of the room.
+/// `ProgramFailed` comes exactly where the chip fails the program, and its count of faults then
+/// rises. It takes at most one page of the room.
 pub fn marker<F: Flash>(flash: &mut F, block: u32, image: &mut [u8]) -> Result<(), ProgramFailed>
     requires block { block < (F.state flash.old).geometry.blocks }
     requires whole { length image.old ≡ raw_len (F.state flash.old).geometry }

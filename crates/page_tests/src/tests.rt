@@ -107,7 +107,8 @@ fn turn(bytes: &mut [u8], place: usize, bits: u8) {
     }
 }
 
-// A page is written and read; two and then three bits are turned over in raw writes of it, where the threshold is 3.
+// A page is written and read; two and then three bits are turned over in raw writes of it, where
+// the threshold is 3.
 #[test]
 fn writes_and_reads(rt: HostRuntime) -> Result<(), Fail> {
     let alloc = rt.alloc();

@@ -1,8 +1,7 @@
--- The canonical text of a plan: each line once in the order read, without comments and empty lines, words separated
--- by one space, numbers decimal without leading
--- zeros, hexadecimal digits in lower case, a chip's threshold and a part's count as they are in force, options in one
--- order and left out where they have their
--- default, and LF after each line.
+-- The canonical text of a plan: each line once in the order read, without comments and empty lines,
+-- words separated by one space, numbers decimal without leading zeros, hexadecimal digits in lower
+-- case, a chip's threshold and a part's count as they are in force, options in one order and left
+-- out where they have their default, and LF after each line.
 use Rattle.std.specs.Prelude.{ℕ, Bool, true, false, ◌==◌, if◌then◌else◌, List, [], ◌∷◌, ◌++◌, map, flat_map, codes, decimal}
 use Rattle.hex.specs.Hex.{encode_lower}
 use Rattle.report_model.specs.Report.{line, spaced, device_name}

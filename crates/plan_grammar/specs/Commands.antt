@@ -31,7 +31,8 @@ value_or default (Some value) = there value BadNumber
 unfoldable pub device_word : List ℕ → Result ℕ PlanKind
 device_word word = there (device_number word) BadWords
 
--- the words of a flash_erase; of each command, the form of the words is tried first, and then their numbers
+-- the words of a flash_erase; of each command, the form of the words is tried first, and then their
+-- numbers
 unfoldable pub flash_erase_words : Options → List (List ℕ) → Result CommandLine PlanKind
 flash_erase_words o words = do
   found ← three_words words
@@ -159,7 +160,8 @@ with_command command plan =
           (session : SessionLines). record session { commands = session.commands ++ command ∷ [] }) boot.sessions;
     }) plan
 
--- a command, in a session: with it the commands of all boots take no more operations than a plan may
+-- a command, in a session: with it the commands of all boots take no more operations than a plan
+-- may
 unfoldable pub command_line : LineKind → PlanLines → List (List ℕ) → Result PlanLines PlanKind
 command_line kind plan words = do
   boot ← running_boot plan

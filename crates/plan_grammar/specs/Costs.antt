@@ -42,9 +42,9 @@ marks_many dev _ = false
 abbrev pub count_in : (CommandLine → Bool) → List SessionLines → ℕ
 count_in test sessions = sum_by (λ (session : SessionLines). count_by test session.commands) sessions
 
--- how many written pages of a nandwrite may fail or be refused: its chip's weak pages, and the blocks that other
--- sessions of the boot may mark meanwhile,
--- but at most one page for each block to which it comes
+-- how many written pages of a nandwrite may fail or be refused: its chip's weak pages, and the
+-- blocks that other sessions of the boot may mark meanwhile, but at most one page for each block to
+-- which it comes
 abbrev pub weak_for : Device → ℕ → ℕ → List SessionLines → ℕ
 weak_for device dev off others =
     min (device.part.count - off / block_size device.chip.geometry)

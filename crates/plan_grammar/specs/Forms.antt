@@ -95,7 +95,8 @@ pair_of _ = None
 unfoldable pub halves : ℕ → List ℕ → Option (List ℕ × List ℕ)
 halves separator text = pair_of (parts_between separator text)
 
--- a span `A-B` with A below B, which begins at or after the end of the one before and ends within the largest page
+-- a span `A-B` with A below B, which begins at or after the end of the one before and ends within
+-- the largest page
 unfoldable pub span_from : ℕ → List ℕ → Result (ℕ × ℕ) PlanKind
 span_from end text = do
   ends ← there (halves 45 text) BadNumber

@@ -92,8 +92,8 @@ pub record IsPlan (bytes : List ℕ) (plan : PlanLines) : Type 0 where
   pub lines : Reads no_lines (lines_of bytes) plan
   pub some : 0 < length plan.boots
 
--- the bytes are refused: they are too many, or a line is the first that breaks a rule, or all lines are good and
--- there is no boot
+-- the bytes are refused: they are too many, or a line is the first that breaks a rule, or all lines
+-- are good and there is no boot
 pub data IsRefused (bytes : List ℕ) : ℕ → PlanKind → Type 0 where
   TooLong : most_bytes < length bytes → IsRefused bytes 0 TooManyBytes
   Broken : (before : List (List ℕ)) (broken : List ℕ) (after : List (List ℕ)) (plan : PlanLines) (kind : PlanKind) →

@@ -23,7 +23,8 @@ unfoldable pub data_form : PlanLines → List (List ℕ) → Result PlanLines Pl
 data_form plan [] = Err BadWords
 data_form plan (name ∷ words) = data_words plan name words
 
--- `data NAME PIECE` and further PIECEs, after the last controller, which has a chip, before the first boot
+-- `data NAME PIECE` and further PIECEs, after the last controller, which has a chip, before the
+-- first boot
 unfoldable pub data_line : PlanLines → List (List ℕ) → Result PlanLines PlanKind
 data_line plan words = do
   _ ← rule (has_chip plan && is_empty plan.boots) WrongPlace

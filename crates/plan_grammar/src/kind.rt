@@ -1,8 +1,8 @@
 // Why a plan is refused.
 use thiserror::Error;
 
-/// The rules of a plan, in the order in which a line is tried by them. The first broken one is the kind of the
-/// refusal. They are this project's own.
+/// The rules of a plan, in the order in which a line is tried by them. The first broken one is the
+/// kind of the refusal. They are this project's own.
 #[derive(Clone, Copy, Debug, PartialEq, Eq, Error)]
 pub enum PlanKind {
     /// The line has more than 65,536 bytes.
@@ -17,8 +17,8 @@ pub enum PlanKind {
     /// The line may not stand here.
     #[error("WrongPlace")]
     WrongPlace,
-    /// Words are missing, too many or not of the stated form, an option is unknown or repeated, a controller has a
-    /// second cut in one boot, or the header's number is not 1.
+    /// Words are missing, too many or not of the stated form, an option is unknown or repeated, a
+    /// controller has a second cut in one boot, or the header's number is not 1.
     #[error("BadWords")]
     BadWords,
     /// A number, a tear or a piece is not well formed or does not fit.
@@ -30,14 +30,15 @@ pub enum PlanKind {
     /// The spare area does not hold the layout.
     #[error("SpareTooSmall")]
     SpareTooSmall,
-    /// A block, page, bit, chip, controller or session that the line names does not exist, or a range passes the end
-    /// of its chip or device.
+    /// A block, page, bit, chip, controller or session that the line names does not exist, or a
+    /// range passes the end of its chip or device.
     #[error("OutOfChip")]
     OutOfChip,
     /// A chip with tables on flash has more than two bad ones among its last four blocks.
     #[error("TooFewTableBlocks")]
     TooFewTableBlocks,
-    /// A partition shares a block with an earlier one, or a bad block, a weak place or a NAME is given twice.
+    /// A partition shares a block with an earlier one, or a bad block, a weak place or a NAME is
+    /// given twice.
     #[error("Overlap")]
     Overlap,
     /// The device does not exist or is of another controller than the session.

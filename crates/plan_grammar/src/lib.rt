@@ -1,4 +1,5 @@
-//! The definition of plans: their lines as data, what each line may say and where, and their canonical text.
+//! The definition of plans: their lines as data, what each line may say and where, and their
+//! canonical text.
 #![tactic(auto)]
 
 mod kind;

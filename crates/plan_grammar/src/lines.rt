@@ -112,7 +112,8 @@ pub struct SessionLines {
     pub commands: ItemList<CommandLine>,
 }
 
-/// A boot: its faults, its sessions, and the numbers of its schedule, which has none where it has no such line.
+/// A boot: its faults, its sessions, and the numbers of its schedule, which has none where it has
+/// no such line.
 #[derive(Drop)]
 pub struct BootLines {
     pub faults: ItemList<FaultLine>,

@@ -25,7 +25,8 @@ pub enum LineKind {
     Stats,
 }
 
-/// An option of a command (mtd-utils). Which of them a command has, and under which letter, is its own.
+/// An option of a command (mtd-utils). Which of them a command has, and under which letter, is its
+/// own.
 #[derive(Clone, Copy)]
 pub enum OptionKind {
     /// Erases without asking for the state of blocks.
@@ -52,7 +53,8 @@ pub enum OptionKind {
     Passes,
 }
 
-/// The options of a command as they were read. A number is the option's value, which may be no number.
+/// The options of a command as they were read. A number is the option's value, which may be no
+/// number.
 #[derive(Clone, Copy)]
 pub struct Options {
     pub no_scan: bool,

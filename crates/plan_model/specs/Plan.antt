@@ -49,7 +49,8 @@ parts_from k [] = []
 parts_from k (chip ∷ chips) =
     map (λ (p : PartPlan). record { chip = k; start = p.start; count = p.count }) chip.parts ++ parts_from (k + 1) chips
 
--- the devices of a controller: partitions are numbered over all controllers, in the order of their lines
+-- the devices of a controller: partitions are numbered over all controllers, in the order of their
+-- lines
 abbrev pub devices_of : PlanData → ℕ → List ChipPlan → Partitions
 devices_of plan c chips = record { first = sum_by part_count (take c plan.controllers); parts = parts_from 0 chips }
 

@@ -1,4 +1,5 @@
--- Single bits of pages: those of erased bytes, of programmed ones, and of a page in which a bit was turned.
+-- Single bits of pages: those of erased bytes, of programmed ones, and of a page in which a bit was
+-- turned.
 use Rattle.std.proofs.Common.{◌≡◌, ◌≢◌, ℕ, zero, suc, ◌+◌, ◌-◌, ◌*◌, ◌/◌, ◌%◌, ◌^◌, ◌<◌, inl, inr, List, [], ◌∷◌, length, ap, ap₂, sym, min, ◌∙◌, arith}
 use Rattle.std.specs.Prelude.{replicate, slice_index, slice_range, bit_and, bit_xor}
 use Rattle.std.proofs.lemmas.Bool.{cases_eq, cases_lt}

@@ -6,8 +6,8 @@ use Rattle.nand_model.specs.Chip.{ChipState, PageState}
 use Rattle.nand_model.specs.Sizes.{code_of, step_count, raw_len}
 use Rattle.nand_model.specs.declared.geometry.Geometry.{Geometry}
 
--- each step's word has ones alone, and no bit was flipped; the bytes that belong to no word, as the marker,
--- may be anything
+-- each step's word has ones alone, and no bit was flipped; the bytes that belong to no word, as the
+-- marker, may be anything
 pub record IsFreshPage (g : Geometry) (page : PageState) : Type 0 where
   pub whole : length page.cells ≡ raw_len g
   pub ones : (s : ℕ) → s < step_count g → step_word g page.cells s ≡ replicate (word_bits (code_of g)) 1

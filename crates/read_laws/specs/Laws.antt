@@ -16,8 +16,8 @@ use Rattle.run_model.specs.ReadBack.{Erased, Programmed, page_past, wrong_bits, 
 use Rattle.run_model.specs.Run.{CoursesAreFaithful, RunsAreFaithful}
 use Rattle.read_laws.specs.Fresh.{IsFreshPage, IsFresh}
 
--- From a page that is fresh, after any trace: where one good program gave it an image, a step's word differs
--- from it in no more bits than were flipped there.
+-- From a page that is fresh, after any trace: where one good program gave it an image, a step's
+-- word differs from it in no more bits than were flipped there.
 abbrev pub WrongBitsWereFlipped : {W : Type 0} → FaultModel W → ChipState W → Type 0
 WrongBitsWereFlipped model s =
     (trace : List ChipEvent) (page : ℕ) (image : List ℕ) → IsFreshPage s.geometry (s.pages page)
@@ -26,7 +26,8 @@ WrongBitsWereFlipped model s =
     wrong_bits s.geometry image ((after_trace model s trace).pages page).cells step
     ≤ word_flips s.geometry ((after_trace model s trace).pages page).flips step
 
--- From a page that is fresh, after any trace: where one good program has filled it, with few flips, it is read back.
+-- From a page that is fresh, after any trace: where one good program has filled it, with few flips,
+-- it is read back.
 abbrev pub FilledPagesReadBack : {W : Type 0} → FaultModel W → ChipState W → Type 0
 FilledPagesReadBack model s =
     (trace : List ChipEvent) (page : ℕ) (body free : List ℕ) → IsFreshPage s.geometry (s.pages page)
@@ -35,7 +36,8 @@ FilledPagesReadBack model s =
     HasFewFlips s.geometry ((after_trace model s trace).pages page).flips →
     ReadsBack s.geometry (page_image s.geometry body free) ((after_trace model s trace).pages page).cells
 
--- A write that was answered done leaves its image in a page that was erased: the page's past is that one good program.
+-- A write that was answered done leaves its image in a page that was erased: the page's past is
+-- that one good program.
 abbrev pub DoneWritesFillPages : {W : Type 0} → FaultModel W → ChipState W → Type 0
 DoneWritesFillPages model s =
     (partitions : Partitions) (known : Known) (dev page : ℕ) (body free : List ℕ) (trace : List ChipEvent)
@@ -43,8 +45,8 @@ DoneWritesFillPages model s =
     part_of partitions dev ≡ Some part → Performs model partitions s known (Write dev page body free) trace Done after →
     page_past model s (chip_page s.geometry part page) Erased trace ≡ Programmed (page_image s.geometry body free)
 
--- the notes of a course are a history of one thread, along which each answered read of a chip that was fresh
--- gives back what was written
+-- the notes of a course are a history of one thread, along which each answered read of a chip that
+-- was fresh gives back what was written
 pub record CoursesReadBack {W : Type 0} (model : FaultModel W) (boot : Boot) (starts : List (ChipState W))
     (attaches : ℕ) (turns : List ℕ) : Type 0 where
   pub faithful : CoursesAreFaithful model boot starts attaches turns

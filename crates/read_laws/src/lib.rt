@@ -1,4 +1,5 @@
-//! Laws of what is read back: a page that one good program has filled, with few flips, gives back its body, its parity bits and exact counts.
+//! Laws of what is read back: a page that one good program has filled, with few flips, gives back
+//! its body, its parity bits and exact counts.
 #![tactic(auto)]
 
 mod laws;

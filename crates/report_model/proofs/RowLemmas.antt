@@ -26,7 +26,8 @@ pub leading-other : (row next : List ℕ) (rows : List (List ℕ)) → bytes_eq 
 unfolding leading
 leading-other row next rows other = rw other refl
 
--- the runs of some rows: the rows at the front that equal the first, and then the runs of the others
+-- the runs of some rows: the rows at the front that equal the first, and then the runs of the
+-- others
 abbrev pub RunsFromLeading : List (List ℕ) → ℕ → List ℕ → ℕ → Type 0
 RunsFromLeading rows at row n =
     runs_from at (row ∷ rows) ≡ record { at = at; count = n + 1; row = row } ∷ runs_from (at + (n + 1)) (drop n rows)

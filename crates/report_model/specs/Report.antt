@@ -2,7 +2,8 @@
 --
 --   for each boot                  boot B
 --     for each controller          controller C, and the lines of its notes
---     for each session             session S, the lines of its finished commands, and where some are left: cut after K
+--     for each session             session S, the lines of its finished commands, and where some
+-- are left: cut after K
 --     for each device              device mtdJ corrected N failed N
 --                                  end boot B
 use Rattle.std.specs.Prelude.{ℕ, List, [], ◌∷◌, ◌++◌, codes, decimal, zero, suc, take, drop, ◌+◌, ◌/◌, length, if◌then◌else◌, bytes_eq, ◌*◌, flat_map, ◌==◌, Bool, true, false, sum_by, slice_index_or, map, ◌≡◌, replicate, refl}

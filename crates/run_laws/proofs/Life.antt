@@ -83,7 +83,8 @@ module _ {W : Type 0} (model : FaultModel W) (partitions : Partitions) where
     pub idle : c.pending ≡ None
     pub notes_are : notes ≡ notes_of_trace model k s whole
 
-  -- an attached chip after its last answered operation: how it stood then, what was known, its notes until then, and what had befallen it
+  -- an attached chip after its last answered operation: how it stood then, what was known, its
+  -- notes until then, and what had befallen it
   pub record IsAttached (k : ℕ) (s : ChipState W) (quiet : Bool) (known : Known) (rested : ChipState W) (notes : List Note) (whole : List (ℕ × ChipEvent)) : Type 0 where
     pub attach : List (ℕ × ChipEvent)
     pub attaching : Attaching
@@ -127,7 +128,8 @@ module _ {W : Type 0} (model : FaultModel W) (partitions : Partitions) where
   abbrev pub ChipLaw : ℕ → ChipState W → ChipRun W → List Note → List (ℕ × ChipEvent) → Type 0
   ChipLaw k s c notes whole = ChipLawAt k s c notes whole c.known c.pending
 
-  -- what the theorem says of a chip, with the state in which it is left, whether its attach found it quiet, and all that befell it
+  -- what the theorem says of a chip, with the state in which it is left, whether its attach found
+  -- it quiet, and all that befell it
   pub record ChipEnd (k : ℕ) (s now : ChipState W) (quiet : Bool) (notes : List Note) (whole : List (ℕ × ChipEvent)) : Type 0 where
     pub life : ChipBoot
     pub history : IsChipHistory model partitions k s life.attach life.operations notes

@@ -12,7 +12,8 @@ use Rattle.nand_model.specs.declared.words.Reply.{Reply}
 use Rattle.nand_model.specs.declared.geometry.Geometry.{Geometry}
 use Rattle.nand_model.specs.declared.words.Command.{Command}
 
--- one step of a session: an operation begins, or one page event is done, or the operation is answered
+-- one step of a session: an operation begins, or one page event is done, or the operation is
+-- answered
 pub data IsStep {W : Type 0} (session : ℕ) (before after : Course W) : Type 0 where
   Begins : (op : Op) → after.notes ≡ before.notes ++ Began session op ∷ [] → after.events ≡ before.events
       → IsStep session before after
@@ -29,7 +30,8 @@ pub record TurnIsStep {W : Type 0} (model : FaultModel W) (boot : Boot) (sizes :
   pub step_else : is_idle boot.partitions sizes course session ≡ false
       → IsStep session course (turn_step model boot sizes course session)
 
--- an attach step changes nothing where the controller is dark or all chips are attached, and is else one page event
+-- an attach step changes nothing where the controller is dark or all chips are attached, and is
+-- else one page event
 pub record AttachIsStep {W : Type 0} (model : FaultModel W) (boot : Boot) (sizes : Command → Geometry)
     (course : Course W) : Type 0 where
   pub nothing_where_dark : course.dark ≡ true → attach_step model boot sizes course ≡ course
@@ -58,7 +60,8 @@ HaveChips boot starts =
     Contains boot.sessions (session, commands) → Contains commands command
     → IsThere (length starts) (chip_of boot.partitions (command_device command))
 
--- where a course is not over and all chips are attached, the turn of some session of the boot is not idle
+-- where a course is not over and all chips are attached, the turn of some session of the boot is
+-- not idle
 abbrev pub SomeTurnIsBusy : {W : Type 0} → Boot → List (ChipState W) → Course W → Type 0
 SomeTurnIsBusy boot starts course =
     is_over course ≡ false → unattached course ≡ None →

@@ -1,4 +1,5 @@
-//! Laws of whole runs of a controller: every interleaving of its sessions is a history of one thread.
+//! Laws of whole runs of a controller: every interleaving of its sessions is a history of one
+//! thread.
 #![tactic(auto)]
 
 mod laws;

@@ -1,4 +1,5 @@
--- Worked rows of a chip with tables, computed: a mark cut at the program of the primary, a mark whose mirror fails, the boot after it, and a first attach whose primary fails.
+-- Worked rows of a chip with tables, computed: a mark cut at the program of the primary, a mark
+-- whose mirror fails, the boot after it, and a first attach whose primary fails.
 use Rattle.std.specs.Prelude.{None, false, ◌≡◌, ℕ, true, List, [], ◌∷◌, ◌++◌, replicate, Option, Some, refl}
 use Rattle.nand_model.specs.Sizes.{small_chip}
 use Rattle.code_model.specs.Code.{nearest, nearest_from, found_or, is_code_word, words_at, put_before, parity_of, parity_number, mask_of, masked}
@@ -39,7 +40,8 @@ pub cut_boot_notes : cut_boot.notes
 unfolding nearest nearest_from found_or is_code_word words_at put_before remainder reduced bits_fold bits_fold_of generator_of minimal_of conjugates packed locator with_root with_root_from product times power parity_of parity_number mask_of masked bytes_of xor_bytes bits_of number_from bytes_of_bits
 cut_boot_notes = refl
 
--- a mark whose mirror fails: the mirror moves to block 13, under the next version, and the primary is written again
+-- a mark whose mirror fails: the mirror moves to block 13, under the next version, and the primary
+-- is written again
 abbrev pub failing_mirror : Course SimFaults
 failing_mirror =
     course_after sim_faults (boot_of ((0, MarkBad 0 16 5 ∷ MarkBad 0 16 5 ∷ []) ∷ []) None)

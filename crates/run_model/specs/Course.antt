@@ -1,5 +1,5 @@
--- The course of a controller in a boot: first its chips are attached, one page event a step, and then each
--- turn of a session does one step.
+-- The course of a controller in a boot: first its chips are attached, one page event a step, and
+-- then each turn of a session does one step.
 use Rattle.std.specs.Prelude.{ℕ, Bool, List, ◌==◌, if◌then◌else◌, Option, Some, None, find, false, position, is_none, [], ◌∷◌, ◌++◌, slice_get, not, ◌&&◌, ◌||◌, is_some, ◌+◌, true, fold, map, zero, suc, ◌≡◌}
 use Rattle.std.specs.List.{list_all}
 use Rattle.chip_paths.specs.ChipRun.{ChipRun, Pending, with_pending, with_finished, finished_by, next_chip_event, attach_notes, with_flips, advanced, torn_at, notes_of_advance, notes_of_cut, chip_at_start}
@@ -58,7 +58,8 @@ began course session k op =
           ++ Began session op ∷ [];
     }
 
--- a session's operation on chip k is over: its answer goes to the session, and the chip knows what it knows then
+-- a session's operation on chip k is over: its answer goes to the session, and the chip knows what
+-- it knows then
 abbrev pub finish : {W : Type 0} → (Command → Geometry) → Course W → ℕ → ChipRun W → ℕ → Option Finished → Course W
 finish sizes course k c session None = course
 finish sizes course k c session (Some finished) =
@@ -90,8 +91,8 @@ abbrev pub can_begin : {W : Type 0} → Partitions → Course W → Option Op �
 can_begin partitions course None = false
 can_begin partitions course (Some op) = is_free_at course (chip_of partitions (device_of op))
 
--- a session's turn is idle exactly where the controller is dark or its chips are not all attached, or the
--- session has no pending operation and no next one that can begin
+-- a session's turn is idle exactly where the controller is dark or its chips are not all attached,
+-- or the session has no pending operation and no next one that can begin
 abbrev pub is_idle : {W : Type 0} → Partitions → (Command → Geometry) → Course W → ℕ → Bool
 is_idle partitions sizes course session =
     course.dark || is_some (unattached course)
@@ -183,7 +184,8 @@ module _ {W : Type 0} (model : FaultModel W) (boot : Boot) where
   attach_first sizes course None = course
   attach_first sizes course (Some k) = chip_step sizes course k (slice_get course.chips k)
 
-  -- an attach step: one page event of the first chip that is not attached, unless the controller is dark
+  -- an attach step: one page event of the first chip that is not attached, unless the controller is
+  -- dark
   abbrev pub attach_step : (Command → Geometry) → Course W → Course W
   attach_step sizes course = if course.dark then course else attach_first sizes course (unattached course)
 

@@ -1,5 +1,5 @@
--- When notes are those of one thread: on each chip one operation after another, and in each session one
--- exchange after another.
+-- When notes are those of one thread: on each chip one operation after another, and in each session
+-- one exchange after another.
 use Rattle.std.specs.Prelude.{ℕ, List, Option, map, [], ◌∷◌, Some, None, Bool, true, false, ◌≡◌, ◌&&◌, ◌++◌, is_none, flat_map, ◌==◌, if◌then◌else◌, ⊤, ◌<◌, length, slice_get, All}
 use Rattle.nand_model.specs.Chip.{ChipEvent, ChipState, FaultModel, Complete, PowerCut, Flipped, happens, after_trace}
 use Rattle.chip_paths.specs.Operation.{Known, Finished, operation_path, Performs}
@@ -58,14 +58,16 @@ module _ {W : Type 0} (model : FaultModel W) where
   notes_of_operation k s operation = Began operation.session operation.op ∷ notes_of_trace k s operation.trace
       ++ answer_note operation.session operation.reply
 
-  -- an operation from its start: it is answered as operations are, or it has come so far along its path
+  -- an operation from its start: it is answered as operations are, or it has come so far along its
+  -- path
   abbrev pub IsOperationTrace : Partitions → ChipState W → Known → Op → List ChipEvent → Option Reply → Type 0
   IsOperationTrace partitions s known op trace (Some reply) =
       (after : Known) × Performs model partitions s known op trace reply after
   IsOperationTrace partitions s known op trace None =
       GoesAlong model (next_event (operation_path s.geometry partitions known op)) s [] trace
 
-  -- one operation after another: each starts from what the one before it left, and only the last may lack its answer
+  -- one operation after another: each starts from what the one before it left, and only the last
+  -- may lack its answer
   abbrev pub AreOperationTraces : Partitions → ℕ → ChipState W → Known → List OperationTrace → List Note → Type 0
   AreOperationTraces partitions k s known [] notes = notes ≡ []
   AreOperationTraces partitions k s known (operation ∷ later) notes =
@@ -90,7 +92,8 @@ module _ {W : Type 0} (model : FaultModel W) where
   attach_outcome s trace =
       outcome_if (is_uncut trace) (result_of (after_answers (answers_of model s trace) (attach_path s.geometry)))
 
-  -- what comes after the events of an attach: nothing while it is not over, else its note and the operations
+  -- what comes after the events of an attach: nothing while it is not over, else its note and the
+  -- operations
   abbrev pub GoesOn : Option Attaching → Partitions → ℕ → ChipState W → List ChipEvent → List OperationTrace
       → List Note → Type 0
   GoesOn None partitions k s trace later notes = (notes ≡ []) × (later ≡ [])
@@ -166,7 +169,8 @@ notes_of_chip_from partitions last k (note ∷ notes) =
 abbrev pub notes_of_chip : Partitions → ℕ → List Note → List Note
 notes_of_chip partitions k notes = notes_of_chip_from partitions (λ s. None) k notes
 
--- what a chip went through in one boot after the other, each from where the one before it left the chip
+-- what a chip went through in one boot after the other, each from where the one before it left the
+-- chip
 abbrev pub IsChipLife : {W : Type 0} → FaultModel W → Partitions → ℕ → ChipState W → List ChipBoot → List (List Note)
     → Type 0
 IsChipLife model partitions k s [] [] = ⊤

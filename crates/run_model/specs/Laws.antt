@@ -1,5 +1,5 @@
--- Theorems about these definitions, each as a statement that a function's contract can carry. A statement
--- counts as proved only where a contract cites it: of these `RepliesDependOnTheChip` is.
+-- Theorems about these definitions, each as a statement that a function's contract can carry. A
+-- statement counts as proved only where a contract cites it: of these `RepliesDependOnTheChip` is.
 use Rattle.std.specs.Prelude.{ℕ, List, ◌≡◌, ◌+◌, ◌*◌, ◌<◌, length, Some, All, [], ◌∷◌, ⊤, None, ◌==◌, Option, IsTrue, slice_get}
 use Rattle.nand_model.specs.Page.{page_image, IsWhole, FillsPage}
 use Rattle.nand_model.specs.Table.{copy_in, table_page, read_again}
@@ -65,8 +65,8 @@ IsSamePart j k (Some part) (Some other) =
 abbrev pub SamePartitions : Partitions → ℕ → Partitions → ℕ → Type 0
 SamePartitions first j second k = (dev : ℕ) → IsSamePart j k (part_of first dev) (part_of second dev)
 
--- A chip's replies depend on that chip alone: in two boots where it starts alike, has the same partitions and
--- the same operations in order, it gives the same replies.
+-- A chip's replies depend on that chip alone: in two boots where it starts alike, has the same
+-- partitions and the same operations in order, it gives the same replies.
 abbrev pub RepliesDependOnTheChip : {W : Type 0} → FaultModel W → Type 0
 RepliesDependOnTheChip {W} model =
     (first second : Boot) (starts others : List (ChipState W)) (attaches more : ℕ) (turns later : List ℕ) (j k : ℕ)

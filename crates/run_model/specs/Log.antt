@@ -27,8 +27,8 @@ abbrev pub torn_by_cut : ℕ → PageEvent → Option Tear → ChipEvent
 torn_by_cut raw e None = Complete e
 torn_by_cut raw e (Some tear) = PowerCut e (done_bits raw tear)
 
--- what befalls chip k, whose pages have so many raw bytes, while the controller does these page events, the
--- first of which has number n
+-- what befalls chip k, whose pages have so many raw bytes, while the controller does these page
+-- events, the first of which has number n
 abbrev pub befalls : Boot → ℕ → ℕ → ℕ → Log → List (ℕ × ChipEvent)
 befalls boot k raw n [] = []
 befalls boot k raw n (x ∷ log) =
@@ -56,8 +56,8 @@ first_boots lives = map (λ (life : List ChipBoot). slice_index_or life 0 (recor
 abbrev pub later_boots : List (List ChipBoot) → List (List ChipBoot)
 later_boots lives = map (λ (life : List ChipBoot). drop 1 life) lives
 
--- these lives, one per chip, are in each boot what befell the chips by its list, from the states in which the
--- course of the boot before left them to those in which its own leaves them
+-- these lives, one per chip, are in each boot what befell the chips by its list, from the states in
+-- which the course of the boot before left them to those in which its own leaves them
 abbrev pub AreOfLogs : {W : Type 0} → FaultModel W → List (ChipState W) → List Boot → List (Course W)
     → List (List ChipBoot) → List Log → Type 0
 AreOfLogs model starts [] [] lives [] = ⊤

@@ -47,8 +47,8 @@ begins (Some Reserved) = false
 begins (Some (Copies n)) = false
 begins (Some _) = true
 
--- an erase of the block, or a program of its first page, failed: of one of the last four blocks that is in a
--- writing of tables, since nothing else erases or programs these
+-- an erase of the block, or a program of its first page, failed: of one of the last four blocks
+-- that is in a writing of tables, since nothing else erases or programs these
 abbrev pub is_failure_at : Geometry → ℕ → Event → Bool
 is_failure_at g b (ReadOf page) = false
 is_failure_at g b (ProgramOf page) = page == first_page g b
@@ -68,8 +68,8 @@ abbrev pub is_acknowledgement : Option Reply → Bool
 is_acknowledgement (Some Done) = true
 is_acknowledgement _ = false
 
--- the marking of block b of chip k has begun, and was acknowledged, in the notes of one boot. A block of the
--- last four that failed in a writing counts as begun
+-- the marking of block b of chip k has begun, and was acknowledged, in the notes of one boot. A
+-- block of the last four that failed in a writing counts as begun
 abbrev pub marking_began : Geometry → Partitions → ℕ → ℕ → List Note → Bool
 marking_began g partitions k b notes = list_any begins (marks_in partitions k b notes) || failed_in_writing g k b notes
 
@@ -77,9 +77,9 @@ marking_began g partitions k b notes = list_any begins (marks_in partitions k b 
 abbrev pub marking_acknowledged : Partitions → ℕ → ℕ → List Note → Bool
 marking_acknowledged partitions k b notes = list_any is_acknowledgement (marks_in partitions k b notes)
 
--- an attach's table shows bad each factory-bad block and each whose marking was acknowledged in the boots
--- before, and none beyond these and those whose marking has begun, in these boots or in the notes of this
--- boot before the attach's own
+-- an attach's table shows bad each factory-bad block and each whose marking was acknowledged in the
+-- boots before, and none beyond these and those whose marking has begun, in these boots or in the
+-- notes of this boot before the attach's own
 pub record ShowsMarks (g : Geometry) (partitions : Partitions) (k : ℕ) (factory_bad : List ℕ)
     (boots : List (List Note)) (before : List Note) (states : List ℕ) : Type 0 where
   pub factory : (b : ℕ) → b < g.blocks → Contains factory_bad b → IsTrue (calls_bad states b)

@@ -14,7 +14,8 @@ use Rattle.nand_model.specs.declared.words.Reply.TheVariants.{Page}
 use Rattle.nand_model.specs.declared.words.Op.{Op}
 use Rattle.nand_model.specs.declared.words.Op.TheVariants.{Read}
 
--- what a page has been through since it was made or last erased well: nothing, one good program, or anything else
+-- what a page has been through since it was made or last erased well: nothing, one good program, or
+-- anything else
 pub data PagePast : Type 0 where
   Erased : PagePast
   Programmed : (image : List ℕ) → PagePast
@@ -64,7 +65,8 @@ pub record ReadsBack (g : Geometry) (image cells : List ℕ) : Type 0 where
 abbrev pub HasFewFlips : Geometry → List ℕ → Type 0
 HasFewFlips g flips = (s : ℕ) → s < step_count g → word_flips g flips s ≤ g.t
 
--- From a new chip, after any trace: a page that one program has filled, with few flips, is read back.
+-- From a new chip, after any trace: a page that one program has filled, with few flips, is read
+-- back.
 abbrev pub ProgrammedPagesReadBack : Geometry → List ℕ → List Weak → Type 0
 ProgrammedPagesReadBack g bad weak =
     (trace : List ChipEvent) (page : ℕ) (body free : List ℕ) → FillsPage g body free →
@@ -72,8 +74,8 @@ ProgrammedPagesReadBack g bad weak =
     HasFewFlips g ((after_trace sim_faults (new_chip g bad weak) trace).pages page).flips →
     ReadsBack g (page_image g body free) ((after_trace sim_faults (new_chip g bad weak) trace).pages page).cells
 
--- the answer to a read of such a page: the written body and parity bits, all else as the cells have it, and
--- the exact counts; a read that is not answered says nothing, and no other answer is right
+-- the answer to a read of such a page: the written body and parity bits, all else as the cells have
+-- it, and the exact counts; a read that is not answered says nothing, and no other answer is right
 abbrev pub IsReadBack : Geometry → List ℕ → List ℕ → Option Reply → Type 0
 IsReadBack g image cells (Some (Page kind read got)) =
     ReadsBack g image cells × (got ≡ (decoded g cells).image) × (read.corrected ≡ (decoded g cells).corrected)
@@ -87,8 +89,8 @@ abbrev pub is_read : Op → Bool
 is_read (Read dev page) = true
 is_read _ = false
 
--- an answered read, after all that befell its chip before: if one program filled its page, with few flips, it
--- gives that page back with exact counts
+-- an answered read, after all that befell its chip before: if one program filled its page, with few
+-- flips, it gives that page back with exact counts
 abbrev pub OperationReadsBack : {W : Type 0} → FaultModel W → ChipState W → List ChipEvent → OperationTrace → Type 0
 OperationReadsBack {W} model fresh before operation =
     (flips rest : List ChipEvent) (page : ℕ) (body free : List ℕ) → FillsPage fresh.geometry body free →

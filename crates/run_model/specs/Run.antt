@@ -1,4 +1,5 @@
--- Runs of several boots of one controller: each boot starts from the states that the one before it left.
+-- Runs of several boots of one controller: each boot starts from the states that the one before it
+-- left.
 use Rattle.std.specs.Prelude.{◌≡◌, ◌≢◌, ◌⊎◌, ◌==◌, ℕ, ◌+◌, ◌/◌, ◌%◌, Bool, true, IsTrue, false, not, count_by, ◌≤◌, ◌<◌, ◌&&◌, if◌then◌else◌, List, [], ◌∷◌, ◌++◌, length, map, take, slice_get, Option, Some, None, IsSome, ⊤, Contains}
 use Rattle.std.specs.List.{list_all, list_any, AllZip}
 use Rattle.nand_model.specs.Sizes.{first_page}
@@ -49,13 +50,15 @@ quiet_of (Some c) = c.quiet
 abbrev pub quiet_at : {W : Type 0} → ℕ → Course W → Bool
 quiet_at k course = quiet_of (slice_get course.chips k)
 
--- in a course, the attach of each chip was quiet just where the trace of what befell the chip says so
+-- in a course, the attach of each chip was quiet just where the trace of what befell the chip says
+-- so
 abbrev pub AreQuietAsTraced : {W : Type 0} → FaultModel W → List (ChipState W) → List ChipBoot → Course W → Type 0
 AreQuietAsTraced {W} model starts lives course =
     (k : ℕ) (s : ChipState W) (b : ChipBoot) → slice_get starts k ≡ Some s → slice_get lives k ≡ Some b →
     quiet_at k course ≡ was_quiet model s (events_in b.attach)
 
--- and so in each course of a run, the boots of which began in these states and in those that the courses left
+-- and so in each course of a run, the boots of which began in these states and in those that the
+-- courses left
 abbrev pub AreAllQuietAsTraced : {W : Type 0} → FaultModel W → List (ChipState W) → List (List ChipBoot)
     → List (Course W) → Type 0
 AreAllQuietAsTraced model starts lives [] = ⊤
@@ -67,8 +70,8 @@ AreAllQuietAsTraced model starts lives (course ∷ courses) =
 abbrev pub session_at_start : {W : Type 0} → Boot → List (ChipState W) → ℕ → List Command → SessionRun
 session_at_start boot starts session commands = without_finished (sizes_of boot starts) session commands [] []
 
--- the operations of each session of a boot are those of its commands, in order and each once, as far as the
--- notes go, and no other session has any
+-- the operations of each session of a boot are those of its commands, in order and each once, as
+-- far as the notes go, and no other session has any
 pub record AreInOrder {W : Type 0} (boot : Boot) (starts : List (ChipState W)) (notes : List Note) : Type 0 where
   pub own : (session : ℕ) (commands : List Command) → Contains boot.sessions (session, commands)
       → FollowsCommands (sizes_of boot starts) (session_at_start boot starts session commands)
@@ -87,9 +90,9 @@ AreComplete boot starts notes =
 abbrev pub HaveOneNumberEach : List (ℕ × List Command) → Type 0
 HaveOneNumberEach sessions = (n : ℕ) (a b : List Command) → Contains sessions (n, a) → Contains sessions (n, b) → a ≡ b
 
--- for every list of turns: the notes of a course are those of one thread, whose traces are what befell the
--- chips by one list of page events, with the boot's flips and cut; they lead to the states that the course
--- leaves; and each session's operations are those of its commands
+-- for every list of turns: the notes of a course are those of one thread, whose traces are what
+-- befell the chips by one list of page events, with the boot's flips and cut; they lead to the
+-- states that the course leaves; and each session's operations are those of its commands
 pub record CoursesAreFaithful {W : Type 0} (model : FaultModel W) (boot : Boot) (starts : List (ChipState W))
     (attaches : ℕ) (turns : List ℕ) : Type 0 where
   pub lives : List ChipBoot
@@ -128,10 +131,10 @@ abbrev pub HasTableBlocks : Geometry → List ℕ → Type 0
 HasTableBlocks g factory_bad =
     has_tables g ≡ true → count_by (λ block. list_any (λ b. b == block) factory_bad) (table_blocks g) ≤ 2
 
--- each attach note of a quiet attach shows the marks of the boots before it, where no torn event of the chip
--- before it was foul and each earlier attach was quiet.
--- A course's cut has a `Tear`, so this speaks of the done bits that tears have; of a chip's life the same is
--- to be said for all done bits.
+-- each attach note of a quiet attach shows the marks of the boots before it, where no torn event of
+-- the chip before it was foul and each earlier attach was quiet. A course's cut has a `Tear`, so
+-- this speaks of the done bits that tears have; of a chip's life the same is to be said for all
+-- done bits.
 abbrev pub MarksSurvive : {W : Type 0} → Partitions → ℕ → Geometry → List ℕ → List (Course W) → Type 0
 MarksSurvive {W} partitions k g factory_bad courses =
     HasTableBlocks g factory_bad →
@@ -161,8 +164,9 @@ HasAcknowledged g partitions k boots copy =
     (b : ℕ) → b < g.blocks → IsTrue (list_any (marking_acknowledged partitions k b) boots)
     → IsTrue (calls_bad copy.states b)
 
--- a block of the last four, other than the one that is being changed, holds a copy that an attach would find,
--- and the newest copy that it would find has every mark that was acknowledged in these notes
+-- a block of the last four, other than the one that is being changed, holds a copy that an attach
+-- would find, and the newest copy that it would find has every mark that was acknowledged in these
+-- notes
 pub record KeepsACopy {W : Type 0} (partitions : Partitions) (k : ℕ) (s : ChipState W) (boots : List (List Note))
     (changing : Option ℕ) : Type 0 where
   pub block : ℕ
@@ -173,7 +177,8 @@ pub record KeepsACopy {W : Type 0} (partitions : Partitions) (k : ℕ) (s : Chip
   pub used : copy_in_use s ≡ Some newest
   pub marks : HasAcknowledged s.geometry partitions k boots newest.1
 
--- the later of two found copies: its version is at most three steps ahead, and where they are equal, so are the tables
+-- the later of two found copies: its version is at most three steps ahead, and where they are
+-- equal, so are the tables
 pub record IsLater (earlier later : Copy) : Type 0 where
   pub steps : ℕ
   pub few : steps ≤ 3
@@ -208,24 +213,25 @@ block_changed g (Some (ReadEvent page)) = None
 block_changed g (Some (ProgramEvent page image)) = Some (page / g.pages_per_block)
 block_changed g (Some (EraseEvent block)) = Some block
 
--- the block of a chip that is being erased or programmed: the one that its next event changes, unless the
--- controller is dark
+-- the block of a chip that is being erased or programmed: the one that its next event changes,
+-- unless the controller is dark
 abbrev pub block_in_change : {W : Type 0} → Partitions → Course W → ChipRun W → Option ℕ
 block_in_change partitions course c =
     if course.dark then None else block_changed c.chip.geometry (next_chip_event partitions c)
 
--- a moment at which an attach of chip k that began there would be fair and quiet: no torn event of it so far
--- was foul, each attach of it so far was quiet, and it is quiet now
+-- a moment at which an attach of chip k that began there would be fair and quiet: no torn event of
+-- it so far was foul, each attach of it so far was quiet, and it is quiet now
 pub record IsFairAndQuietNow {W : Type 0} (k : ℕ) (past : List (Course W)) (course : Course W) (c : ChipRun W) :
     Type 0 where
   pub is_chip : slice_get course.chips k ≡ Some c
   pub so_far : IsFairAndQuiet k (past ++ course ∷ [])
   pub now : IsTrue (is_quiet c.chip.geometry c.chip.pages)
 
--- (Not proved yet.) In a boot that comes after these courses of a run of new chips: once an attach would use
--- a copy of a chip with tables, at each later moment the copies agree, a block of its last four that is not
--- being changed holds a copy that an attach would find, and the newest copy that it would find has every
--- acknowledged mark. The first moment of a boot is the last one of the boot before it.
+-- (Not proved yet.) In a boot that comes after these courses of a run of new chips: once an attach
+-- would use a copy of a chip with tables, at each later moment the copies agree, a block of its
+-- last four that is not being changed holds a copy that an attach would find, and the newest copy
+-- that it would find has every acknowledged mark. The first moment of a boot is the last one of the
+-- boot before it.
 abbrev pub OneCopyStays : {W : Type 0} → FaultModel W → ℕ → Geometry → List ℕ → List (Course W) → Boot
     → List (ChipState W) → Type 0
 OneCopyStays {W} model k g factory_bad past boot starts =
@@ -238,8 +244,8 @@ OneCopyStays {W} model k g factory_bad past boot starts =
     ∷ [])
     (block_in_change boot.partitions (course_after model boot starts (attaches + more) (turns ++ later)) now)
 
--- (Not proved yet.) In such a boot: while a chip with tables is attached, nothing is pending on it and its
--- whole copies are two, both places hold the table in memory.
+-- (Not proved yet.) In such a boot: while a chip with tables is attached, nothing is pending on it
+-- and its whole copies are two, both places hold the table in memory.
 abbrev pub WholeCopiesHoldTheTable : {W : Type 0} → FaultModel W → ℕ → Geometry → List ℕ → List (Course W) → Boot
     → List (ChipState W) → Type 0
 WholeCopiesHoldTheTable {W} model k g factory_bad past boot starts =

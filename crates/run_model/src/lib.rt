@@ -1,2 +1,3 @@
-//! Definitions of whole runs: commands, the course of a controller in a boot, one-thread histories, marks and what is read back.
+//! Definitions of whole runs: commands, the course of a controller in a boot, one-thread histories,
+//! marks and what is read back.
 #![tactic(auto)]

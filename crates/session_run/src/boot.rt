@@ -77,9 +77,11 @@ fn take_round<F: Flash, C: PageCode>(core: &mut Core<F, C>) -> Result<(), AllocE
     Ok(())
 }
 
-/// Runs a controller's boot to its end: its chips are attached, the turns of the schedule are taken, and then those of all sessions in their order, round after round, until all is over.
+/// Runs a controller's boot to its end: its chips are attached, the turns of the schedule are
+/// taken, and then those of all sessions in their order, round after round, until all is over.
 ///
-/// The controller has just been started, and the schedule names sessions of its own. It waits for nobody.
+/// The controller has just been started, and the schedule names sessions of its own. It waits for
+/// nobody.
 pub fn replay<F: Flash, C: PageCode>(
     core: Core<F, C>,
     schedule: &Schedule,

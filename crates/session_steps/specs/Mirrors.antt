@@ -10,8 +10,8 @@ use Rattle.command_model.specs.Runnable.{CanRun}
 use Rattle.session_steps.specs.declared.session.Session.{Session}
 use Rattle.session_steps.specs.Standing.{Standing, standing, outcomes_by, commands_by}
 
--- the command that was begun last is the first of these and has had these replies; where it is over or none
--- was begun, there is no reply
+-- the command that was begun last is the first of these and has had these replies; where it is over
+-- or none was begun, there is no reply
 abbrev pub GoesOn : (Command → Geometry) → List Command → List Reply → Option Script → Type 0
 GoesOn sizes commands replies None = replies ≡ []
 GoesOn sizes commands replies (Some (End outcome)) = replies ≡ []
@@ -36,7 +36,8 @@ IsPlaced notes (Some place) = place < notes
 abbrev pub CanAllRun : (Command → Geometry) → List Command → Type 0
 CanAllRun sizes commands = All (λ c. CanRun (sizes c) c) commands
 
--- a session with these commands, each of which can be run, stands where the session of a course does
+-- a session with these commands, each of which can be run, stands where the session of a course
+-- does
 pub record Mirrors (sizes : Command → Geometry) (commands : List Command) (notes : List Note) (s : Session)
     (run : SessionRun) : Type 0 where
   pub runnable : CanAllRun sizes commands

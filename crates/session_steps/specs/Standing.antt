@@ -13,7 +13,8 @@ use Rattle.tool_steps.specs.declared.tool.Tool.{Tool}
 use Rattle.session_steps.specs.Ended.{EndOfSession}
 use Rattle.session_steps.specs.declared.session.Session.{Session}
 
--- the number of a session, what is left of the command that it began last, and the outcomes that it has put down
+-- the number of a session, what is left of the command that it began last, and the outcomes that it
+-- has put down
 pub record Standing : Type 0 where
   pub number : ℕ
   pub script : Option Script

@@ -29,7 +29,8 @@ impl Model for SessionEnd {
 }
 
 impl SessionEnd {
-    /// The end of a session without commands; `cut` tells that the controller went dark before all commands were finished. It takes no memory.
+    /// The end of a session without commands; `cut` tells that the controller went dark before all
+    /// commands were finished. It takes no memory.
     pub fn new(alloc: Global, session: u32, cut: bool) -> SessionEnd
         ensures { result ≡ record { session = session; cut = cut; outcomes = [] } }
     {
@@ -51,7 +52,8 @@ impl SessionEnd {
         }
     }
 
-    /// Adds the outcome of a finished command. Where memory runs out, it is handed back and all is as before.
+    /// Adds the outcome of a finished command. Where memory runs out, it is handed back and all is
+    /// as before.
     pub fn push(&mut self, outcome: Outcome) -> Result<(), (Outcome, AllocError)>
         ensures ok { OnOk result (self.new ≡ with_outcome self.old outcome) }
         ensures err { OnErr result (self.new ≡ self.old) }

@@ -17,9 +17,10 @@ use nand_model::{Command, Geometry, ItemList, Note, Op, Outcome, Reply};
 use std::alloc::{AllocError, Global};
 use tool_steps::{Step, Tool};
 
-/// Where a session of a controller stands: the tool of the command that it began last, the place of that tool's last reply in the controller's notes
-/// if the tool does not have it yet, and the outcomes of the commands before. The commands and the notes are handed to each call; they are always
-/// those of the session's controller.
+/// Where a session of a controller stands: the tool of the command that it began last, the place of
+/// that tool's last reply in the controller's notes if the tool does not have it yet, and the
+/// outcomes of the commands before. The commands and the notes are handed to each call; they are
+/// always those of the session's controller.
 #[derive(Drop)]
 pub struct Session {
     number: u32,
@@ -56,7 +57,8 @@ impl Session {
         self.next_command(commands, notes).is_none()
     }
 
-    /// Lends the first command that is not finished, of which the next operation is. None comes exactly where all are. It takes no memory.
+    /// Lends the first command that is not finished, of which the next operation is. None comes
+    /// exactly where all are. It takes no memory.
     pub fn next_command<'a>(
         &self,
         commands: &'a ItemList<Command>,
@@ -72,8 +74,9 @@ impl Session {
         }
     }
 
-    /// The next operation, of the first command that is not finished; `g` are the sizes of that command's chip. The session stays where it stands,
-    /// also where memory runs out, so that the call may be repeated before the reply comes.
+    /// The next operation, of the first command that is not finished; `g` are the sizes of that
+    /// command's chip. The session stays where it stands, also where memory runs out, so that the
+    /// call may be repeated before the reply comes.
     pub fn next_op(
         &mut self,
         commands: &ItemList<Command>,
@@ -95,7 +98,8 @@ impl Session {
         self.begin(commands.get(place), g)
     }
 
-    /// Tells the session that the reply to its operation is at place `at` of the notes. It takes no memory.
+    /// Tells the session that the reply to its operation is at place `at` of the notes. It takes no
+    /// memory.
     pub fn replied(&mut self, at: usize)
         ensures { (sizes : Ordered → Sizes) (commands : List Ordered) (notes later : List Noted) (run : SessionRun) (session : ℕ) (reply : Replied) →
             Mirrors sizes commands notes self.old run → IsWaiting self.old → slice_get later at ≡ Some (Answered session reply) →
@@ -104,7 +108,8 @@ impl Session {
         self.last = Some(at);
     }
 
-    /// The end of the session, with the outcomes of all finished commands; `cut` tells that others were left. Err comes for want of memory alone.
+    /// The end of the session, with the outcomes of all finished commands; `cut` tells that others
+    /// were left. Err comes for want of memory alone.
     pub fn finish(self, notes: &History, cut: bool) -> Result<SessionEnd, AllocError>
         ensures { IfOk result (λ ended. ended ≡ end_of cut (standing notes.now.notes self)) }
     {
@@ -135,7 +140,8 @@ impl Session {
         }
     }
 
-    // The tool is handed its last reply, if there is one. It gives its operation; None comes exactly where no tool stands or its command is over.
+    // The tool is handed its last reply, if there is one. It gives its operation; None comes
+    // exactly where no tool stands or its command is over.
     fn resume(&mut self, notes: &History) -> Result<Option<Op>, AllocError>
         ensures op { IfOk result (λ op. op ≡ op_asked (standing notes.now.notes self.old).script) }
         ensures stands { OnOk result (standing_alone self.new ≡ standing notes.now.notes self.old) }

@@ -1,4 +1,5 @@
--- The several-chip plan: one controller with one to eight chips, bits of them that turn over, and one to eight sessions under one list of turns.
+-- The several-chip plan: one controller with one to eight chips, bits of them that turn over, and
+-- one to eight sessions under one list of turns.
 --
 --   nandlab 1
 --   controller
@@ -6,7 +7,8 @@
 --   part 0 COUNT                          and its partition, from 1 to BLOCKS blocks
 --   data img hex:DIGITS                   at most one such line, with 1 to 2,048 bytes
 --   boot
---   flip 0.K PAGE BEFORE BIT BIT ..       any number of such lines, with at least one bit: chip K, its page and the page's bits exist, and BEFORE is from 1 to 2^32 - 1
+--   flip 0.K PAGE BEFORE BIT BIT ..       any number of such lines, with at least one bit: chip K,
+-- its page and the page's bits exist, and BEFORE is from 1 to 2^32 - 1
 --   session 0                             for each session, and then any number of commands:
 --   nandwrite -n -p mtdJ img                only with a data line
 --   nandwrite -p mtdJ img                   only with a data line
@@ -18,7 +20,8 @@
 --   stats mtdJ
 --   schedule SESSION SESSION ..           at most one such line, with at least one number
 --
--- Each line ends with LF, words are separated by one space, and numbers are decimal without leading zeros. J is one of the devices, of which each chip has one.
+-- Each line ends with LF, words are separated by one space, and numbers are decimal without leading
+-- zeros. J is one of the devices, of which each chip has one.
 use Rattle.std.specs.Prelude.{◌≡◌, ℕ, ◌*◌, ◌%◌, ◌==◌, ◌<◌, ◌≤◌, ◌^◌, ◌⊎◌, Bool, true, false, List, [], ◌∷◌, ◌++◌, length, map, flat_map, slice_get, Option, Some, None, All, codes, decimal, refl}
 use Rattle.hex.specs.Hex.{IsBytes, encode_lower}
 use Rattle.plan_model.specs.Plan.{PlanData, ChipPlan, BootPlan, SessionPlan}
@@ -84,7 +87,8 @@ pub record IsChip (chip : ChipLines) : Type 0 where
   pub some : 1 ≤ chip.part
   pub within : chip.part ≤ chip.blocks
 
--- bits that the form allows to turn over: some of a page of one of these chips, before a page event with a number from 1 to 2^32 - 1
+-- bits that the form allows to turn over: some of a page of one of these chips, before a page event
+-- with a number from 1 to 2^32 - 1
 pub record IsFlip (chips : List ChipLines) (flip : Flip) : Type 0 where
   pub chip : ChipLines
   pub is_there : slice_get chips flip.chip ≡ Some chip

@@ -1,7 +1,8 @@
 // The lines of a several-chip plan as data.
 use nand_model::{Bytes, Flip, ItemList};
 
-/// The line of a chip and the line of its partition, which begins at block 0. Pages have 2,048 bytes and 64 of spare, blocks have 64 pages, and there are no tables on flash.
+/// The line of a chip and the line of its partition, which begins at block 0. Pages have 2,048
+/// bytes and 64 of spare, blocks have 64 pages, and there are no tables on flash.
 #[derive(Clone, Copy, Debug, PartialEq, Eq)]
 pub struct ChipLines {
     /// Blocks of the chip: 8 or 16.
@@ -23,7 +24,8 @@ pub enum CommandLine {
     RawDump { dev: u32 },
     /// `nanddump` of the first page, decoded.
     NandDump { dev: u32 },
-    /// `nanddump -s` of the page at an offset, decoded. The offset is in bytes of page bodies: a multiple of 2,048 below the device's size.
+    /// `nanddump -s` of the page at an offset, decoded. The offset is in bytes of page bodies: a
+    /// multiple of 2,048 below the device's size.
     NandDumpAt { dev: u32, off: u32 },
     /// `flash_erase -N` of all blocks.
     FlashErase { dev: u32 },

@@ -25,8 +25,8 @@ abbrev pub reads_in : ℕ → Op → Reply → List PageRead
 reads_in dev (Read d page) reply = if d == dev then page_read reply else []
 reads_in dev _ reply = []
 
--- each device of a chip of which this is known has counted at most so many corrected bits, and at most so
--- many failed steps
+-- each device of a chip of which this is known has counted at most so many corrected bits, and at
+-- most so many failed steps
 abbrev pub HasCounted : ℕ → Known → Type 0
 HasCounted most known = (dev : ℕ) → ((known.statistics dev).corrected ≤ most) × ((known.statistics dev).failed ≤ most)
 

@@ -1,4 +1,5 @@
-//! The ECC statistics of a boot: they are the sums of what its reads counted, and at most 128 for each turn.
+//! The ECC statistics of a boot: they are the sums of what its reads counted, and at most 128 for
+//! each turn.
 #![tactic(auto)]
 
 mod laws;

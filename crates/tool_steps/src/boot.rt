@@ -22,7 +22,8 @@ struct Session {
     commands: ItemList<Command>,
 }
 
-/// A controller's part of one boot: its partitions, its faults, and its sessions with their commands.
+/// A controller's part of one boot: its partitions, its faults, and its sessions with their
+/// commands.
 #[derive(Drop)]
 pub struct ControllerBoot {
     partitions: Parts,
@@ -67,7 +68,8 @@ impl ControllerBoot {
         Ok(())
     }
 
-    /// Adds a command to the last session. Where memory runs out, the command is handed back and all is as before.
+    /// Adds a command to the last session. Where memory runs out, the command is handed back and
+    /// all is as before.
     pub fn add_command(&mut self, command: Command) -> Result<(), (Command, AllocError)>
         requires { 0 < length self.old.sessions }
         ensures ok { OnOk result (self.new ≡ with_command self.old command) }
@@ -92,7 +94,8 @@ impl ControllerBoot {
         &self.faults
     }
 
-    /// The number of the session at place `k`, counted from 0. None comes exactly where there is none. The boot has no cut.
+    /// The number of the session at place `k`, counted from 0. None comes exactly where there is
+    /// none. The boot has no cut.
     pub fn session(&self, k: usize) -> Option<u32>
         ensures number { result ≡ session_number self.now k }
         ensures uncut { self.now.cut ≡ None }
@@ -112,7 +115,8 @@ impl ControllerBoot {
         &self.order[k].commands
     }
 
-    /// Lends the command at place `n` of the session at place `k`, both counted from 0. None comes exactly where there is none.
+    /// Lends the command at place `n` of the session at place `k`, both counted from 0. None comes
+    /// exactly where there is none.
     pub fn command(&self, k: usize, n: usize) -> Option<&Command>
         ensures { option_copied result ≡ command_at self.now k n }
     {

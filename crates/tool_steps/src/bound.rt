@@ -10,7 +10,8 @@ ghost use Rattle.tool_steps.specs.Steps.{asks_something, is_over, EndsAtLast};
 
 use nand_model::{Command, Geometry, Part};
 
-/// Whether a command asks for an operation: false exactly for a nandwrite of no data. It takes no memory.
+/// Whether a command asks for an operation: false exactly for a nandwrite of no data. It takes no
+/// memory.
 pub fn has_operation(command: &Command) -> bool
     ensures asked { result ≡ asks_something command.now }
     ensures first { (g : Sizes) → CanRun g command.now → result ≡ not (is_over (next_step g command.now [])) }
@@ -26,10 +27,11 @@ pub fn has_operation(command: &Command) -> bool
     }
 }
 
-/// The most operations that a command takes, where at most `weak` of its written pages fail or are refused.
+/// The most operations that a command takes, where at most `weak` of its written pages fail or are
+/// refused.
 ///
-/// For a nandwrite with the number of the device's blocks from the one of its offset on as `weak` it bounds the operations whatever
-/// the replies are.
+/// For a nandwrite with the number of the device's blocks from the one of its offset on as `weak`
+/// it bounds the operations whatever the replies are.
 pub fn cost(command: &Command, g: &Geometry, part: &Part, weak: u32) -> u64
     requires runs { CanRun g.now command.now }
     requires blocks { command_blocks command.now ≡ part.now.count }
@@ -48,7 +50,8 @@ pub fn cost(command: &Command, g: &Geometry, part: &Part, weak: u32) -> u64
     }
 }
 
-// The operations that the troubles of a nandwrite cost: the rest of a block, with its erase and its mark, is written again in another one.
+// The operations that the troubles of a nandwrite cost: the rest of a block, with its erase and its
+// mark, is written again in another one.
 fn trouble_cost(pages_per_block: u32, weak: u32) -> u64
     requires { pages_per_block ≤ 128 }
     ensures cost { result ≡ (pages_per_block + 2) * weak }

@@ -1,4 +1,5 @@
-//! The commands of mtd-utils as operations that are resumed at each reply, and a controller's part of a boot.
+//! The commands of mtd-utils as operations that are resumed at each reply, and a controller's part
+//! of a boot.
 #![tactic(auto)]
 
 mod boot;

@@ -13,7 +13,8 @@ fn sizes() -> Result<Geometry, Fail>
     Ok(Geometry::new(2048, 64, 64, 8, 4, 0, 0).ok().ok_or("sizes")?)
 }
 
-// The name of the operation that a step asks for, its device, its page or block, and the bytes that it programs.
+// The name of the operation that a step asks for, its device, its page or block, and the bytes that
+// it programs.
 fn asked(step: &Step) -> (&'static str, u32, u32, usize) {
     let Step::Do(op) = step else {
         return ("done", 0, 0, 0);

@@ -17,7 +17,8 @@ use crate::writing::Writing;
 use nand_model::{Bytes, Command, Geometry, Outcome, Reply};
 use std::alloc::{AllocError, Global};
 
-/// A command that is resumed at each reply. What is left of it is a script: the end with the outcome, or an operation and what follows each reply to it.
+/// A command that is resumed at each reply. What is left of it is a script: the end with the
+/// outcome, or an operation and what follows each reply to it.
 #[derive(Drop)]
 pub struct Tool {
     alloc: Global,
@@ -44,8 +45,8 @@ impl Tool {
         })
     }
 
-    /// The next step: None is handed over at first, and afterwards the reply to the operation that was given last.
-    /// Where memory runs out, the tool is as before.
+    /// The next step: None is handed over at first, and afterwards the reply to the operation that
+    /// was given last. Where memory runs out, the tool is as before.
     pub fn next(&mut self, last: Option<&Reply>) -> Result<Step, AllocError>
         ensures step { IfOk result (λ step. step ≡ step_of (next_in (after_last (option_copied last.entry) (left_of self.old)))) }
         ensures goes_on { OnOk result (left_of self.new ≡ after_last (option_copied last.entry) (left_of self.old)) }

@@ -7,7 +7,8 @@ use crate::work::{State, Work};
 use nand_model::{Bytes, Ending, Geometry, Op, Outcome, Reply};
 use std::alloc::{AllocError, Global};
 
-/// A block that nandwrite tries, whether without the page's code, the number of blocks after it, and the counts before it.
+/// A block that nandwrite tries, whether without the page's code, the number of blocks after it,
+/// and the counts before it.
 #[derive(Clone, Copy)]
 pub struct Writing {
     pub dev: u32,
@@ -27,7 +28,8 @@ impl Writing {
     ghost use Rattle.tool_steps.specs.declared.work.Work.TheVariants.{Scanning, Programming, Clearing};
     ghost use Rattle.tool_steps.specs.Work.{work_left, script_left, later_blocks, write_mode};
 
-    /// The program of the unit into the first page of the block, its spare or its free bytes being 0xFF.
+    /// The program of the unit into the first page of the block, its spare or its free bytes being
+    /// 0xFF.
     pub fn program(self, alloc: Global, g: &Geometry, unit: &[u8]) -> Result<Op, AllocError>
         ensures { IfOk result (λ op. op ≡ write_unit g.now (write_mode self.dev self.raw) (self.block * g.now.pages_per_block) unit.now) }
     {

@@ -15,8 +15,8 @@ events_of_operation = 14
 abbrev pub steps_of_operation : ℕ
 steps_of_operation = events_of_operation + 2
 
--- the most turns of a boot that do anything: the steps of each operation, and on each chip those of one that
--- does not come to its end
+-- the most turns of a boot that do anything: the steps of each operation, and on each chip those of
+-- one that does not come to its end
 abbrev pub most_turns : {W : Type 0} → Boot → List (ChipState W) → ℕ
 most_turns boot starts = steps_of_operation * boot_cost boot starts + (steps_of_operation - 1) * length starts
 
@@ -34,8 +34,8 @@ module _ {W : Type 0} (model : FaultModel W) (boot : Boot) (starts : List (ChipS
       ≤ (course_after model boot starts attaches []).events + length
       (busy_turns model boot starts turns (course_after model boot starts attaches []))
 
--- the most events of an attach: a read of each block's first page, four more of the table blocks, and the
--- twelve events of a writing
+-- the most events of an attach: a read of each block's first page, four more of the table blocks,
+-- and the twelve events of a writing
 abbrev pub events_of_attach : Geometry → ℕ
 events_of_attach g = g.blocks + 16
 

@@ -6,8 +6,9 @@ ghost use Rattle.run_model.specs.Run.{HaveOneNumberEach};
 ghost use Rattle.run_model.specs.Start.{CanRunBoot};
 ghost use Rattle.turn_laws.specs.Laws.{BusyTurnsAreFew, EventsAreTurns, AttachesAreShort};
 
-/// A boot of commands that can be run ends, where each session has one number: whatever the turns, few of them do anything, and each
-/// does at most one event. An attach has at most an event for each block and sixteen more.
+/// A boot of commands that can be run ends, where each session has one number: whatever the turns,
+/// few of them do anything, and each does at most one event. An attach has at most an event for
+/// each block and sixteen more.
 pub fn courses_end<W>()
     ensures turns { (model : FaultModel W) (boot : Boot) (starts : List (ChipState W)) (attaches : ℕ) (turns : List ℕ) →
         CanRunBoot boot starts → HaveOneNumberEach boot.sessions → BusyTurnsAreFew model boot starts attaches turns }

@@ -40,7 +40,8 @@ impl Tagged for Log {
     }
 }
 
-/// Adds its pass's number to a log, where there is memory. It keeps how many entries it found and left.
+/// Adds its pass's number to a log, where there is memory. It keeps how many entries it found and
+/// left.
 #[derive(Drop)]
 pub struct AddNumber {
     pub number: u32,

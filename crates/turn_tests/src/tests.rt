@@ -61,8 +61,8 @@ fn seen_of(alloc: Global, passes: &[Pass<Log>]) -> Result<Vec<u64>, AllocError> 
     Ok(seen)
 }
 
-// Makes a turnstile with so many passes, each of which takes so many turns on a thread of its own, and closes it.
-// Answers the log, and how much of it each pass has seen.
+// Makes a turnstile with so many passes, each of which takes so many turns on a thread of its own,
+// and closes it. Answers the log, and how much of it each pass has seen.
 fn run<R: Threads + Wait + Sync>(
     rt: &R,
     alloc: Global,

@@ -46,9 +46,10 @@ module _ {G E : Type 0} where
     pub each : (k : ℕ) (pass : Standing G E) → slice_get passes k ≡ Some pass
         → IsPassOf lock pass × (pass.number ≡ k)
 
-  -- A turn of a pass. The act found a value with the tag, whose history begins with all that the pass had seen and
-  -- names it nowhere after that. It worked on this value once, kept the tag, and added at most one entry, which
-  -- names the pass. The pass has then seen the history that the act left.
+  -- A turn of a pass. The act found a value with the tag, whose history begins with all that the
+  -- pass had seen and names it nowhere after that. It worked on this value once, kept the tag, and
+  -- added at most one entry, which names the pass. The pass has then seen the history that the act
+  -- left.
   pub record TakesTurn {T A : Type 0} (tag_of : T → G) (history_of : T → List E) (names : G → E → ℕ)
       (does : A → T → A → T → Type 0) (lock : Lock G) (act act' : A) (pass pass' : Standing G E) : Type 0 where
     pub found : T

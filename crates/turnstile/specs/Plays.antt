@@ -1,4 +1,5 @@
--- What each step at a turnstile's table tells the seat that takes it, and how passes go from seat to seat.
+-- What each step at a turnstile's table tells the seat that takes it, and how passes go from seat
+-- to seat.
 use Rattle.std.specs.Prelude.{◌≡◌, ◌≢◌, ℕ, ◌^◌, ◌%◌, ◌≤◌, List, [], ◌∷◌, ◌++◌, Some, None}
 use Rattle.atomic_table.specs.Table.{Me, Step}
 use Rattle.turnstile.specs.declared.view.View.{View}

@@ -1,6 +1,6 @@
 -- The rule of a turnstile's table.
--- Word 0 is the next ticket, word 1 the ticket that is served, and word 2 the front, the length of the history.
--- The slot has the value.
+-- Word 0 is the next ticket, word 1 the ticket that is served, and word 2 the front, the length of
+-- the history. The slot has the value.
 use Rattle.std.specs.Prelude.{◌≡◌, ◌⊎◌, ℕ, zero, suc, ◌+◌, ◌^◌, ◌%◌, ◌<◌, ◌≤◌, List, [], ◌∷◌, length, Some, None}
 use mathlib.Core.Option.{none, some}
 use lib.ListN.{get_elem?}
@@ -67,10 +67,12 @@ module _ {G E : Type 0} where
     pub backed : drawn v ≤ pass_count v
     -- a view that has the turn has the ticket that is served, and keeps the history
     pub served_at : (h : List E) → v.turn ≡ Some h → (v.ticket ≡ Some served) × (h ≡ history)
-    -- each of its passes has seen a beginning of the history, which names that pass nowhere after it
+    -- each of its passes has seen a beginning of the history, which names that pass nowhere after
+    -- it
     pub seen : AllHaveSeen name history v.passes
 
-  -- the tickets in views are the numbers from the one served up to but not including the next one, each once
+  -- the tickets in views are the numbers from the one served up to but not including the next one,
+  -- each once
   pub record AreTickets (served : ℕ) (views : List (View G E)) : Type 0 where
     pub within : (t : ℕ) → served ≤ t → t < served + total drawn views → total (drawn_at t) views ≡ 1
     pub below : (t : ℕ) → t < served → total (drawn_at t) views ≡ 0
@@ -93,7 +95,8 @@ module _ {G E : Type 0} where
     -- the rule, at a history and an unbounded number that is served
     pub record StandsAt (names : G → E → ℕ) (tag : G) (many : ℕ) (history : List E) (served : ℕ)
         (s : State T (View G E)) : Type 0 where
-      -- the words are the next ticket and the ticket served, both modulo 2^64, and the history's length
+      -- the words are the next ticket and the ticket served, both modulo 2^64, and the history's
+      -- length
       pub words : s.words ≡ ((served + total drawn s.views) % 2 ^ 64) ∷ (served % 2 ^ 64) ∷ length history ∷ []
       -- the value is at home, or it is out with the one seat that has the turn
       pub value : IsHome tag history s ⊎ IsOut s

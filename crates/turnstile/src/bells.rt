@@ -1,4 +1,5 @@
-// What a pass sleeps on until its ticket is served. The rule knows nothing of it, and no clause rests on it.
+// What a pass sleeps on until its ticket is served. The rule knows nothing of it, and no clause
+// rests on it.
 ghost use Rattle.std.specs.Prelude.{◌<◌, length};
 
 use std::alloc::{AllocError, Global};
@@ -6,7 +7,8 @@ use std::sync::Wait;
 use std::sync::atomic::AtomicU64;
 use std::sync::atomic::Ordering::SeqCst;
 
-// One bell for each pass. The tickets out follow each other and are at most as many, so each has a bell of its own.
+// One bell for each pass. The tickets out follow each other and are at most as many, so each has a
+// bell of its own.
 #[derive(Drop)]
 pub(crate) struct Bells {
     bells: Vec<AtomicU64>,
@@ -36,7 +38,8 @@ impl Bells {
         self.bell(ticket).load(SeqCst)
     }
 
-    // Sleeps until the bell of this ticket rings, where it has rung just so often. It may also return for no reason.
+    // Sleeps until the bell of this ticket rings, where it has rung just so often. It may also
+    // return for no reason.
     pub(crate) fn sleep<R: Wait>(&self, rt: &R, ticket: u64, rings: u64) {
         self.bell(ticket).park(rt, (rings & 0xffff_ffff) as u32);
     }

@@ -1,4 +1,5 @@
-//! A ticket lock: each pass draws a ticket, waits until it is served, and lets one act work on the value.
+//! A ticket lock: each pass draws a ticket, waits until it is served, and lets one act work on the
+//! value.
 #![tactic(auto)]
 
 mod bells;

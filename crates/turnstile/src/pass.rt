@@ -10,7 +10,8 @@ use std::marker::Model;
 
 /// The right to take turns at a turnstile. It keeps how much of the history it has seen.
 ///
-/// Contracts see its turnstile's table and tag, its number and the history that it has seen (`Standing`).
+/// Contracts see its turnstile's table and tag, its number and the history that it has seen
+/// (`Standing`).
 #[derive(Drop)]
 pub struct Pass<T: Tagged> {
     pub(crate) number: u32,

@@ -1,5 +1,5 @@
-// The rule of the turnstile's table, and the kinds of step at it. The table has two words for tickets, one for the
-// front of the history, and one slot for the value.
+// The rule of the turnstile's table, and the kinds of step at it. The table has two words for
+// tickets, one for the front of the history, and one slot for the value.
 ghost use Rattle.turnstile.specs.Turns.{Stands, first_view};
 ghost use Rattle.turnstile.specs.Plays.{drew, looked, marked, passed, kept_by, given_to, joined, spent};
 

@@ -26,7 +26,8 @@ const SERVING: usize = 1;
 // The word with the length of the history.
 const FRONT: usize = 2;
 
-/// A ticket lock round a value: each pass draws a ticket, waits until it is served, and lets one act work on the value.
+/// A ticket lock round a value: each pass draws a ticket, waits until it is served, and lets one
+/// act work on the value.
 ///
 /// Contracts see its table, the tag of its value and the number of its passes (`Lock`).
 #[derive(Drop)]
@@ -53,7 +54,8 @@ impl<T: Tagged> Model for Turnstile<T> {
 }
 
 impl<T: Tagged> Turnstile<T> {
-    /// A turnstile round a value with an empty history, and its passes, which are numbered from 0 on.
+    /// A turnstile round a value with an empty history, and its passes, which are numbered from 0
+    /// on.
     ///
     /// On want of memory the value is dropped.
     pub fn new(
@@ -137,11 +139,12 @@ impl<T: Tagged> Turnstile<T> {
         list.append(pass)
     }
 
-    /// Takes a turn with an act of this pass that is not done: draws a ticket, waits until it is served, and lets the
-    /// act work on the value once.
+    /// Takes a turn with an act of this pass that is not done: draws a ticket, waits until it is
+    /// served, and lets the act work on the value once.
     ///
-    /// The history that the act finds begins with what the pass had seen, and names the pass nowhere after that. The
-    /// pass has then seen the history that the act leaves. No memory is taken but what the act takes.
+    /// The history that the act finds begins with what the pass had seen, and names the pass
+    /// nowhere after that. The pass has then seen the history that the act leaves. No memory is
+    /// taken but what the act takes.
     pub fn turn<R: Wait, A: Act<T>>(&self, rt: &R, pass: &mut Pass<T>, act: &mut A)
         requires of { IsPassOf self.now pass.old }
         requires todo { A.is_done act.old ≡ false }
@@ -253,8 +256,8 @@ impl<T: Tagged> Turnstile<T> {
 
     /// Takes the value out, once all passes have come back, in the order of their numbers.
     ///
-    /// The value has the tag. Its history begins with what each pass has seen, and names that pass nowhere after that.
-    /// No memory is taken.
+    /// The value has the tag. Its history begins with what each pass has seen, and names that pass
+    /// nowhere after that. No memory is taken.
     pub fn close(self, passes: PassList<T>) -> T
         requires { AreAllPasses self passes }
         ensures tag { T.tag result ≡ self.tag }

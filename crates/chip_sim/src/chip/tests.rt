@@ -97,7 +97,8 @@ fn flips_bits(rt: HostRuntime) -> Result<(), Fail> {
     let g = Geometry::new(2048, 64, 64, 8, 1, 0, 0)?;
     let mut chip = SimChip::new(alloc, g, &BlockList::new(alloc))?;
     let mut out = vec![in alloc; 0u8; 2112]?;
-    // Each row: a bit of page 70, the byte that it is in, that byte after the flip, and the flips of bits 0 to 7 so far.
+    // Each row: a bit of page 70, the byte that it is in, that byte after the flip, and the flips
+    // of bits 0 to 7 so far.
     let rows = [
         (0, 0, 0x7f, 1),
         (7, 0, 0x7e, 2),
