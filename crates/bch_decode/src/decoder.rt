@@ -48,10 +48,12 @@ pub fn decode(t: u32, step: &mut [u8; 512], parity: &mut [u8]) -> Decoded
     requires room { length parity.old ≡ (13 * t + 7) / 8 }
     ensures decodes { Decodes (code_512 t) (step_word t step.old parity.old)
         (answer_of result (step_word t step.new parity.new)) }
-    ensures finds { (c : List ℕ) (n : ℕ) → IsNearest (code_512 t) (step_word t step.old parity.old) c n
+    ensures finds { (c : List ℕ) (n : ℕ) →
+        IsNearest (code_512 t) (step_word t step.old parity.old) c n
         → (result ≡ Decoded.Corrected n) × (step_word t step.new parity.new ≡ c) }
     ensures padding { (k : ℕ) → 13 * t ≤ k → bit_of parity.new k ≡ bit_of parity.old k }
-    ensures unchanged { result ≡ Decoded.Failed → (step.new ≡ step.old) × (parity.new ≡ parity.old) }
+    ensures unchanged { result ≡ Decoded.Failed → (step.new ≡ step.old)
+        × (parity.new ≡ parity.old) }
 {
     let end = 512 + parity.len();
     let mut word = joined(step, parity);

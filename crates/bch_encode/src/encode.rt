@@ -14,10 +14,13 @@ pub fn parity(t: u32, step: &[u8; 512], out: &mut [u8])
     requires strength { (0 < t) × (t ≤ 16) }
     requires room { length out.old ≡ parity_len (code_512 t) }
     ensures parity { out.new ≡ parity_of (code_512 t) step.now }
-    ensures completes { IsCodeWord (code_512 t) (bits_of step.now ++ take (13 * t) (bits_of out.new)) }
-    ensures only { (bits : List ℕ) → length bits ≡ 13 * t → IsCodeWord (code_512 t) (bits_of step.now ++ bits)
+    ensures completes { IsCodeWord (code_512 t)
+        (bits_of step.now ++ take (13 * t) (bits_of out.new)) }
+    ensures only { (bits : List ℕ) → length bits ≡ 13 * t →
+        IsCodeWord (code_512 t) (bits_of step.now ++ bits)
         → bits ≡ take (13 * t) (bits_of out.new) }
-    ensures padding { drop (13 * t) (bits_of out.new) ≡ replicate (8 * parity_len (code_512 t) - 13 * t) 0 }
+    ensures padding { drop (13 * t) (bits_of out.new)
+        ≡ replicate (8 * parity_len (code_512 t) - 13 * t) 0 }
 {
     let generator = generator(t);
     put_parity(step, generator.bits(), 13 * t, out);

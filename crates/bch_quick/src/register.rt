@@ -15,7 +15,8 @@ use u256::U256;
 // Four bytes of a body, the first the highest.
 fn four_bytes(body: &[u8], i: usize) -> u32
     requires { 4 * i + 4 ≤ length body.now }
-    ensures { result ≡ ((slice_index body.now (4 * i) * 256 + slice_index body.now (4 * i + 1)) * 256
+    ensures { result ≡ ((slice_index body.now (4 * i) * 256 + slice_index body.now (4 * i + 1)) *
+        256
         + slice_index body.now (4 * i + 2)) * 256 + slice_index body.now (4 * i + 3) }
 {
     let first = u32::from(body[4 * i]) << 24;

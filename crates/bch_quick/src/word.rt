@@ -51,7 +51,8 @@ fn flip(bytes: &mut [u8], place: usize)
 fn turn_over(bytes: &mut [u8], count: usize, degrees: &[u16]) -> bool
     requires room { count ≤ 8 * length bytes.old }
     ensures distance { IsTrue result
-        → length degrees.now ≡ distance (bits_from bytes.old 0 count) (bits_from bytes.new 0 count) }
+        → length degrees.now ≡ distance (bits_from bytes.old 0 count)
+        (bits_from bytes.new 0 count) }
     ensures padding { (k : ℕ) → count ≤ k → bit_of bytes.new k ≡ bit_of bytes.old k }
 {
     let mut seen = 0usize;

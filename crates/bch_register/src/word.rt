@@ -47,7 +47,8 @@ pub fn remainder_of_word(body: &[u8], parity: &[u8], generator: U256, degree: u3
     requires generator { HasDegree degree generator }
     requires parity { length parity.now ≡ (degree + 7) / 8 }
     ensures value { result
-        ≡ remainder degree generator (number_from 0 (bits_of body.now ++ take degree (bits_of parity.now))) }
+        ≡ remainder degree generator
+        (number_from 0 (bits_of body.now ++ take degree (bits_of parity.now))) }
     ensures small { result < 2 ^ degree }
 {
     let padding = 8 * parity.len() as u32 - degree;

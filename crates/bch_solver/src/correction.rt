@@ -53,7 +53,8 @@ fn correct_word<F: FieldProducts>(
     ensures distance { IfSome result
         (λ n. n ≡ distance (bits_from word.old 0 count) (bits_from word.new 0 count)) }
     ensures padding { (k : ℕ) → count ≤ k → bit_of word.new k ≡ bit_of word.old k }
-    ensures complete { (c : List ℕ) → IsNear F.DEGREE F.MODULUS strength (bits_from word.old 0 count) c
+    ensures complete { (c : List ℕ) →
+        IsNear F.DEGREE F.MODULUS strength (bits_from word.old 0 count) c
         → (result ≡ Some (distance (bits_from word.old 0 count) c))
         × (bits_from word.new 0 count ≡ c) }
 {

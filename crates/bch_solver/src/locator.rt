@@ -16,7 +16,8 @@ pub struct Locator {
 // The polynomial of a row.
 fn locator_of(row: &Row, degree: usize) -> Locator
     ensures degree { result.degree ≡ degree }
-    ensures coefficients { (l : ℕ) → slice_index result.coefficients l ≡ slice_index row.now (16 + l) }
+    ensures coefficients { (l : ℕ) → slice_index result.coefficients l
+        ≡ slice_index row.now (16 + l) }
 {
     let mut coefficients = [0u16; 17];
     for l in 0..17 {
@@ -35,7 +36,8 @@ pub fn solve<F: FieldProducts>(count: usize, syndromes: &[u16; 32]) -> Option<Lo
     requires room { count < 17 }
     requires small_syndromes { AllBelow (2 ^ F.DEGREE) syndromes.now }
     ensures solved { IfSome result (λ r. (r.degree ≤ count)
-        × SolvesKey F.DEGREE F.MODULUS (syndrome_at syndromes.now) count r.degree (λ l. slice_index r.coefficients l)) }
+        × SolvesKey F.DEGREE F.MODULUS (syndrome_at syndromes.now) count r.degree
+        (λ l. slice_index r.coefficients l)) }
     ensures least { IfSome result (λ r. (e : ℕ) (c : ℕ → ℕ) → e < r.degree
         → SolvesKey F.DEGREE F.MODULUS (syndrome_at syndromes.now) count e c → ⊥) }
     ensures none { IfNone result ((e : ℕ) (c : ℕ → ℕ) → e ≤ count

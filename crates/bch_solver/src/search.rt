@@ -43,7 +43,8 @@ pub fn correct<F: FieldProducts>(bytes: &mut [u8], count: usize, locator: &Locat
     requires small_degree { locator.now.degree < 17 }
     requires small_locator { AllBelow (2 ^ F.DEGREE) locator.now.coefficients }
     ensures turned { (k : ℕ) → k < count → Turned
-        (value (times F.DEGREE F.MODULUS) (polynomial_of locator.now.coefficients locator.now.degree)
+        (value (times F.DEGREE F.MODULUS)
+        (polynomial_of locator.now.coefficients locator.now.degree)
         (power F.DEGREE F.MODULUS 2 (count - suc k)))
         (bit_of bytes.old k) (bit_of bytes.new k) }
     ensures padding { (k : ℕ) → count ≤ k → bit_of bytes.new k ≡ bit_of bytes.old k }

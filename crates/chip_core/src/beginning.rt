@@ -56,7 +56,8 @@ pub fn begin<C: PageCode>(
 // The chip's page of a page of a device. None comes exactly where the device has no such page.
 fn page_of(g: &Geometry, parts: &Parts, dev: u32, page: u32) -> Option<u32>
     requires { HasDevice g.now parts.now dev }
-    ensures place { (k : Known) (go_on : ℕ → Path Finished) → in_range k result go_on ≡ on_page g.now k (part_of parts.now dev) page go_on }
+    ensures place { (k : Known) (go_on : ℕ → Path Finished) → in_range k result go_on
+        ≡ on_page g.now k (part_of parts.now dev) page go_on }
     ensures there { IfSome result (λ p. p < page_count g.now) }
 {
     parts.page(dev, page, g.pages_per_block)
@@ -65,7 +66,8 @@ fn page_of(g: &Geometry, parts: &Parts, dev: u32, page: u32) -> Option<u32>
 // A read of a page through its code.
 fn read(alloc: Global, known: &Knowledge, dev: u32, page: Option<u32>) -> Result<Task, AllocError>
     requires { IfSome page (λ p. p < page_count known.now.geometry) }
-    ensures { IfOk result (λ task. StandsFor known.now (λ k. in_range k page (read_from known.now.geometry k dev)) (Some dev) task) }
+    ensures { IfOk result (λ task. StandsFor known.now
+        (λ k. in_range k page (read_from known.now.geometry k dev)) (Some dev) task) }
 {
     let Some(page) = page else {
         return Ok(Task::AtOnce(Reply::OutOfRange));
@@ -85,7 +87,8 @@ fn write<C: PageCode>(
 ) -> Result<Task, AllocError>
     requires page { IfSome page (λ p. p < page_count known.now.geometry) }
     requires filled { FillsPlaces known.now.geometry body.now free.now }
-    ensures { IfOk result (λ task. StandsFor known.now (λ k. in_range k page (write_from known.now.geometry k body.now free.now)) None task) }
+    ensures { IfOk result (λ task. StandsFor known.now
+        (λ k. in_range k page (write_from known.now.geometry k body.now free.now)) None task) }
 {
     let Some(page) = page else {
         return Ok(Task::AtOnce(Reply::OutOfRange));
@@ -121,7 +124,8 @@ fn image_of<C: PageCode>(
 fn put(image: &mut [u8], body: &[u8], free: &[u8])
     requires { length body.now + 2 + length free.now ≤ length image.old }
     ensures body { take (length body.now) image.new ≡ body.now }
-    ensures free { slice_range image.new (length body.now + 2) (length body.now + 2 + length free.now) ≡ free.now }
+    ensures free { slice_range image.new (length body.now + 2)
+        (length body.now + 2 + length free.now) ≡ free.now }
 {
     let start = body.len() + 2;
     image[..body.len()].copy_from_slice(body);
@@ -131,7 +135,8 @@ fn put(image: &mut [u8], body: &[u8], free: &[u8])
 // A read of a page as it stands.
 fn raw_read(alloc: Global, known: &Knowledge, page: Option<u32>) -> Result<Task, AllocError>
     requires { IfSome page (λ p. p < page_count known.now.geometry) }
-    ensures { IfOk result (λ task. StandsFor known.now (λ k. in_range k page (raw_read_from k)) None task) }
+    ensures { IfOk result (λ task. StandsFor known.now
+        (λ k. in_range k page (raw_read_from k)) None task) }
 {
     let Some(page) = page else {
         return Ok(Task::AtOnce(Reply::OutOfRange));
@@ -149,7 +154,8 @@ fn raw_write(
 ) -> Result<Task, AllocError>
     requires page { IfSome page (λ p. p < page_count known.now.geometry) }
     requires whole { length image.now ≡ raw_len known.now.geometry }
-    ensures { IfOk result (λ task. StandsFor known.now (λ k. in_range k page (raw_write_from known.now.geometry k image.now)) None task) }
+    ensures { IfOk result (λ task. StandsFor known.now
+        (λ k. in_range k page (raw_write_from known.now.geometry k image.now)) None task) }
 {
     let Some(page) = page else {
         return Ok(Task::AtOnce(Reply::OutOfRange));

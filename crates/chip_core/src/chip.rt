@@ -61,7 +61,8 @@ impl<F: Flash, C: PageCode> Chip<F, C> {
     pub fn attach_start(alloc: Global, flash: F, code: C) -> Result<Chip<F, C>, AllocError>
         requires { (F.state flash).geometry.bbt ≡ 0 }
         ensures state { IfOk result (λ chip. chip_state chip ≡ F.state flash) }
-        ensures stage { IfOk result (λ chip. chip_stage chip ≡ first_stage (F.state flash).geometry) }
+        ensures stage { IfOk result
+            (λ chip. chip_stage chip ≡ first_stage (F.state flash).geometry) }
         ensures pending_note { IfOk result (λ chip. chip_pending_note chip ≡ None) }
     {
         let geometry = flash.geometry();
@@ -119,7 +120,8 @@ impl<F: Flash, C: PageCode> Chip<F, C> {
         requires place { FitsBits (chip_state self.old).geometry page bits.now }
         requires page_room { 1 ≤ chip_page_room self.old }
         requires bits { length bits.now ≤ chip_bits self.old }
-        ensures state { chip_state self.new ≡ after_trace F.fault_model (chip_state self.old) (flip_events page bits.now) }
+        ensures state { chip_state self.new
+            ≡ after_trace F.fault_model (chip_state self.old) (flip_events page bits.now) }
         ensures stage { chip_stage self.new ≡ chip_stage self.old }
         ensures pending_note { chip_pending_note self.new ≡ chip_pending_note self.old }
         ensures page_room { chip_page_room self.old ≤ chip_page_room self.new + 1 }
@@ -192,8 +194,11 @@ impl<F: Flash, C: PageCode> Chip<F, C> {
     /// Where memory runs out, all is as before.
     pub fn begin(&mut self, parts: &Parts, op: &Op) -> Result<(), AllocError>
         requires rests { is_resting (chip_stage self.old) ≡ true }
-        requires can { CanBegin (chip_state self.old).geometry parts.now (chip_stage self.old) op.now }
-        ensures begun { OnOk result (chip_stage self.new ≡ stage_begun (chip_state self.old).geometry parts.now op.now (chip_stage self.old)) }
+        requires can { CanBegin (chip_state self.old).geometry parts.now
+            (chip_stage self.old) op.now }
+        ensures begun { OnOk result
+            (chip_stage self.new
+            ≡ stage_begun (chip_state self.old).geometry parts.now op.now (chip_stage self.old)) }
         ensures no_memory { OnErr result (chip_stage self.new ≡ chip_stage self.old) }
         ensures state { chip_state self.new ≡ chip_state self.old }
         ensures pending_note { chip_pending_note self.new ≡ chip_pending_note self.old }
@@ -213,17 +218,24 @@ impl<F: Flash, C: PageCode> Chip<F, C> {
     /// The event touches no table page, so what is told of a failure is `Plain`.
     pub fn advance(&mut self) -> Option<Fairness>
         requires { IsSome (stage_event (chip_stage self.old)) }
-        ensures state { IfSome (stage_event (chip_stage self.old)) (λ e. chip_state self.new ≡ happens F.fault_model (chip_state self.old) (Complete e)) }
+        ensures state { IfSome (stage_event (chip_stage self.old))
+            (λ e. chip_state self.new ≡ happens F.fault_model (chip_state self.old) (Complete e)) }
         ensures stage { IfSome (stage_event (chip_stage self.old)) (λ e. chip_stage self.new
-            ≡ stage_after (is_quiet (chip_state self.old).geometry (chip_state self.old).pages) (answer_to F.fault_model (chip_state self.old) e)
+            ≡ stage_after (is_quiet (chip_state self.old).geometry (chip_state self.old).pages)
+            (answer_to F.fault_model (chip_state self.old) e)
             (chip_stage self.old)) }
-        ensures pending_note { IfSome (stage_event (chip_stage self.old)) (λ e. chip_pending_note self.new
-            ≡ pending_note_after (is_quiet (chip_state self.old).geometry (chip_state self.old).pages) (answer_to F.fault_model (chip_state self.old) e)
+        ensures pending_note { IfSome (stage_event (chip_stage self.old))
+            (λ e. chip_pending_note self.new
+            ≡ pending_note_after (is_quiet (chip_state self.old).geometry
+            (chip_state self.old).pages) (answer_to F.fault_model (chip_state self.old) e)
             (chip_stage self.old) (chip_pending_note self.old)) }
-        ensures told { IfSome (stage_event (chip_stage self.old)) (λ e. result ≡ failure_told F.fault_model (chip_state self.old) e) }
-        ensures failed { IfSome (stage_event (chip_stage self.old)) (λ e. is_some result ≡ is_failure (answer_to F.fault_model (chip_state self.old) e)) }
+        ensures told { IfSome (stage_event (chip_stage self.old))
+            (λ e. result ≡ failure_told F.fault_model (chip_state self.old) e) }
+        ensures failed { IfSome (stage_event (chip_stage self.old))
+            (λ e. is_some result ≡ is_failure (answer_to F.fault_model (chip_state self.old) e)) }
         ensures plain { IfSome result (λ fairness. fairness ≡ Plain) }
-        ensures risen { IfSome result (λ fairness. HasRisen (chip_state self.old).faults (chip_state self.new).faults) }
+        ensures risen { IfSome result
+            (λ fairness. HasRisen (chip_state self.old).faults (chip_state self.new).faults) }
         ensures page_room { chip_page_room self.new ≡ chip_page_room self.old }
         ensures bits { chip_bits self.old ≤ chip_bits self.new }
     {
@@ -245,8 +257,10 @@ impl<F: Flash, C: PageCode> Chip<F, C> {
     /// no memory.
     pub fn answer(&mut self) -> Reply
         requires { IsSome (finished_in (chip_stage self.old)) }
-        ensures reply { IfSome (finished_in (chip_stage self.old)) (λ finished. result ≡ finished.reply) }
-        ensures stage { IfSome (finished_in (chip_stage self.old)) (λ finished. chip_stage self.new ≡ Rests finished.known) }
+        ensures reply { IfSome (finished_in (chip_stage self.old))
+            (λ finished. result ≡ finished.reply) }
+        ensures stage { IfSome (finished_in (chip_stage self.old))
+            (λ finished. chip_stage self.new ≡ Rests finished.known) }
         ensures state { chip_state self.new ≡ chip_state self.old }
         ensures pending_note { chip_pending_note self.new ≡ chip_pending_note self.old }
         ensures page_room { chip_page_room self.new ≡ chip_page_room self.old }
@@ -282,12 +296,16 @@ impl<F: Flash, C: PageCode> Chip<F, C> {
     fn attach_on(&mut self, scan: Scan)
         requires rests { self.old.phase ≡ Resting }
         requires fits { AttachFits self.old.known.geometry self.old.known.sums scan }
-        requires quiet { scan.quiet_now ≡ is_quiet (F.state self.old.flash).geometry (F.state self.old.flash).pages }
+        requires quiet { scan.quiet_now
+            ≡ is_quiet (F.state self.old.flash).geometry (F.state self.old.flash).pages }
         ensures state { F.state self.new.flash ≡ F.state self.old.flash }
         ensures stage { phase_stage self.new.known self.new.phase
-            ≡ stage_after scan.quiet_now (Data (marker_page (F.state self.old.flash) scan.next)) (phase_stage self.old.known (Attaching scan)) }
+            ≡ stage_after scan.quiet_now (Data (marker_page (F.state self.old.flash) scan.next))
+            (phase_stage self.old.known (Attaching scan)) }
         ensures pending_note { pending_note_in self.new.phase self.new.finding
-            ≡ pending_note_after scan.quiet_now (Data (marker_page (F.state self.old.flash) scan.next)) (phase_stage self.old.known (Attaching scan)) None }
+            ≡ pending_note_after scan.quiet_now
+            (Data (marker_page (F.state self.old.flash) scan.next))
+            (phase_stage self.old.known (Attaching scan)) None }
         ensures page_room { self.new.page_room ≡ self.old.page_room }
         ensures bits { F.bit_room self.old.flash ≤ F.bit_room self.new.flash }
     {

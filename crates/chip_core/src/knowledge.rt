@@ -64,7 +64,8 @@ impl Knowledge {
     /// Makes an entry for the statistics that an operation adds to, and leaves all that is known as
     /// it is.
     pub fn expect(&mut self, op: &Op) -> Result<(), AllocError>
-        ensures there { OnOk result ((dev : ℕ) → read_device op.now ≡ Some dev → IsSome (place_of self.new.sums dev)) }
+        ensures there { OnOk result
+            ((dev : ℕ) → read_device op.now ≡ Some dev → IsSome (place_of self.new.sums dev)) }
         ensures geometry { self.new.geometry ≡ self.old.geometry }
         ensures states { self.new.states ≡ self.old.states }
         ensures stats { stats_in self.new.sums ≡ stats_in self.old.sums }

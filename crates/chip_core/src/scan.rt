@@ -39,7 +39,8 @@ impl Scan {
         requires without_tables { g.now.bbt ≡ 0 }
         ensures next { IfOk result (λ scan. scan.next ≡ 0) }
         ensures quiet_so_far { IfOk result (λ scan. scan.quiet_so_far ≡ true) }
-        ensures quiet_now { IfOk result (λ scan. scan.quiet_now ≡ is_quiet g.now (F.state flash.now).pages) }
+        ensures quiet_now { IfOk result
+            (λ scan. scan.quiet_now ≡ is_quiet g.now (F.state flash.now).pages) }
         ensures fits { IfOk result (λ scan. ScanFits g.now scan) }
     {
         Ok(Scan {
@@ -63,9 +64,11 @@ impl Scan {
     pub fn read_marker<F: Flash>(&mut self, flash: &F, g: &Geometry) -> u8
         requires fits { ScanFits g.now self.old }
         requires sizes { (F.state flash.now).geometry ≡ g.now }
-        ensures state { result ≡ marker_state g.now (marker_page (F.state flash.now) self.old.next) }
+        ensures state { result ≡ marker_state g.now
+            (marker_page (F.state flash.now) self.old.next) }
         ensures next { self.new.next ≡ self.old.next + 1 }
-        ensures quiet_so_far { self.new.quiet_so_far ≡ (self.old.quiet_so_far && self.old.quiet_now) }
+        ensures quiet_so_far { self.new.quiet_so_far
+            ≡ (self.old.quiet_so_far && self.old.quiet_now) }
         ensures quiet_now { self.new.quiet_now ≡ self.old.quiet_now }
         ensures cells { length self.new.cells ≡ raw_len g.now }
         ensures states { self.new.states ≡ self.old.states }
@@ -96,7 +99,8 @@ impl Scan {
 pub fn marker_is_quiet<F: Flash>(flash: &F, g: &Geometry, block: u32) -> bool
     requires sizes { (F.state flash.now).geometry ≡ g.now }
     requires there { block < g.now.blocks }
-    ensures { result ≡ has_no_flip_in ((F.state flash.now).pages (first_page g.now block)) g.now.page (g.now.page + 1) }
+    ensures { result ≡ has_no_flip_in
+        ((F.state flash.now).pages (first_page g.now block)) g.now.page (g.now.page + 1) }
 {
     flash.flips(block * g.pages_per_block, 8 * g.page, 8 * (g.page + 1)) == 0
 }

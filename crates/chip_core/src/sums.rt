@@ -73,7 +73,8 @@ impl Sums {
     pub fn add(&mut self, dev: u32, corrected: u32, failed: u32)
         requires there { IsSome (place_of self.old dev) }
         requires small { AreSmall (stats_in self.old dev) }
-        ensures { (d : Decoding) → d.corrected ≡ corrected → d.failed ≡ failed → stats_in self.new ≡ with_statistics (stats_in self.old) dev d }
+        ensures { (d : Decoding) → d.corrected ≡ corrected → d.failed ≡ failed → stats_in self.new
+            ≡ with_statistics (stats_in self.old) dev d }
     {
         match self.place(dev) {
             None => unreachable!(),

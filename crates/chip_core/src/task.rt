@@ -84,10 +84,13 @@ impl Task {
         requires fits { TaskFits (F.state flash.old).geometry self }
         requires room { programs_of self ≤ F.room flash.old }
         requires event { IsSome (task_event self) }
-        ensures advanced { IfSome (task_event self) (λ e. Advances F.fault_model (F.state flash.old) (F.state flash.new) e self result.0 result.1) }
+        ensures advanced { IfSome (task_event self)
+            (λ e. Advances F.fault_model (F.state flash.old)
+            (F.state flash.new) e self result.0 result.1) }
         ensures fits { TaskFits (F.state flash.old).geometry result.0 }
         ensures counted { counted_by result.0 ≡ counted_by self }
-        ensures room { F.room flash.old + programs_of result.0 ≤ F.room flash.new + programs_of self }
+        ensures room { F.room flash.old + programs_of result.0 ≤ F.room flash.new + programs_of
+            self }
         ensures bits { F.bit_room flash.old ≤ F.bit_room flash.new }
     {
         match self {
@@ -122,7 +125,8 @@ fn read<F: Flash>(flash: &F, page: u32, cells: Bytes) -> Task
 fn decode<F: Flash, C: PageCode>(flash: &F, code: &C, dev: u32, page: u32, cells: Bytes) -> Task
     requires { FitsPage (F.state flash.now).geometry page cells }
     ensures left { (k : Known) → task_left (F.state flash.now).geometry k result
-        ≡ Over (after_read (F.state flash.now).geometry k dev (decoded (F.state flash.now).geometry ((F.state flash.now).pages page).cells)) }
+        ≡ Over (after_read (F.state flash.now).geometry k dev
+        (decoded (F.state flash.now).geometry ((F.state flash.now).pages page).cells)) }
     ensures fits { TaskFits (F.state flash.now).geometry result }
     ensures progress { task_progress result ≡ AfterOne }
     ensures counted { counted_by result ≡ Some dev }
@@ -143,11 +147,16 @@ fn program<F: Flash>(flash: &mut F, page: u32, image: &[u8]) -> (Task, Option<Fa
     requires without_tables { (F.state flash.old).geometry.bbt ≡ 0 }
     requires place { FitsPage (F.state flash.old).geometry page image.now }
     requires room { 1 ≤ F.room flash.old }
-    ensures state { F.state flash.new ≡ happens F.fault_model (F.state flash.old) (Complete (ProgramEvent page image.now)) }
-    ensures reply { result.0 ≡ Ended (done_or RepliesProgramFailed (answer_to F.fault_model (F.state flash.old) (ProgramEvent page image.now))) }
-    ensures told { result.1 ≡ failure_told F.fault_model (F.state flash.old) (ProgramEvent page image.now) }
+    ensures state { F.state flash.new
+        ≡ happens F.fault_model (F.state flash.old) (Complete (ProgramEvent page image.now)) }
+    ensures reply { result.0
+        ≡ Ended (done_or RepliesProgramFailed
+        (answer_to F.fault_model (F.state flash.old) (ProgramEvent page image.now))) }
+    ensures told { result.1 ≡ failure_told F.fault_model (F.state flash.old)
+        (ProgramEvent page image.now) }
     ensures plain { IfSome result.1 (λ fairness. fairness ≡ Plain) }
-    ensures risen { IfSome result.1 (λ fairness. HasRisen (F.state flash.old).faults (F.state flash.new).faults) }
+    ensures risen { IfSome result.1
+        (λ fairness. HasRisen (F.state flash.old).faults (F.state flash.new).faults) }
     ensures room { F.room flash.old ≤ F.room flash.new + 1 }
     ensures bits { F.bit_room flash.old ≤ F.bit_room flash.new }
 {
@@ -161,11 +170,15 @@ fn program<F: Flash>(flash: &mut F, page: u32, image: &[u8]) -> (Task, Option<Fa
 fn erase<F: Flash>(flash: &mut F, block: u32) -> (Task, Option<Fairness>)
     requires without_tables { (F.state flash.old).geometry.bbt ≡ 0 }
     requires place { block < (F.state flash.old).geometry.blocks }
-    ensures state { F.state flash.new ≡ happens F.fault_model (F.state flash.old) (Complete (EraseEvent block)) }
-    ensures reply { result.0 ≡ Ended (done_or RepliesEraseFailed (answer_to F.fault_model (F.state flash.old) (EraseEvent block))) }
+    ensures state { F.state flash.new
+        ≡ happens F.fault_model (F.state flash.old) (Complete (EraseEvent block)) }
+    ensures reply { result.0
+        ≡ Ended (done_or RepliesEraseFailed
+        (answer_to F.fault_model (F.state flash.old) (EraseEvent block))) }
     ensures told { result.1 ≡ failure_told F.fault_model (F.state flash.old) (EraseEvent block) }
     ensures plain { IfSome result.1 (λ fairness. fairness ≡ Plain) }
-    ensures risen { IfSome result.1 (λ fairness. HasRisen (F.state flash.old).faults (F.state flash.new).faults) }
+    ensures risen { IfSome result.1
+        (λ fairness. HasRisen (F.state flash.old).faults (F.state flash.new).faults) }
     ensures room { F.room flash.old ≤ F.room flash.new }
     ensures bits { F.bit_room flash.old ≤ F.bit_room flash.new }
 {

@@ -22,9 +22,14 @@ pub fn attach<F: Flash, C: PageCode>(
 ) -> Result<Chip<F, C>, AllocError>
     requires { (F.state flash).geometry.bbt ≡ 0 }
     ensures state { IfOk result (λ chip. chip_state chip ≡ F.state flash) }
-    ensures stage { IfOk result (λ chip. chip_stage chip ≡ Rests (known_by_markers (marker_states (F.state flash)))) }
+    ensures stage { IfOk result
+        (λ chip. chip_stage chip ≡ Rests (known_by_markers (marker_states (F.state flash)))) }
     ensures pending_note { IfOk result (λ chip. chip_pending_note chip
-        ≡ Some (is_quiet (F.state flash).geometry (F.state flash).pages, attached_by_markers (marker_states (F.state flash)))) }
+        ≡ Some (
+          is_quiet (F.state flash).geometry (F.state flash).pages,
+          attached_by_markers
+              (marker_states (F.state flash)),
+        )) }
 {
     let mut chip = Chip::attach_start(alloc, flash, code)?;
     for _ in 0..chip.geometry().blocks {
@@ -42,9 +47,11 @@ pub fn perform<F: Flash, C: PageCode>(
     requires rests { is_resting (chip_stage chip.old) ≡ true }
     requires can { CanBegin (chip_state chip.old).geometry parts.now (chip_stage chip.old) op.now }
     ensures performed { IfOk result (λ reply. IfSome (known_at_rest (chip_stage chip.old))
-        (λ k. HasPerformed F.fault_model parts.now k op.now (chip_state chip.old) (chip_state chip.new) (chip_stage chip.new) reply)) }
+        (λ k. HasPerformed F.fault_model parts.now k op.now (chip_state chip.old)
+        (chip_state chip.new) (chip_stage chip.new) reply)) }
     ensures causes { IfOk result (λ reply. IfSome (known_at_rest (chip_stage chip.old))
-        (λ k. HasCause (refusal_of (chip_state chip.old).geometry k (part_of parts.now (device_of op.now)) op.now) (chip_state chip.old) (chip_state chip.new)
+        (λ k. HasCause (refusal_of (chip_state chip.old).geometry k
+        (part_of parts.now (device_of op.now)) op.now) (chip_state chip.old) (chip_state chip.new)
         reply)) }
     ensures no_memory { OnErr result (chip_state chip.new ≡ chip_state chip.old) }
     ensures no_memory_stage { OnErr result (chip_stage chip.new ≡ chip_stage chip.old) }

@@ -52,7 +52,9 @@ impl FlipLog {
     /// Adds flips of these bits of a page, one after the other.
     pub fn add(&mut self, page: u32, bits: &BlockList)
         requires { length bits.now ≤ self.old.room }
-        ensures flips { (p : ℕ) → flips_of self.new.flips p ≡ (if p == page then flips_of self.old.flips p ++ bits.now else flips_of self.old.flips p) }
+        ensures flips { (p : ℕ) → flips_of self.new.flips p
+            ≡ (if p == page then flips_of self.old.flips p
+            ++ bits.now else flips_of self.old.flips p) }
         ensures room { self.old.room ≡ self.new.room + length bits.now }
     {
         for &bit in bits {
@@ -62,7 +64,8 @@ impl FlipLog {
 
     /// Forgets the flips of the pages from `first` up to but not including `end`.
     pub fn forget(&mut self, first: u32, end: u32)
-        ensures flips { (p : ℕ) → flips_of self.new.flips p ≡ (if nat_le first p && nat_lt p end then [] else flips_of self.old.flips p) }
+        ensures flips { (p : ℕ) → flips_of self.new.flips p
+            ≡ (if nat_le first p && nat_lt p end then [] else flips_of self.old.flips p) }
         ensures room { self.old.room ≤ self.new.room }
     {
         self.flips
@@ -81,7 +84,8 @@ impl FlipLog {
 
 // How many of these flips are of a page, in bits `from` up to but not including `to`.
 fn count_flips(flips: &[FlippedBit], page: u32, from: u32, to: u32) -> usize
-    ensures { result ≡ count_by (λ flip. flip.page == page && nat_le from flip.bit && nat_lt flip.bit to) flips.now }
+    ensures { result ≡ count_by
+        (λ flip. flip.page == page && nat_le from flip.bit && nat_lt flip.bit to) flips.now }
 {
     flips
         .iter()

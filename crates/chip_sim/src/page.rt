@@ -18,7 +18,8 @@ impl Page {
     /// ANDs an image into the cells.
     pub fn program(&mut self, image: &[u8])
         requires { length image.now ≡ length self.old.cells }
-        ensures { self.new ≡ record { cells = programmed self.old.cells image.now; flipped_since = false } }
+        ensures { self.new ≡ record
+            { cells = programmed self.old.cells image.now; flipped_since = false } }
     {
         and_into(self.cells.as_mut_slice(), image);
         self.flipped_since = false;
@@ -27,7 +28,8 @@ impl Page {
     /// Turns these bits one after the other.
     pub fn flip(&mut self, bits: &BlockList)
         requires { All (λ bit. bit < 8 * length self.old.cells) bits.now }
-        ensures { self.new ≡ record { cells = fold with_bit_turned self.old.cells bits.now; flipped_since = true } }
+        ensures { self.new ≡ record
+            { cells = fold with_bit_turned self.old.cells bits.now; flipped_since = true } }
     {
         turn_bits(self.cells.as_mut_slice(), bits);
         self.flipped_since = true;

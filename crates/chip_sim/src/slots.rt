@@ -24,7 +24,8 @@ fn empty_slots(alloc: Global, count: usize) -> Result<Vec<Option<Page>>, AllocEr
 
 // The first page of a factory-bad block: 0xFF throughout, but 0x00 in spare byte 0.
 fn factory_bad_page(alloc: Global, g: Geometry) -> Result<Page, AllocError>
-    ensures { IfOk result (λ page. page ≡ record { cells = slice_set (blank_cells (raw_len g)) g.page 0; flipped_since = false }) }
+    ensures { IfOk result (λ page. page
+        ≡ record { cells = slice_set (blank_cells (raw_len g)) g.page 0; flipped_since = false }) }
 {
     let mut cells = Bytes::filled(alloc, 0xff, g.raw_len() as usize)?;
     cells.as_mut_slice()[g.page as usize] = 0;
@@ -43,7 +44,9 @@ pub fn new_slots(
     requires { All (λ block. block < g.blocks) bad.now }
     ensures count { IfOk result (λ slots. length slots.items ≡ page_count g) }
     ensures whole { IfOk result (λ slots. All (IsWholeSlot (raw_len g)) slots.items) }
-    ensures pages { IfOk result (λ slots. (page : ℕ) → page_of (raw_len g) [] (slot_at slots.items page) ≡ new_page g bad.now page) }
+    ensures pages { IfOk result
+        (λ slots. (page : ℕ) → page_of (raw_len g) [] (slot_at slots.items page)
+        ≡ new_page g bad.now page) }
 {
     let pages_per_block = g.pages_per_block as usize;
     let mut slots = empty_slots(alloc, g.blocks as usize * pages_per_block)?;
@@ -57,7 +60,8 @@ pub fn new_slots(
 // Takes the page of a slot out. Where it has no cells, they are a blank page's.
 fn take_page(slot: &mut Option<Page>, blanks: &mut BlankPages) -> Page
     requires { 0 < blanks.old.left }
-    ensures page { result ≡ record { cells = cells_of blanks.old.raw slot.old; flipped_since = is_flipped_since slot.old } }
+    ensures page { result ≡ record
+        { cells = cells_of blanks.old.raw slot.old; flipped_since = is_flipped_since slot.old } }
     ensures raw { blanks.new.raw ≡ blanks.old.raw }
     ensures left { blanks.old.left ≤ blanks.new.left + 1 }
 {
@@ -75,7 +79,12 @@ pub fn program_slot(slot: &mut Option<Page>, blanks: &mut BlankPages, image: &[u
     requires whole { IsWholeSlot blanks.old.raw slot.old }
     requires image { length image.now ≡ blanks.old.raw }
     requires left { 0 < blanks.old.left }
-    ensures programmed { slot.new ≡ Some (record { cells = programmed (cells_of blanks.old.raw slot.old) image.now; flipped_since = false }) }
+    ensures programmed { slot.new
+        ≡ Some (record {
+          cells = programmed
+              (cells_of blanks.old.raw slot.old) image.now;
+          flipped_since = false;
+        }) }
     ensures raw { blanks.new.raw ≡ blanks.old.raw }
     ensures left { blanks.old.left ≤ blanks.new.left + 1 }
 {
@@ -90,7 +99,12 @@ pub fn flip_slot(slot: &mut Option<Page>, blanks: &mut BlankPages, bits: &BlockL
     requires whole { IsWholeSlot blanks.old.raw slot.old }
     requires bits { All (λ bit. bit < 8 * blanks.old.raw) bits.now }
     requires left { 0 < blanks.old.left }
-    ensures flipped { slot.new ≡ Some (record { cells = fold with_bit_turned (cells_of blanks.old.raw slot.old) bits.now; flipped_since = true }) }
+    ensures flipped { slot.new
+        ≡ Some (record {
+          cells = fold with_bit_turned
+              (cells_of blanks.old.raw slot.old) bits.now;
+          flipped_since = true;
+        }) }
     ensures raw { blanks.new.raw ≡ blanks.old.raw }
     ensures left { blanks.old.left ≤ blanks.new.left + 1 }
 {
@@ -103,7 +117,8 @@ pub fn flip_slot(slot: &mut Option<Page>, blanks: &mut BlankPages, bits: &BlockL
 pub fn clear_slots(slots: &mut [Option<Page>], first: usize, end: usize)
     requires order { first ≤ end }
     requires there { end ≤ length slots.old }
-    ensures { (page : ℕ) → slot_at slots.new page ≡ (if nat_le first page && nat_lt page end then None else slot_at slots.old page) }
+    ensures { (page : ℕ) → slot_at slots.new page
+        ≡ (if nat_le first page && nat_lt page end then None else slot_at slots.old page) }
 {
     for page in first..end {
         slots[page] = None;

@@ -109,7 +109,8 @@ fn fills_places(g: &Geometry, body: &[u8], free: &[u8]) -> bool
 
 // Whether a chip takes the operation.
 fn can_begin<F: Flash, C: PageCode>(chip: &Chip<F, C>, parts: &Parts, op: &Op) -> bool
-    ensures { IsTrue result → CanBegin (chip_state chip.now).geometry parts.now (chip_stage chip.now) op.now }
+    ensures { IsTrue result →
+        CanBegin (chip_state chip.now).geometry parts.now (chip_stage chip.now) op.now }
 {
     let g = chip.geometry();
     match op {
@@ -138,7 +139,8 @@ fn op_for<F: Flash, C: PageCode>(
     parts: &Parts,
     ask: Ask,
 ) -> Result<Op, Fail>
-    ensures { IfOk result (λ op. CanBegin (chip_state chip.now).geometry parts.now (chip_stage chip.now) op) }
+    ensures { IfOk result (λ op. CanBegin (chip_state chip.now).geometry parts.now
+        (chip_stage chip.now) op) }
 {
     let op = op_of(alloc, ask)?;
     if !can_begin(chip, parts, &op) {

@@ -33,7 +33,8 @@ fn add_session(
 ) -> Result<(), AllocError>
     requires later { All (λ (earlier : ℕ × List Ordered). earlier.0 < session) boot.old.sessions }
     requires commands { All (IsCommand chips.now payload.now) lines.now }
-    ensures { OnOk result (boot.new ≡ with_whole_session boot.old session (map (ordered chips.now payload.now) lines.now)) }
+    ensures { OnOk result (boot.new
+        ≡ with_whole_session boot.old session (map (ordered chips.now payload.now) lines.now)) }
 {
     boot.add_session(session)?;
     for n in 0..lines.len() {
@@ -47,7 +48,8 @@ fn add_session(
 /// commands.
 pub fn boot_of_plan(alloc: Global, plan: &PlanLines) -> Result<ControllerBoot, AllocError>
     requires { IsPlan plan.now }
-    ensures { IfOk result (λ boot. boot ≡ boot_part (plan_of plan.now) 0 (map chip_of plan.now.chips) (boot_of plan.now)) }
+    ensures { IfOk result (λ boot. boot
+        ≡ boot_part (plan_of plan.now) 0 (map chip_of plan.now.chips) (boot_of plan.now)) }
 {
     let parts = parts_of_chips(alloc, &plan.chips)?;
     let faults = faults_of_flips(alloc, &plan.flips)?;

@@ -23,7 +23,8 @@ fn write_of(
     raw: bool,
     payload: &[u8],
 ) -> Result<Command, AllocError>
-    ensures { IfOk result (λ command. command ≡ ToWrite dev blocks false raw false true 0 payload.now) }
+    ensures { IfOk result (λ command. command
+        ≡ ToWrite dev blocks false raw false true 0 payload.now) }
 {
     Ok(Command::NandWrite {
         dev,

@@ -7,5 +7,6 @@ ghost use Rattle.chips_boot.specs.Ready.{the_boot, the_chips};
 
 /// A controller can be started on a several-chip plan.
 pub fn plans_can_start()
-    ensures { (bytes : List ℕ) (plan : Lines) → IsSeveralChipPlan bytes plan → CanStart (the_boot plan) (the_chips plan) }
+    ensures { (bytes : List ℕ) (plan : Lines) → IsSeveralChipPlan bytes plan →
+        CanStart (the_boot plan) (the_chips plan) }
 {}

@@ -75,7 +75,8 @@ fn add_part(parts: &mut Parts, part: Part, blocks: u32) -> Result<(), AllocError
 pub fn parts_of_chips(alloc: Global, chips: &ItemList<ChipLines>) -> Result<Parts, AllocError>
     requires few { length chips.now ≤ 8 }
     requires chips { All IsChip chips.now }
-    ensures { IfOk result (λ parts. parts ≡ record { first = 0; parts = parts_from 0 (map chip_of chips.now) }) }
+    ensures { IfOk result (λ parts. parts
+        ≡ record { first = 0; parts = parts_from 0 (map chip_of chips.now) }) }
 {
     let mut parts = Parts::new(alloc, 0);
     for n in 0..chips.len() {

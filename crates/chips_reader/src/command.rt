@@ -9,7 +9,8 @@ use several_chip_plan::CommandLine;
 
 // The device and the block of an isbad.
 fn block_of(tail: &[u8]) -> Option<(u32, u32)>
-    ensures { (dev block : ℕ) → dev < 2 ^ 32 → block < 2 ^ 32 → tail.now ≡ decimal dev ++ codes " " ++ decimal block → result ≡ Some (dev, block) }
+    ensures { (dev block : ℕ) → dev < 2 ^ 32 → block < 2 ^ 32 → tail.now ≡ decimal dev ++ codes " "
+        ++ decimal block → result ≡ Some (dev, block) }
 {
     let (dev, rest) = split_before(tail, b' ');
     let block = after(rest, b" ")?;
@@ -18,7 +19,8 @@ fn block_of(tail: &[u8]) -> Option<(u32, u32)>
 
 // The offset and the device of a nanddump.
 fn offset_of(tail: &[u8]) -> Option<(u32, u32)>
-    ensures { (off dev : ℕ) → off < 2 ^ 32 → dev < 2 ^ 32 → tail.now ≡ offset_tail off dev → result ≡ Some (off, dev) }
+    ensures { (off dev : ℕ) → off < 2 ^ 32 → dev < 2 ^ 32 → tail.now ≡ offset_tail off dev → result
+        ≡ Some (off, dev) }
 {
     let (off, rest) = split_before(tail, b' ');
     let dev = after(rest, b" -l 2048 mtd")?;
@@ -27,7 +29,8 @@ fn offset_of(tail: &[u8]) -> Option<(u32, u32)>
 
 /// The command of a line of this kind, by what follows its first words.
 pub fn command_of(head: Head, tail: &[u8]) -> Option<CommandLine>
-    ensures { (command : Order) → HasNumbers command → head ≡ head_of_command command → tail.now ≡ command_tail command → result ≡ Some command }
+    ensures { (command : Order) → HasNumbers command → head ≡ head_of_command command → tail.now
+        ≡ command_tail command → result ≡ Some command }
 {
     match head {
         Head::RawWrite => {

@@ -4,14 +4,16 @@ ghost use Rattle.chips_reader.specs.Words.{IsEmptyOrBegins, Lacks};
 
 /// What follows a prefix. None comes exactly where the text does not begin with it.
 pub fn after<'a>(text: &'a [u8], prefix: &[u8]) -> Option<&'a [u8]>
-    ensures { MatchOption result ((rest : List ℕ) → text.now ≢ prefix.now ++ rest) (λ rest. text.now ≡ prefix.now ++ rest.now) }
+    ensures { MatchOption result ((rest : List ℕ) → text.now ≢ prefix.now ++ rest)
+        (λ rest. text.now ≡ prefix.now ++ rest.now) }
 {
     text.strip_prefix(prefix)
 }
 
 /// What stands before a suffix. None comes exactly where the text does not end with it.
 pub fn before<'a>(text: &'a [u8], suffix: &[u8]) -> Option<&'a [u8]>
-    ensures { MatchOption result ((rest : List ℕ) → text.now ≢ rest ++ suffix.now) (λ rest. text.now ≡ rest.now ++ suffix.now) }
+    ensures { MatchOption result ((rest : List ℕ) → text.now ≢ rest ++ suffix.now)
+        (λ rest. text.now ≡ rest.now ++ suffix.now) }
 {
     text.strip_suffix(suffix)
 }

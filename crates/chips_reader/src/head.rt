@@ -74,7 +74,9 @@ fn words_of(head: Head) -> &'static [u8]
 /// The kind of a line, and what follows its first words. None comes exactly where the line begins
 /// with the words of no kind.
 pub fn split_head(line: &[u8]) -> Option<(Head, &[u8])>
-    ensures { MatchOption result ((head : Head) (rest : List ℕ) → line.now ≢ head_text head ++ rest) (λ found. line.now ≡ head_text found.0 ++ found.1.now) }
+    ensures { MatchOption result
+        ((head : Head) (rest : List ℕ) → line.now ≢ head_text head ++ rest)
+        (λ found. line.now ≡ head_text found.0 ++ found.1.now) }
 {
     for head in HEADS {
         if let Some(rest) = after(line, words_of(head)) {

@@ -5,5 +5,6 @@ ghost use Rattle.several_chip_plan.specs.declared.lines.PlanLines.{PlanLines as 
 
 /// Bytes are the text of one several-chip plan at most.
 pub fn plans_have_own_texts()
-    ensures { (bytes : List ℕ) (one other : Lines) → IsSeveralChipPlan bytes one → IsSeveralChipPlan bytes other → one ≡ other }
+    ensures { (bytes : List ℕ) (one other : Lines) → IsSeveralChipPlan bytes one →
+        IsSeveralChipPlan bytes other → one ≡ other }
 {}

@@ -42,7 +42,8 @@ pub enum Line {
 
 // The blocks and the strength of a chip.
 fn chip_of(tail: &[u8]) -> Option<(u32, u32)>
-    ensures { (blocks t : ℕ) → blocks < 2 ^ 32 → t < 2 ^ 32 → tail.now ≡ chip_tail blocks t → result ≡ Some (blocks, t) }
+    ensures { (blocks t : ℕ) → blocks < 2 ^ 32 → t < 2 ^ 32 → tail.now ≡ chip_tail blocks t →
+        result ≡ Some (blocks, t) }
 {
     let (blocks, rest) = split_before(tail, b' ');
     let t = before(after(rest, b" ")?, b" 0")?;
@@ -51,7 +52,8 @@ fn chip_of(tail: &[u8]) -> Option<(u32, u32)>
 
 // The data of lower-case hexadecimal digits.
 fn data_of(alloc: Global, digits: &[u8]) -> Result<Option<Bytes>, AllocError>
-    ensures { (payload : List ℕ) → IsBytes payload → digits.now ≡ encode_lower payload → IfOk result (λ found. found ≡ Some payload) }
+    ensures { (payload : List ℕ) → IsBytes payload → digits.now ≡ encode_lower payload →
+        IfOk result (λ found. found ≡ Some payload) }
 {
     match hex::decode(alloc, digits) {
         Ok(payload) => Ok(Some(Bytes::from_slice(alloc, payload.as_slice())?)),
@@ -64,7 +66,8 @@ fn data_of(alloc: Global, digits: &[u8]) -> Result<Option<Bytes>, AllocError>
 
 // The numbers that follow each other, each behind a space.
 fn numbers_of(alloc: Global, tail: &[u8]) -> Result<Option<ItemList<u32>>, AllocError>
-    ensures { (numbers : List ℕ) → All (λ n. n < 2 ^ 32) numbers → tail.now ≡ flat_map spaced_number numbers → IfOk result (λ found. found ≡ Some numbers) }
+    ensures { (numbers : List ℕ) → All (λ n. n < 2 ^ 32) numbers → tail.now
+        ≡ flat_map spaced_number numbers → IfOk result (λ found. found ≡ Some numbers) }
 {
     let mut numbers = ItemList::new(alloc);
     let mut rest = tail;
@@ -81,7 +84,8 @@ fn numbers_of(alloc: Global, tail: &[u8]) -> Result<Option<ItemList<u32>>, Alloc
 
 // The flip of a chip with these numbers: its page, the event before which it comes, and its bits.
 fn flip_with(chip: u32, numbers: ItemList<u32>) -> Option<Flip>
-    ensures { (flip : Turned) → chip ≡ flip.chip → numbers ≡ flip_numbers flip → result ≡ Some flip }
+    ensures { (flip : Turned) → chip ≡ flip.chip → numbers ≡ flip_numbers flip → result
+        ≡ Some flip }
 {
     let mut bits = numbers;
     let page = bits.take_first()?;
@@ -96,7 +100,8 @@ fn flip_with(chip: u32, numbers: ItemList<u32>) -> Option<Flip>
 
 // A flip, from the number of its chip on.
 fn flip_of(alloc: Global, tail: &[u8]) -> Result<Option<Flip>, AllocError>
-    ensures { (flip : Turned) → HasFlipNumbers flip → tail.now ≡ flip_tail flip → IfOk result (λ found. found ≡ Some flip) }
+    ensures { (flip : Turned) → HasFlipNumbers flip → tail.now ≡ flip_tail flip →
+        IfOk result (λ found. found ≡ Some flip) }
 {
     let (word, rest) = split_before(tail, b' ');
     let Some(chip) = number_of(word) else {
@@ -110,7 +115,8 @@ fn flip_of(alloc: Global, tail: &[u8]) -> Result<Option<Flip>, AllocError>
 
 /// The line of a text without its LF.
 pub fn line_of(alloc: Global, text: &[u8]) -> Result<Option<Line>, AllocError>
-    ensures { (line : Read) → IsProper line → text.now ≡ line_body line → IfOk result (λ found. found ≡ Some line) }
+    ensures { (line : Read) → IsProper line → text.now ≡ line_body line →
+        IfOk result (λ found. found ≡ Some line) }
 {
     let Some((head, tail)) = split_head(text) else {
         return Ok(None);

@@ -8,7 +8,8 @@ ghost use Rattle.code_model.specs.Code.{Code, IsBchCode, IsCodeWord, mask_of, ma
 pub fn parity_laws()
     ensures completes { (code : Code) (body : List ℕ)
         → IsBchCode code → length body ≡ code.step_bytes
-        → IsCodeWord code (bits_of body ++ take (parity_bits code) (bits_of (parity_of code body))) }
+        → IsCodeWord code (bits_of body
+        ++ take (parity_bits code) (bits_of (parity_of code body))) }
     ensures only { (code : Code) (body parity : List ℕ)
         → IsBchCode code → AreBits parity → length parity ≡ parity_bits code
         → IsCodeWord code (bits_of body ++ parity)
@@ -25,5 +26,6 @@ pub fn mask_laws()
     ensures undone { (code : Code) (parity : List ℕ)
         → length parity ≡ parity_len code → masked code (masked code parity) ≡ parity }
     ensures erased { (code : Code)
-        → masked code (parity_of code (replicate code.step_bytes 0xff)) ≡ replicate (parity_len code) 0xff }
+        → masked code (parity_of code (replicate code.step_bytes 0xff))
+        ≡ replicate (parity_len code) 0xff }
 {}

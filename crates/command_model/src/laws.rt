@@ -7,7 +7,8 @@ ghost use Rattle.nand_model.specs.declared.words.Command.{Command};
 
 /// Whatever the replies, a command asks for operations of the device that it names alone.
 pub fn commands_ask_one_device()
-    ensures { (g : Geometry) (command : Command) → AsksOnly (command_device command) (script_of g command) }
+    ensures { (g : Geometry) (command : Command) →
+        AsksOnly (command_device command) (script_of g command) }
 {}
 
 /// At most one written page of each block of a nandwrite is answered program failed or bad block,

@@ -32,9 +32,15 @@ impl<F: Flash, C: PageCode> Slot<F, C> {
     pub fn advance(&mut self, chip: u32, number: u32, notes: &mut History)
         requires event { IsSome (stage_event (slot_state self.old).stage) }
         requires room { 2 ≤ notes.old.room }
-        ensures slot { IfSome (stage_event (slot_state self.old).stage) (λ e. slot_state self.new ≡ with_note_written (after_event F.fault_model e (slot_state self.old))) }
-        ensures notes { IfSome (stage_event (slot_state self.old).stage) (λ e. notes.new.notes ≡ notes.old.notes
-            ++ failure_notes chip number e (failure_told F.fault_model (slot_state self.old).state e) ++ pending_notes chip (after_event F.fault_model e (slot_state self.old)).pending_note) }
+        ensures slot { IfSome (stage_event (slot_state self.old).stage)
+            (λ e. slot_state self.new
+            ≡ with_note_written (after_event F.fault_model e (slot_state self.old))) }
+        ensures notes { IfSome (stage_event (slot_state self.old).stage)
+            (λ e. notes.new.notes ≡ notes.old.notes
+            ++ failure_notes chip number e
+            (failure_told F.fault_model (slot_state self.old).state e)
+            ++ pending_notes chip
+            (after_event F.fault_model e (slot_state self.old)).pending_note) }
     {
         let event = self.chip.next_event();
         let told = self.chip.advance();
@@ -45,8 +51,10 @@ impl<F: Flash, C: PageCode> Slot<F, C> {
     // The session begins an operation on the chip. Where memory runs out, the chip is as before.
     pub fn begin(&mut self, session: u32, parts: &Parts, op: &Op) -> Result<(), AllocError>
         requires rests { is_resting (slot_state self.old).stage ≡ true }
-        requires can { CanBegin (slot_state self.old).state.geometry parts.now (slot_state self.old).stage op.now }
-        ensures begun { OnOk result (slot_state self.new ≡ after_begin parts.now session op.now (slot_state self.old)) }
+        requires can { CanBegin (slot_state self.old).state.geometry parts.now
+            (slot_state self.old).stage op.now }
+        ensures begun { OnOk result
+            (slot_state self.new ≡ after_begin parts.now session op.now (slot_state self.old)) }
         ensures no_memory { OnErr result (slot_state self.new ≡ slot_state self.old) }
     {
         self.chip.begin(parts, op)?;
@@ -57,8 +65,10 @@ impl<F: Flash, C: PageCode> Slot<F, C> {
     // The reply to the operation in flight, which has no event left. The chip is free then.
     pub fn answer(&mut self) -> Reply
         requires { IsSome (finished_in (slot_state self.old).stage) }
-        ensures reply { IfSome (finished_in (slot_state self.old).stage) (λ finished. result ≡ finished.reply) }
-        ensures slot { IfSome (finished_in (slot_state self.old).stage) (λ finished. slot_state self.new ≡ after_answer finished.known (slot_state self.old)) }
+        ensures reply { IfSome (finished_in (slot_state self.old).stage)
+            (λ finished. result ≡ finished.reply) }
+        ensures slot { IfSome (finished_in (slot_state self.old).stage)
+            (λ finished. slot_state self.new ≡ after_answer finished.known (slot_state self.old)) }
     {
         self.holder = None;
         self.chip.answer()
@@ -72,7 +82,8 @@ fn failure_note(
     event: Option<Event>,
     told: Option<Fairness>,
 ) -> Option<Note>
-    ensures { (e : PageEvent) → event ≡ Some (name_of e) → noted result ≡ failure_notes chip number e told }
+    ensures { (e : PageEvent) → event ≡ Some (name_of e) → noted result
+        ≡ failure_notes chip number e told }
 {
     let fairness = told?;
     Some(Note::Torn {
@@ -122,7 +133,8 @@ impl<F: Flash, C: PageCode> Board<F, C> {
 
     // The first chip that is not attached.
     pub fn first_attaching(&self) -> Option<usize>
-        ensures { result ≡ position (λ slot. not (is_attached (chip_stage slot.chip))) self.now.slots.items }
+        ensures { result ≡ position
+            (λ slot. not (is_attached (chip_stage slot.chip))) self.now.slots.items }
     {
         self.slots.iter().position(|slot| !slot.chip.is_attached())
     }
@@ -154,7 +166,8 @@ impl<F: Flash, C: PageCode> Board<F, C> {
         requires flips { All (CanFlip (slot_states self.old)) faults.now }
         requires few_flips { AreFewFlips faults.now }
         ensures did { (c : SlotState F.FaultState) (e : PageEvent) →
-            slice_get (slot_flips_before F.fault_model faults.now (self.old.events + 1) (slot_states self.old)) k ≡ Some c → stage_event c.stage ≡ Some e →
+            slice_get (slot_flips_before F.fault_model faults.now (self.old.events + 1)
+            (slot_states self.old)) k ≡ Some c → stage_event c.stage ≡ Some e →
             OnOk result (DidEvent faults.now k c e self.old self.new) }
         ensures no_memory { OnErr result (StandsAlike self.old self.new) }
     {

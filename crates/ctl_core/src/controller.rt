@@ -87,10 +87,12 @@ impl<F: Flash, C: PageCode> Core<F, C> {
     /// `Done` comes exactly where all chips are attached, and `Did` else. Only `Did` makes anything
     /// of the controller: it counts one more attach step.
     pub fn attach_turn(&mut self) -> Result<Turn, AllocError>
-        ensures answer { IfOk result (λ turn. turn ≡ attach_answer (unattached (course_of F.fault_model F.state self.old))) }
+        ensures answer { IfOk result
+            (λ turn. turn ≡ attach_answer (unattached (course_of F.fault_model F.state self.old))) }
         ensures past { self.new ≡ after_attach_turn result self.old }
         ensures step { OnOk result (course_of F.fault_model F.state self.new
-            ≡ attach_step F.fault_model self.old.boot (sizes_in F.state self.old) (course_of F.fault_model F.state self.old)) }
+            ≡ attach_step F.fault_model self.old.boot (sizes_in F.state self.old)
+            (course_of F.fault_model F.state self.old)) }
         ensures few { self.new.attaches ≤ events_of_attaches (starts_of F.state self.new) }
     {
         self.board.notes.reserve(2)?;
@@ -113,10 +115,18 @@ impl<F: Flash, C: PageCode> Core<F, C> {
     pub fn turn(&mut self, session: u32) -> Result<Turn, AllocError>
         requires attached { unattached (course_of F.fault_model F.state self.old) ≡ None }
         requires own { HasSession self.old.boot session }
-        ensures answer { IfOk result (λ turn. turn ≡ turn_answer self.old.boot.partitions (sizes_in F.state self.old) (course_of F.fault_model F.state self.old) session) }
-        ensures busy { IfOk result (λ turn. is_did turn ≡ not (is_idle self.old.boot.partitions (sizes_in F.state self.old) (course_of F.fault_model F.state self.old) session)) }
+        ensures answer { IfOk result
+            (λ turn. turn
+            ≡ turn_answer self.old.boot.partitions (sizes_in F.state self.old)
+            (course_of F.fault_model F.state self.old) session) }
+        ensures busy { IfOk result
+            (λ turn. is_did turn
+            ≡ not (is_idle self.old.boot.partitions (sizes_in F.state self.old)
+            (course_of F.fault_model F.state self.old) session)) }
         ensures past { self.new ≡ after_turn result session self.old }
-        ensures step { OnOk result (course_of F.fault_model F.state self.new ≡ next_course F.fault_model F.state self.old session) }
+        ensures step { OnOk result
+            (course_of F.fault_model F.state self.new
+            ≡ next_course F.fault_model F.state self.old session) }
         ensures attached { unattached (course_of F.fault_model F.state self.new) ≡ None }
         ensures few { length self.new.turns ≤ turn_limit F.state self.new }
     {
@@ -148,7 +158,8 @@ impl<F: Flash, C: PageCode> Core<F, C> {
     /// of its commands, in order and each once.
     pub fn notes(&self) -> &History
         ensures notes { result.now.notes ≡ (course_of F.fault_model F.state self.now).notes }
-        ensures one_thread { CoursesAreFaithful F.fault_model self.now.boot (starts_of F.state self.now) self.now.attaches self.now.turns }
+        ensures one_thread { CoursesAreFaithful F.fault_model self.now.boot
+            (starts_of F.state self.now) self.now.attaches self.now.turns }
         ensures in_order { AreInOrder self.now.boot (starts_of F.state self.now) result.now.notes }
     {
         &self.board.notes
@@ -181,13 +192,25 @@ impl<F: Flash, C: PageCode> Core<F, C> {
     /// of bad blocks.
     pub fn finish(self) -> Result<Ended<F>, AllocError>
         requires { is_over (course_of F.fault_model F.state self) ≡ true }
-        ensures flashes { IfOk result (λ ended. map F.state ended.flashes ≡ end_states (course_of F.fault_model F.state self)) }
+        ensures flashes { IfOk result
+            (λ ended. map F.state ended.flashes
+            ≡ end_states (course_of F.fault_model F.state self)) }
         ensures lit { OnOk result ((course_of F.fault_model F.state self).dark ≡ false) }
-        ensures notes { IfOk result (λ ended. ended.notes.notes ≡ (course_of F.fault_model F.state self).notes) }
-        ensures outcomes { IfOk result (λ ended. ended.outcomes ≡ map end_of_run (course_of F.fault_model F.state self).sessions) }
-        ensures ends { IfOk result (λ ended. ended.outcomes ≡ ends_by_notes self.boot (starts_of F.state self) (course_of F.fault_model F.state self).notes) }
-        ensures stats { IfOk result (λ ended. ended.stats ≡ device_statistics self.boot.partitions (course_of F.fault_model F.state self)) }
-        ensures bad { IfOk result (λ ended. ended.bad ≡ all_bad_blocks self.boot.partitions (course_of F.fault_model F.state self)) }
+        ensures notes { IfOk result
+            (λ ended. ended.notes.notes ≡ (course_of F.fault_model F.state self).notes) }
+        ensures outcomes { IfOk result
+            (λ ended. ended.outcomes
+            ≡ map end_of_run (course_of F.fault_model F.state self).sessions) }
+        ensures ends { IfOk result
+            (λ ended. ended.outcomes
+            ≡ ends_by_notes self.boot (starts_of F.state self)
+            (course_of F.fault_model F.state self).notes) }
+        ensures stats { IfOk result
+            (λ ended. ended.stats
+            ≡ device_statistics self.boot.partitions (course_of F.fault_model F.state self)) }
+        ensures bad { IfOk result
+            (λ ended. ended.bad
+            ≡ all_bad_blocks self.boot.partitions (course_of F.fault_model F.state self)) }
     {
         let Core { journal, board } = self;
         let alloc = *journal.turns.allocator();

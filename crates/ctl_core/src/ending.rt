@@ -34,7 +34,8 @@ pub fn stop_all<F: Flash, C: PageCode>(
     alloc: Global,
     slots: Vec<Slot<F, C>>,
 ) -> Result<FlashList<F>, AllocError>
-    ensures { IfOk result (λ flashes. map F.state flashes ≡ map slot_flash (map slot_state slots.items)) }
+    ensures { IfOk result (λ flashes. map F.state flashes
+        ≡ map slot_flash (map slot_state slots.items)) }
 {
     let mut flashes = FlashList::new(alloc);
     for slot in slots {
@@ -50,7 +51,8 @@ pub fn end_all(
     sessions: Vec<Session>,
     notes: &History,
 ) -> Result<OutcomeList, AllocError>
-    ensures { IfOk result (λ ends. ends ≡ map (λ s. end_of false (standing notes.now.notes s)) sessions.items) }
+    ensures { IfOk result (λ ends. ends
+        ≡ map (λ s. end_of false (standing notes.now.notes s)) sessions.items) }
 {
     let mut ends = OutcomeList::new(alloc);
     for session in sessions {
@@ -67,7 +69,8 @@ pub fn all_statistics<F: Flash, C: PageCode>(
     parts: &Parts,
 ) -> Result<StatsList, AllocError>
     requires { All (λ (part : Partition). part.chip < length slots.now) parts.now.parts }
-    ensures { IfOk result (λ stats. stats ≡ slot_statistics parts.now (map slot_state slots.now) (device_numbers parts.now)) }
+    ensures { IfOk result (λ stats. stats
+        ≡ slot_statistics parts.now (map slot_state slots.now) (device_numbers parts.now)) }
 {
     let mut stats = StatsList::new(alloc);
     for n in 0..parts.len() {

@@ -19,8 +19,11 @@ pub fn make_due_flips<F: Flash, C: PageCode>(
 ) -> Result<(), AllocError>
     requires there { All (CanFlip (map slot_state slots.old.items)) faults.now }
     requires few { AreFewFlips faults.now }
-    ensures made { OnOk result (map slot_state slots.new.items ≡ slot_flips_before F.fault_model faults.now event (map slot_state slots.old.items)) }
-    ensures no_memory { OnErr result (map slot_state slots.new.items ≡ map slot_state slots.old.items) }
+    ensures made { OnOk result
+        (map slot_state slots.new.items
+        ≡ slot_flips_before F.fault_model faults.now event (map slot_state slots.old.items)) }
+    ensures no_memory { OnErr result
+        (map slot_state slots.new.items ≡ map slot_state slots.old.items) }
 {
     reserve_for(slots, faults, event)?;
     make_flips(slots, faults, event);
@@ -34,7 +37,9 @@ fn reserve_for<F: Flash, C: PageCode>(
     event: u32,
 ) -> Result<(), AllocError>
     requires { AreFewFlips faults.now }
-    ensures room { OnOk result (All (HasRoom (length (due_flips faults.now event)) (bit_count (due_flips faults.now event))) slots.new.items) }
+    ensures room { OnOk result
+        (All (HasRoom (length (due_flips faults.now event))
+        (bit_count (due_flips faults.now event))) slots.new.items) }
     ensures same { map slot_state slots.new.items ≡ map slot_state slots.old.items }
 {
     let (pages, bits) = due_counts(faults, event);
@@ -66,8 +71,10 @@ fn due_counts(faults: &Faults, event: u32) -> (u32, u32)
 // Makes the flips that are due before an event, in the order of their lines.
 fn make_flips<F: Flash, C: PageCode>(slots: &mut Vec<Slot<F, C>>, faults: &Faults, event: u32)
     requires there { All (CanFlip (map slot_state slots.old.items)) faults.now }
-    requires room { All (HasRoom (length (due_flips faults.now event)) (bit_count (due_flips faults.now event))) slots.old.items }
-    ensures { map slot_state slots.new.items ≡ slot_flips_before F.fault_model faults.now event (map slot_state slots.old.items) }
+    requires room { All (HasRoom (length (due_flips faults.now event))
+        (bit_count (due_flips faults.now event))) slots.old.items }
+    ensures { map slot_state slots.new.items
+        ≡ slot_flips_before F.fault_model faults.now event (map slot_state slots.old.items) }
 {
     for n in 0..faults.len() {
         let flip = faults.flip(n);
@@ -81,8 +88,11 @@ fn make_flips<F: Flash, C: PageCode>(slots: &mut Vec<Slot<F, C>>, faults: &Fault
 fn make_flip<F: Flash, C: PageCode>(slots: &mut Vec<Slot<F, C>>, flip: &Flip)
     requires there { CanFlip (map slot_state slots.old.items) flip.now }
     requires room { All (HasRoom 1 (length flip.now.bits)) slots.old.items }
-    ensures chips { map slot_state slots.new.items ≡ slot_flip F.fault_model (map slot_state slots.old.items) flip.now }
-    ensures room { (pages bits : ℕ) → All (HasRoom (1 + pages) (length flip.now.bits + bits)) slots.old.items → All (HasRoom pages bits) slots.new.items }
+    ensures chips { map slot_state slots.new.items
+        ≡ slot_flip F.fault_model (map slot_state slots.old.items) flip.now }
+    ensures room { (pages bits : ℕ) →
+        All (HasRoom (1 + pages) (length flip.now.bits + bits)) slots.old.items →
+        All (HasRoom pages bits) slots.new.items }
 {
     slots[flip.chip as usize].chip.flip(flip.page, &flip.bits);
 }

@@ -19,7 +19,8 @@ pub fn first_slots<F: Flash, C: PageCode>(
     code: C,
 ) -> Result<Vec<Slot<F, C>>, AllocError>
     requires { All IsPlain (map F.state flashes) }
-    ensures { IfOk result (λ slots. map slot_state slots.items ≡ map slot_first (map F.state flashes)) }
+    ensures { IfOk result (λ slots. map slot_state slots.items
+        ≡ map slot_first (map F.state flashes)) }
 {
     let mut rest = flashes;
     let mut slots = Vec::new(alloc);

@@ -23,13 +23,24 @@ impl<F: Flash, C: PageCode> Board<F, C> {
     // chips, sessions and notes stand where they stood.
     pub fn step(&mut self, journal: &Journal<F>, session: u32) -> Result<Turn, AllocError>
         requires on_course { IsOnCourse (past_of journal.now) self.old }
-        requires attached { unattached (course_of F.fault_model F.state (past_of journal.now)) ≡ None }
+        requires attached { unattached (course_of F.fault_model F.state (past_of journal.now))
+            ≡ None }
         requires own { HasSession journal.now.boot session }
         requires room { 2 ≤ self.old.notes.room }
-        ensures answer { IfOk result (λ turn. turn ≡ turn_answer journal.now.boot.partitions (sizes_in F.state (past_of journal.now)) (course_of F.fault_model F.state (past_of journal.now)) session) }
-        ensures idle { IfOk result (λ turn. is_did turn ≡ not (is_idle journal.now.boot.partitions (sizes_in F.state (past_of journal.now)) (course_of F.fault_model F.state (past_of journal.now)) session)) }
-        ensures stands { OnOk result (StandsAt (past_of journal.now) (next_course F.fault_model F.state (past_of journal.now) session) self.new) }
-        ensures no_memory { OnErr result (StandsAt (past_of journal.now) (course_of F.fault_model F.state (past_of journal.now)) self.new) }
+        ensures answer { IfOk result
+            (λ turn. turn
+            ≡ turn_answer journal.now.boot.partitions (sizes_in F.state (past_of journal.now))
+            (course_of F.fault_model F.state (past_of journal.now)) session) }
+        ensures idle { IfOk result
+            (λ turn. is_did turn
+            ≡ not (is_idle journal.now.boot.partitions (sizes_in F.state (past_of journal.now))
+            (course_of F.fault_model F.state (past_of journal.now)) session)) }
+        ensures stands { OnOk result
+            (StandsAt (past_of journal.now)
+            (next_course F.fault_model F.state (past_of journal.now) session) self.new) }
+        ensures no_memory { OnErr result
+            (StandsAt (past_of journal.now)
+            (course_of F.fault_model F.state (past_of journal.now)) self.new) }
     {
         let Some(place) = self.place_of(session) else {
             unreachable!();
@@ -54,7 +65,8 @@ impl<F: Flash, C: PageCode> Board<F, C> {
     // Whether the commands of all sessions are over.
     fn all_done(&self, boot: &ControllerBoot) -> bool
         requires { length self.now.sessions.items ≤ length boot.now.sessions }
-        ensures { IsTrue result ↔ AreAllDone boot.now.sessions self.now.notes.notes self.now.sessions.items }
+        ensures { IsTrue result ↔ AreAllDone boot.now.sessions self.now.notes.notes
+            self.now.sessions.items }
     {
         for k in 0..self.sessions.len() {
             if !self.sessions[k].is_over(boot.commands(k), &self.notes) {
@@ -77,8 +89,12 @@ impl<F: Flash, C: PageCode> Board<F, C> {
         requires turn { IsAtTurn (past_of journal.now) session place self.old }
         requires held { first_held_by session (slot_states self.old) ≡ Some k }
         requires room { 2 ≤ self.old.notes.room }
-        ensures stands { OnOk result (StandsAt (past_of journal.now) (next_course F.fault_model F.state (past_of journal.now) session) self.new) }
-        ensures no_memory { OnErr result (StandsAt (past_of journal.now) (course_of F.fault_model F.state (past_of journal.now)) self.new) }
+        ensures stands { OnOk result
+            (StandsAt (past_of journal.now)
+            (next_course F.fault_model F.state (past_of journal.now) session) self.new) }
+        ensures no_memory { OnErr result
+            (StandsAt (past_of journal.now)
+            (course_of F.fault_model F.state (past_of journal.now)) self.new) }
     {
         if self.slots[k].chip.next_event().is_some() {
             self.do_event(journal.boot.faults(), k)?;
@@ -93,7 +109,9 @@ impl<F: Flash, C: PageCode> Board<F, C> {
         requires finished { IsSome (finished_at self.old k) }
         requires place { place < length self.old.sessions.items }
         requires room { 0 < self.old.notes.room }
-        ensures { (past : Past F) → IsAtTurn past session place self.old → first_held_by session (slot_states self.old) ≡ Some k → StandsAt past (next_course F.fault_model F.state past session) self.new }
+        ensures { (past : Past F) → IsAtTurn past session place self.old →
+            first_held_by session (slot_states self.old) ≡ Some k →
+            StandsAt past (next_course F.fault_model F.state past session) self.new }
     {
         let reply = self.slots[k].answer();
         let at = self.notes.len();
@@ -113,10 +131,20 @@ impl<F: Flash, C: PageCode> Board<F, C> {
         requires turn { IsAtTurn (past_of journal.now) session place self.old }
         requires free { first_held_by session (slot_states self.old) ≡ None }
         requires room { 0 < self.old.notes.room }
-        ensures answer { IfOk result (λ turn. turn ≡ turn_answer journal.now.boot.partitions (sizes_in F.state (past_of journal.now)) (course_of F.fault_model F.state (past_of journal.now)) session) }
-        ensures idle { IfOk result (λ turn. is_did turn ≡ not (is_idle journal.now.boot.partitions (sizes_in F.state (past_of journal.now)) (course_of F.fault_model F.state (past_of journal.now)) session)) }
-        ensures stands { OnOk result (StandsAt (past_of journal.now) (next_course F.fault_model F.state (past_of journal.now) session) self.new) }
-        ensures no_memory { OnErr result (StandsAt (past_of journal.now) (course_of F.fault_model F.state (past_of journal.now)) self.new) }
+        ensures answer { IfOk result
+            (λ turn. turn
+            ≡ turn_answer journal.now.boot.partitions (sizes_in F.state (past_of journal.now))
+            (course_of F.fault_model F.state (past_of journal.now)) session) }
+        ensures idle { IfOk result
+            (λ turn. is_did turn
+            ≡ not (is_idle journal.now.boot.partitions (sizes_in F.state (past_of journal.now))
+            (course_of F.fault_model F.state (past_of journal.now)) session)) }
+        ensures stands { OnOk result
+            (StandsAt (past_of journal.now)
+            (next_course F.fault_model F.state (past_of journal.now) session) self.new) }
+        ensures no_memory { OnErr result
+            (StandsAt (past_of journal.now)
+            (course_of F.fault_model F.state (past_of journal.now)) self.new) }
     {
         let Some(k) = self.next_chip(journal, place, session) else {
             return Ok(Turn::Done);
@@ -131,8 +159,11 @@ impl<F: Flash, C: PageCode> Board<F, C> {
     // The chip of a session's next operation. None comes exactly where its commands are over.
     fn next_chip(&self, journal: &Journal<F>, place: usize, session: u32) -> Option<usize>
         requires { IsAtTurn (past_of journal.now) session place self.now }
-        ensures chip { result ≡ next_chip journal.now.boot.partitions (sizes_in F.state (past_of journal.now)) (course_of F.fault_model F.state (past_of journal.now)) session }
-        ensures over { is_none result ≡ is_done (course_of F.fault_model F.state (past_of journal.now)) session }
+        ensures chip { result ≡ next_chip journal.now.boot.partitions
+            (sizes_in F.state (past_of journal.now))
+            (course_of F.fault_model F.state (past_of journal.now)) session }
+        ensures over { is_none result
+            ≡ is_done (course_of F.fault_model F.state (past_of journal.now)) session }
         ensures there { IfSome result (λ k. k < length self.now.slots.items) }
     {
         let _ = session;
@@ -152,11 +183,18 @@ impl<F: Flash, C: PageCode> Board<F, C> {
     ) -> Result<(), AllocError>
         requires turn { IsAtTurn (past_of journal.now) session place self.old }
         requires none { first_held_by session (slot_states self.old) ≡ None }
-        requires chip { next_chip journal.now.boot.partitions (sizes_in F.state (past_of journal.now)) (course_of F.fault_model F.state (past_of journal.now)) session ≡ Some k }
-        requires free { option_map (λ (c : SlotState F.FaultState). c.holder) (slice_get (slot_states self.old) k) ≡ Some None }
+        requires chip { next_chip journal.now.boot.partitions
+            (sizes_in F.state (past_of journal.now))
+            (course_of F.fault_model F.state (past_of journal.now)) session ≡ Some k }
+        requires free { option_map (λ (c : SlotState F.FaultState). c.holder)
+            (slice_get (slot_states self.old) k) ≡ Some None }
         requires room { 0 < self.old.notes.room }
-        ensures stands { OnOk result (StandsAt (past_of journal.now) (next_course F.fault_model F.state (past_of journal.now) session) self.new) }
-        ensures no_memory { OnErr result (StandsAt (past_of journal.now) (course_of F.fault_model F.state (past_of journal.now)) self.new) }
+        ensures stands { OnOk result
+            (StandsAt (past_of journal.now)
+            (next_course F.fault_model F.state (past_of journal.now) session) self.new) }
+        ensures no_memory { OnErr result
+            (StandsAt (past_of journal.now)
+            (course_of F.fault_model F.state (past_of journal.now)) self.new) }
     {
         let commands = journal.boot.commands(place);
         let g = self.slots[k].chip.geometry();

@@ -12,9 +12,11 @@ ghost use Rattle.ecc_page.specs.Steps.{read_of};
 pub fn erased_check(t: u32, step: &[u8; 512], parity: &[u8]) -> Option<u32>
     requires strength { (0 < t) × (t ≤ 16) }
     requires room { length parity.now ≡ parity_len (code_512 t) }
-    ensures some { zero_bits t step.now parity.now ≤ t → result ≡ Some (zero_bits t step.now parity.now) }
+    ensures some { zero_bits t step.now parity.now ≤ t → result
+        ≡ Some (zero_bits t step.now parity.now) }
     ensures none { t < zero_bits t step.now parity.now → result ≡ None }
-    ensures decoded { (n : ℕ) → result ≡ Some n → IsErasedRead t parity.now n (read_of t step.now parity.now) }
+    ensures decoded { (n : ℕ) → result ≡ Some n →
+        IsErasedRead t parity.now n (read_of t step.now parity.now) }
 {
     let last = parity.len() - 1;
     let padding = 8 * parity.len() as u32 - 13 * t;

@@ -34,7 +34,8 @@ impl PageCode for EccPage {
 fn fill_parities(g: &Geometry, body: &[u8], parities: &mut [u8])
     requires body { length body.now ≡ g.now.page }
     requires parities { length parities.old ≡ step_count g.now * parity_bytes g.now }
-    ensures { parities.new ≡ flat_map (λ s. parity_stored g.now.t (step_body g.now body.now s)) (numbers_from 0 (step_count g.now)) }
+    ensures { parities.new ≡ flat_map (λ s. parity_stored g.now.t (step_body g.now body.now s))
+        (numbers_from 0 (step_count g.now)) }
 {
     let len = g.parity_len() as usize;
     let mask = mask_of_code(g.t);
@@ -48,11 +49,18 @@ fn fill_parities(g: &Geometry, body: &[u8], parities: &mut [u8])
 fn decode_steps(g: &Geometry, body: &mut [u8], parities: &mut [u8]) -> PageRead
     requires body { length body.old ≡ g.now.page }
     requires parities { length parities.old ≡ step_count g.now * parity_bytes g.now }
-    ensures body { body.new ≡ flat_map (λ (r : StepRead). r.body) (reads_of g.now body.old parities.old) }
-    ensures parities { parities.new ≡ flat_map (λ (r : StepRead). r.parity) (reads_of g.now body.old parities.old) }
-    ensures corrected { result.corrected ≡ sum_by (λ (r : StepRead). unwrap_or r.corrected 0) (reads_of g.now body.old parities.old) }
-    ensures greatest { result.greatest ≡ fold (λ n (r : StepRead). max n (unwrap_or r.corrected 0)) 0 (reads_of g.now body.old parities.old) }
-    ensures failed { result.failed ≡ count_by (λ (r : StepRead). is_none r.corrected) (reads_of g.now body.old parities.old) }
+    ensures body { body.new ≡ flat_map (λ (r : StepRead). r.body)
+        (reads_of g.now body.old parities.old) }
+    ensures parities { parities.new
+        ≡ flat_map (λ (r : StepRead). r.parity) (reads_of g.now body.old parities.old) }
+    ensures corrected { result.corrected
+        ≡ sum_by (λ (r : StepRead). unwrap_or r.corrected 0)
+        (reads_of g.now body.old parities.old) }
+    ensures greatest { result.greatest
+        ≡ fold (λ n (r : StepRead). max n (unwrap_or r.corrected 0)) 0
+        (reads_of g.now body.old parities.old) }
+    ensures failed { result.failed
+        ≡ count_by (λ (r : StepRead). is_none r.corrected) (reads_of g.now body.old parities.old) }
 {
     let len = g.parity_len() as usize;
     let mask = mask_of_code(g.t);

@@ -38,7 +38,8 @@ pub fn inverse_laws()
 /// The powers of α below 8191 differ and are all elements other than 0, and α^8191 is 1.
 pub fn power_laws()
     ensures returns { power 13 0x201b 2 8191 ≡ 1 }
-    ensures differ { (i j : ℕ) → i < 8191 → j < 8191 → power 13 0x201b 2 i ≡ power 13 0x201b 2 j → i ≡ j }
+    ensures differ { (i j : ℕ) → i < 8191 → j < 8191 → power 13 0x201b 2 i ≡ power 13 0x201b 2 j →
+        i ≡ j }
     ensures all { (a : ℕ) → 0 < a → a < 8192 → (n : ℕ) × (n < 8191) × (power 13 0x201b 2 n ≡ a) }
 {
     binary_field::power_laws::<Field13>()

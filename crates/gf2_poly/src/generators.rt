@@ -15,7 +15,8 @@ pub fn minimal(j: u32) -> Poly
     requires odd { j % 2 ≡ 1 }
     requires range { j ≤ 31 }
     ensures product { result ≡ minimal_of 13 0x201b j }
-    ensures coefficients { (k : ℕ) → slice_index (minimal_coefficients 13 0x201b j) k ≡ bit_at result k }
+    ensures coefficients { (k : ℕ) → slice_index (minimal_coefficients 13 0x201b j) k
+        ≡ bit_at result k }
     ensures degree { HasDegree 13 result }
 {
     Poly::from_halves(0, u128::from(MINIMALS[(j / 2) as usize]))

@@ -97,7 +97,9 @@ impl<T> ItemList<T> {
 
     /// Lends all items for writing.
     pub fn as_mut_slice(&mut self) -> &mut [T]
-        ensures* writes_back { sem 𝓛 (Lends (list_row T.row) (Array T.row 0) self.entry result (refill (length self.old) self.old)) }
+        ensures* writes_back { sem 𝓛
+            (Lends (list_row T.row) (Array T.row 0) self.entry result
+            (refill (length self.old) self.old)) }
         ensures value { result.now ≡ self.old }
     {
         self.items.make_contiguous()

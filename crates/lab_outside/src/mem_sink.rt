@@ -40,7 +40,15 @@ impl MemSink {
     ) -> Result<MemSink, AllocError>
         requires { 0 < piece }
         ensures { IfOk result (λ sink. sink
-            ≡ record { held = []; room = room; piece = piece; failing = failing; calls = 0; faults = 0 }) }
+            ≡ record {
+              held = [];
+              room = room;
+              piece = piece;
+              failing = failing;
+              calls = 0;
+              faults
+                  = 0;
+            }) }
     {
         Ok(MemSink {
             bytes: Vec::with_capacity(alloc, room)?,
@@ -72,13 +80,20 @@ impl Sink for MemSink {
     /// faults changes then.
     fn write(&mut self, bytes: &[u8]) -> Result<usize, Failed>
         ensures fails { IsErr result
-            ↔ (Contains self.old.failing (raised self.old.calls) ⊎ ((0 < length bytes.now) × (length self.old.held ≡ self.old.room))) }
+            ↔ (Contains self.old.failing (raised self.old.calls)
+            ⊎ ((0 < length bytes.now) × (length self.old.held ≡ self.old.room))) }
         ensures failed { OnErr result (self.new
             ≡ record self.old { calls = raised self.old.calls; faults = raised self.old.faults }) }
 
-        ensures number { IfOk result (λ n. n ≡ min (length bytes.now) (min self.old.piece (self.old.room - length self.old.held))) }
+        ensures number { IfOk result
+            (λ n. n ≡ min (length bytes.now)
+            (min self.old.piece (self.old.room - length self.old.held))) }
         ensures taken { IfOk result (λ n. self.new
-            ≡ record self.old { held = self.old.held ++ take n bytes.now; calls = raised self.old.calls }) }
+            ≡ record self.old {
+              held = self.old.held
+                  ++ take n bytes.now;
+              calls = raised self.old.calls;
+            }) }
 
         ensures pieces { 0 < self.new.piece }
         ensures within { length self.new.held ≤ self.new.room }

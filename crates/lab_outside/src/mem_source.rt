@@ -32,7 +32,8 @@ impl MemSource {
     /// A source of these bytes that fails exactly at the call numbers in `failing`, counted from 1.
     pub fn new(bytes: Bytes, piece: usize, failing: BlockList) -> MemSource
         requires { 0 < piece }
-        ensures { result ≡ record { left = bytes; piece = piece; failing = failing; calls = 0; faults = 0 } }
+        ensures { result ≡ record
+            { left = bytes; piece = piece; failing = failing; calls = 0; faults = 0 } }
     {
         MemSource {
             bytes,
@@ -59,7 +60,8 @@ impl Source for MemSource {
             ≡ record self.old { calls = raised self.old.calls; faults = raised self.old.faults }) }
         ensures untouched { OnErr result (buf.new ≡ buf.old) }
 
-        ensures number { IfOk result (λ n. n ≡ min (length self.old.left) (min self.old.piece (length buf.old))) }
+        ensures number { IfOk result
+            (λ n. n ≡ min (length self.old.left) (min self.old.piece (length buf.old))) }
         ensures front { IfOk result (λ n. buf.new ≡ take n self.old.left ++ drop n buf.old) }
         ensures given { IfOk result (λ n. self.new
             ≡ record self.old { left = drop n self.old.left; calls = raised self.old.calls }) }

@@ -30,7 +30,8 @@ pub trait Source {
         ensures counted { faults self.new < 2 ^ 64 }
 
         ensures within { IfOk result (λ n. n ≤ length buf.new) }
-        ensures next { IfOk result (λ n. left self.old ≡ prepend_known (take n buf.new) (left self.new)) }
+        ensures next { IfOk result
+            (λ n. left self.old ≡ prepend_known (take n buf.new) (left self.new)) }
         ensures end { IfOk result (λ n. n ≡ 0 → 0 < length buf.new → IsAtEnd (left self.new)) }
         ensures calm { OnOk result (faults self.new ≡ faults self.old) }
 
@@ -58,7 +59,8 @@ pub trait Sink {
 
         ensures within { IfOk result (λ n. n ≤ length bytes.now) }
         ensures some { IfOk result (λ n. 0 < length bytes.now → 0 < n) }
-        ensures grown { IfOk result (λ n. held self.new ≡ append_known (held self.old) (take n bytes.now)) }
+        ensures grown { IfOk result
+            (λ n. held self.new ≡ append_known (held self.old) (take n bytes.now)) }
 
         ensures risen { OnErr result (HasRisen (faults self.old) (faults self.new)) }
         ensures failed { OnErr result (held self.new ≡ held self.old) };

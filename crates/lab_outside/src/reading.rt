@@ -59,14 +59,19 @@ pub fn read_to_end<S: Source>(
     ensures end { OnOk result (S.left source.new ≡ option_map (λ _. []) (S.left source.old)) }
     ensures within { IfOk result (λ bytes. length bytes ≤ limit) }
 
-    ensures too_long { result ≡ Err ReadError.TooLong → IfSome (S.left source.old) (λ bytes. limit < length bytes) }
+    ensures too_long { result ≡ Err ReadError.TooLong →
+        IfSome (S.left source.old) (λ bytes. limit < length bytes) }
 
     ensures calm { OnOk result (S.faults source.new ≡ S.faults source.old) }
-    ensures calm_too_long { result ≡ Err ReadError.TooLong → S.faults source.new ≡ S.faults source.old }
-    ensures calm_memory { result ≡ Err ReadError.Memory → S.faults source.new ≡ S.faults source.old }
+    ensures calm_too_long { result ≡ Err ReadError.TooLong → S.faults source.new
+        ≡ S.faults source.old }
+    ensures calm_memory { result ≡ Err ReadError.Memory → S.faults source.new
+        ≡ S.faults source.old }
 
-    ensures risen { result ≡ Err ReadError.Failed → HasRisen (S.faults source.old) (S.faults source.new) }
-    ensures failed { result ≡ Err ReadError.Failed → GaveAtMost (S.left source.old) (S.left source.new) limit }
+    ensures risen { result ≡ Err ReadError.Failed →
+        HasRisen (S.faults source.old) (S.faults source.new) }
+    ensures failed { result ≡ Err ReadError.Failed →
+        GaveAtMost (S.left source.old) (S.left source.new) limit }
 {
     let mut piece = buffer(alloc, PIECE)?;
     let mut bytes = Bytes::filled(alloc, 0, 0)?;
@@ -92,7 +97,8 @@ fn read_piece<S: Source>(
     requires within { length bytes.old ≤ limit }
     ensures count { S.faults source.old ≤ S.faults source.new }
 
-    ensures moved { OnOk result (MovesBytes (S.left source.old) (S.left source.new) bytes.old bytes.new) }
+    ensures moved { OnOk result
+        (MovesBytes (S.left source.old) (S.left source.new) bytes.old bytes.new) }
     ensures more { IfOk result (λ more. IsTrue more → length bytes.old < length bytes.new) }
     ensures end { IfOk result (λ more. more ≡ false → IsAtEnd (S.left source.new)) }
     ensures still_within { OnOk result (length bytes.new ≤ limit) }
@@ -101,10 +107,13 @@ fn read_piece<S: Source>(
         → IfSome (S.left source.old) (λ left. limit < length bytes.old + length left) }
 
     ensures calm { OnOk result (S.faults source.new ≡ S.faults source.old) }
-    ensures calm_too_long { result ≡ Err ReadError.TooLong → S.faults source.new ≡ S.faults source.old }
-    ensures calm_memory { result ≡ Err ReadError.Memory → S.faults source.new ≡ S.faults source.old }
+    ensures calm_too_long { result ≡ Err ReadError.TooLong → S.faults source.new
+        ≡ S.faults source.old }
+    ensures calm_memory { result ≡ Err ReadError.Memory → S.faults source.new
+        ≡ S.faults source.old }
 
-    ensures risen { result ≡ Err ReadError.Failed → HasRisen (S.faults source.old) (S.faults source.new) }
+    ensures risen { result ≡ Err ReadError.Failed →
+        HasRisen (S.faults source.old) (S.faults source.new) }
     ensures failed { result ≡ Err ReadError.Failed → S.left source.new ≡ S.left source.old }
     ensures unmoved { OnErr result (bytes.new ≡ bytes.old) }
 {

@@ -72,7 +72,8 @@ impl Parts {
         ensures out_of_chip { (result ≡ Err PartError.OutOfChip) ↔ LeavesChip blocks part }
 
         // A partition that leaves its chip is refused as such, also where it overlaps another.
-        ensures overlap { (result ≡ Err PartError.Overlap) ↔ (LiesWithin blocks part × Any (SharesBlock part) self.old.parts) }
+        ensures overlap { (result ≡ Err PartError.Overlap)
+            ↔ (LiesWithin blocks part × Any (SharesBlock part) self.old.parts) }
         ensures number { IfOk result (λ dev. dev ≡ self.old.first + length self.old.parts) }
         ensures added { OnOk result (self.new ≡ with_part self.old part) }
         ensures apart { AreApart self.new.parts }
@@ -120,7 +121,8 @@ impl Parts {
     /// the partition's.
     pub fn block(&self, dev: u32, block: u32) -> Option<u32>
         requires { IsSome (part_of self.now dev) }
-        ensures { IfSome (part_of self.now dev) (λ part. SomeIff result (block < part.count) (part.start + block)) }
+        ensures { IfSome (part_of self.now dev)
+            (λ part. SomeIff result (block < part.count) (part.start + block)) }
     {
         let part = self.part(dev);
         if block < part.count {
@@ -135,7 +137,9 @@ impl Parts {
     pub fn page(&self, dev: u32, page: u32, pages_per_block: u32) -> Option<u32>
         requires device { IsSome (part_of self.now dev) }
         requires pages { pages_per_block ≤ 128 }
-        ensures { IfSome (part_of self.now dev) (λ part. SomeIff result (page < part.count * pages_per_block) (part.start * pages_per_block + page)) }
+        ensures { IfSome (part_of self.now dev)
+            (λ part. SomeIff result (page < part.count * pages_per_block)
+            (part.start * pages_per_block + page)) }
     {
         let part = self.part(dev);
         if page < part.count * pages_per_block {

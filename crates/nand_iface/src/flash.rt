@@ -68,8 +68,10 @@ pub trait Flash: Drop {
     fn program_page(&mut self, page: u32, image: &[u8]) -> Result<(), ProgramFailed>
         requires place { FitsPage (state self.old).geometry page image.now }
         requires room { 0 < room self.old }
-        ensures state { state self.new ≡ happens fault_model (state self.old) (Complete (ProgramEvent page image.now)) }
-        ensures ok { is_ok result ≡ is_none (failure_of fault_model (state self.old) (ProgramCall page)) }
+        ensures state { state self.new
+            ≡ happens fault_model (state self.old) (Complete (ProgramEvent page image.now)) }
+        ensures ok { is_ok result
+            ≡ is_none (failure_of fault_model (state self.old) (ProgramCall page)) }
         ensures faults { (state self.old).faults ≤ (state self.new).faults }
         ensures room { room self.old ≤ room self.new + 1 }
         ensures bit_room { bit_room self.old ≤ bit_room self.new };
@@ -80,8 +82,10 @@ pub trait Flash: Drop {
     /// faults then rises, and the pages of the block are torn.
     fn erase_block(&mut self, block: u32) -> Result<(), EraseFailed>
         requires { block < (state self.old).geometry.blocks }
-        ensures state { state self.new ≡ happens fault_model (state self.old) (Complete (EraseEvent block)) }
-        ensures ok { is_ok result ≡ is_none (failure_of fault_model (state self.old) (EraseCall block)) }
+        ensures state { state self.new
+            ≡ happens fault_model (state self.old) (Complete (EraseEvent block)) }
+        ensures ok { is_ok result
+            ≡ is_none (failure_of fault_model (state self.old) (EraseCall block)) }
         ensures faults { (state self.old).faults ≤ (state self.new).faults }
         ensures room { room self.old ≤ room self.new }
         ensures bit_room { bit_room self.old ≤ bit_room self.new };
@@ -93,7 +97,8 @@ pub trait Flash: Drop {
         requires place { FitsBits (state self.old).geometry page bits.now }
         requires room { 0 < room self.old }
         requires bit_room { length bits.now ≤ bit_room self.old }
-        ensures state { state self.new ≡ after_trace fault_model (state self.old) (flip_events page bits.now) }
+        ensures state { state self.new
+            ≡ after_trace fault_model (state self.old) (flip_events page bits.now) }
         ensures room { room self.old ≤ room self.new + 1 }
         ensures bit_room { bit_room self.old ≤ bit_room self.new + length bits.now };
 
@@ -102,7 +107,8 @@ pub trait Flash: Drop {
     /// more.
     fn flips(&self, page: u32, from: u32, to: u32) -> u32
         requires { page < page_count (state self.now).geometry }
-        ensures { result ≡ min (flips_between ((state self.now).pages page).flips from to) (2 ^ 32 - 1) };
+        ensures { result ≡ min (flips_between ((state self.now).pages page).flips from to)
+            (2 ^ 32 - 1) };
 
     /// Whether a bit of a page was flipped since its last good program or erase, or since the first
     /// torn or failed one after that.

@@ -18,14 +18,19 @@ pub fn program_one_page<F: Flash>(
 ) -> Result<(), ProgramFailed>
     requires place { FitsPage (F.state flash.old).geometry page image.now }
     requires room { 0 < F.room flash.old }
-    ensures written { OnOk result (((F.state flash.new).pages page).cells ≡ programmed ((F.state flash.old).pages page).cells image.now) }
-    ensures others { (p : ℕ) → p ≢ page → (F.state flash.new).pages p ≡ (F.state flash.old).pages p }
+    ensures written { OnOk result
+        (((F.state flash.new).pages page).cells
+        ≡ programmed ((F.state flash.old).pages page).cells image.now) }
+    ensures others { (p : ℕ) → p ≢ page → (F.state flash.new).pages p
+        ≡ (F.state flash.old).pages p }
     ensures failed { OnErr result (HasRisen (F.state flash.old).faults (F.state flash.new).faults) }
     ensures geometry { (F.state flash.new).geometry ≡ (F.state flash.old).geometry }
     ensures room { F.room flash.old ≤ F.room flash.new + 1 }
     ensures bit_room { F.bit_room flash.old ≤ F.bit_room flash.new }
-    ensures trace { (start : ChipState F.FaultState) (events : List ChipEvent) → F.state flash.old ≡ after_trace F.fault_model start events
-        → F.state flash.new ≡ after_trace F.fault_model start (events ++ Complete (ProgramEvent page image.now) ∷ []) }
+    ensures trace { (start : ChipState F.FaultState) (events : List ChipEvent) → F.state flash.old
+        ≡ after_trace F.fault_model start events
+        → F.state flash.new ≡ after_trace F.fault_model start
+        (events ++ Complete (ProgramEvent page image.now) ∷ []) }
 {
     flash.program_page(page, image)
 }
@@ -35,14 +40,18 @@ pub fn program_one_page<F: Flash>(
 pub fn erase_one_block<F: Flash>(flash: &mut F, block: u32) -> Result<(), EraseFailed>
     requires { block < (F.state flash.old).geometry.blocks }
     ensures erased { OnOk result ((p : ℕ) → p / (F.state flash.old).geometry.pages_per_block ≡ block
-        → ((F.state flash.new).pages p).cells ≡ replicate (raw_len (F.state flash.old).geometry) 0xff) }
-    ensures others { (p : ℕ) → p / (F.state flash.old).geometry.pages_per_block ≢ block → (F.state flash.new).pages p ≡ (F.state flash.old).pages p }
+        → ((F.state flash.new).pages p).cells
+        ≡ replicate (raw_len (F.state flash.old).geometry) 0xff) }
+    ensures others { (p : ℕ) → p / (F.state flash.old).geometry.pages_per_block ≢ block →
+        (F.state flash.new).pages p ≡ (F.state flash.old).pages p }
     ensures failed { OnErr result (HasRisen (F.state flash.old).faults (F.state flash.new).faults) }
     ensures geometry { (F.state flash.new).geometry ≡ (F.state flash.old).geometry }
     ensures room { F.room flash.old ≤ F.room flash.new }
     ensures bit_room { F.bit_room flash.old ≤ F.bit_room flash.new }
-    ensures trace { (start : ChipState F.FaultState) (events : List ChipEvent) → F.state flash.old ≡ after_trace F.fault_model start events
-        → F.state flash.new ≡ after_trace F.fault_model start (events ++ Complete (EraseEvent block) ∷ []) }
+    ensures trace { (start : ChipState F.FaultState) (events : List ChipEvent) → F.state flash.old
+        ≡ after_trace F.fault_model start events
+        → F.state flash.new ≡ after_trace F.fault_model start
+        (events ++ Complete (EraseEvent block) ∷ []) }
 {
     flash.erase_block(block)
 }
@@ -53,13 +62,18 @@ pub fn turn_bits<F: Flash>(flash: &mut F, page: u32, bits: &BlockList)
     requires place { FitsBits (F.state flash.old).geometry page bits.now }
     requires room { 0 < F.room flash.old }
     requires bit_room { length bits.now ≤ F.bit_room flash.old }
-    ensures turned { ((F.state flash.new).pages page).cells ≡ fold with_bit_turned ((F.state flash.old).pages page).cells bits.now }
-    ensures counted { ((F.state flash.new).pages page).flips ≡ ((F.state flash.old).pages page).flips ++ bits.now }
-    ensures others { (p : ℕ) → p ≢ page → (F.state flash.new).pages p ≡ (F.state flash.old).pages p }
+    ensures turned { ((F.state flash.new).pages page).cells
+        ≡ fold with_bit_turned ((F.state flash.old).pages page).cells bits.now }
+    ensures counted { ((F.state flash.new).pages page).flips
+        ≡ ((F.state flash.old).pages page).flips ++ bits.now }
+    ensures others { (p : ℕ) → p ≢ page → (F.state flash.new).pages p
+        ≡ (F.state flash.old).pages p }
     ensures geometry { (F.state flash.new).geometry ≡ (F.state flash.old).geometry }
     ensures faults { (F.state flash.new).faults ≡ (F.state flash.old).faults }
-    ensures trace { (start : ChipState F.FaultState) (events : List ChipEvent) → F.state flash.old ≡ after_trace F.fault_model start events
-        → F.state flash.new ≡ after_trace F.fault_model start (events ++ flip_events page bits.now) }
+    ensures trace { (start : ChipState F.FaultState) (events : List ChipEvent) → F.state flash.old
+        ≡ after_trace F.fault_model start events
+        → F.state flash.new ≡ after_trace F.fault_model start
+        (events ++ flip_events page bits.now) }
 {
     flash.flip(page, bits)
 }

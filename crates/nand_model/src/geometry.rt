@@ -57,9 +57,11 @@ impl Geometry {
         bbt: u32,
         threshold: u32,
     ) -> Result<Geometry, GeometryError>
-        ensures bad_size { (result ≡ Err GeometryError.BadSize) ↔ (has_sizes page spare pages_per_block blocks t bbt threshold ≡ false) }
+        ensures bad_size { (result ≡ Err GeometryError.BadSize)
+            ↔ (has_sizes page spare pages_per_block blocks t bbt threshold ≡ false) }
         ensures too_small { (result ≡ Err GeometryError.SpareTooSmall)
-            ↔ ((has_sizes page spare pages_per_block blocks t bbt threshold ≡ true) × (has_room (code_512 t) page spare bbt ≡ false)) }
+            ↔ ((has_sizes page spare pages_per_block blocks t bbt threshold ≡ true)
+            × (has_room (code_512 t) page spare bbt ≡ false)) }
         ensures page { IfOk result (λ g. g.page ≡ page) }
         ensures spare { IfOk result (λ g. g.spare ≡ spare) }
         ensures pages_per_block { IfOk result (λ g. g.pages_per_block ≡ pages_per_block) }

@@ -38,9 +38,12 @@ pub fn exit_status<S: Source, K: Sink>(
 
     // The bytes.
     ensures complete { is_served (drop 1 (into_iter_items args)) ≡ true
-        → IsCalm (S.faults source.old) (S.faults source.new) → IsCalm (K.faults sink.old) (K.faults sink.new)
-        → (bytes : List ℕ) → S.left source.old ≡ Some bytes → IsOfTheForm bytes → (result ≡ 0) ⊎ (result ≡ 6) }
-    ensures written { (bytes before : List ℕ) → S.left source.old ≡ Some bytes → K.held sink.old ≡ Some before
+        → IsCalm (S.faults source.old) (S.faults source.new) →
+        IsCalm (K.faults sink.old) (K.faults sink.new)
+        → (bytes : List ℕ) → S.left source.old ≡ Some bytes → IsOfTheForm bytes → (result ≡ 0)
+        ⊎ (result ≡ 6) }
+    ensures written { (bytes before : List ℕ) → S.left source.old ≡ Some bytes → K.held sink.old
+        ≡ Some before
         → (status : Status) × (result ≡ exit_code status)
         × Leaves (drop 1 (into_iter_items args)) bytes status before (K.held sink.new) }
 

@@ -44,7 +44,8 @@ fn put_erased(
     failed: u64,
 ) -> Result<(), AllocError>
     ensures { OnOk result (out.new ≡ out.old ++ line (codes "flash_erase " ++ device_name dev
-        ++ codes ": erased " ++ decimal erased ++ codes ", bad " ++ decimal bad ++ codes ", failed " ++ decimal failed)) }
+        ++ codes ": erased " ++ decimal erased ++ codes ", bad " ++ decimal bad
+        ++ codes ", failed " ++ decimal failed)) }
 {
     let text = format!(in alloc;
         "flash_erase mtd{dev}: erased {erased}, bad {bad}, failed {failed}\n"
@@ -63,7 +64,8 @@ fn put_written(
     ending: Ending,
 ) -> Result<(), AllocError>
     ensures { OnOk result (out.new ≡ out.old ++ line (codes "nandwrite " ++ device_name dev
-        ++ codes ": pages " ++ decimal pages ++ codes ", skipped " ++ decimal skipped ++ codes ", failed " ++ decimal failed ++ ending_text ending)) }
+        ++ codes ": pages " ++ decimal pages ++ codes ", skipped " ++ decimal skipped
+        ++ codes ", failed " ++ decimal failed ++ ending_text ending)) }
 {
     let ending = ending_words(ending);
     let text = format!(in alloc;
@@ -83,7 +85,8 @@ fn put_dumped(
     failed: u64,
 ) -> Result<(), AllocError>
     ensures { OnOk result (out.new ≡ out.old ++ line (codes "nanddump " ++ device_name dev
-        ++ codes ": pages " ++ decimal pages ++ codes ", bad " ++ decimal bad ++ codes ", corrected " ++ decimal corrected ++ codes ", failed " ++ decimal failed)) }
+        ++ codes ": pages " ++ decimal pages ++ codes ", bad " ++ decimal bad
+        ++ codes ", corrected " ++ decimal corrected ++ codes ", failed " ++ decimal failed)) }
 {
     let text = format!(in alloc;
         "nanddump mtd{dev}: pages {pages}, bad {bad}, corrected {corrected}, failed {failed}\n"
@@ -102,7 +105,8 @@ fn put_tested(
     worn: u64,
 ) -> Result<(), AllocError>
     ensures { OnOk result (out.new ≡ out.old ++ (codes "nandtest " ++ device_name dev
-        ++ codes ": passes " ++ decimal passes ++ codes ", blocks " ++ decimal blocks ++ codes ", bad " ++ decimal bad ++ codes ", worn " ++ decimal worn)) }
+        ++ codes ": passes " ++ decimal passes ++ codes ", blocks " ++ decimal blocks
+        ++ codes ", bad " ++ decimal bad ++ codes ", worn " ++ decimal worn)) }
 {
     let text = format!(in alloc;
         "nandtest mtd{dev}: passes {passes}, blocks {blocks}, bad {bad}, worn {worn}"
@@ -135,7 +139,8 @@ fn put_replied(
     command: &Command,
     reply: &Reply,
 ) -> Result<(), AllocError>
-    ensures { OnOk result (out.new ≡ out.old ++ line (name.now ++ codes " " ++ device_name (command_device command.now)
+    ensures { OnOk result (out.new ≡ out.old
+        ++ line (name.now ++ codes " " ++ device_name (command_device command.now)
         ++ 32 ∷ block_text command.now ++ codes ": " ++ reply_text reply.now)) }
 {
     let dev = command.device();
@@ -156,7 +161,8 @@ fn put_asked_stats(
     bad: u64,
 ) -> Result<(), AllocError>
     ensures { OnOk result (out.new ≡ out.old ++ line (codes "stats " ++ device_name dev
-        ++ codes ": corrected " ++ decimal corrected ++ codes ", failed " ++ decimal failed ++ codes ", bad " ++ decimal bad)) }
+        ++ codes ": corrected " ++ decimal corrected ++ codes ", failed " ++ decimal failed
+        ++ codes ", bad " ++ decimal bad)) }
 {
     let text = format!(in alloc;
         "stats mtd{dev}: corrected {corrected}, failed {failed}, bad {bad}\n"
@@ -228,7 +234,8 @@ fn put_outcomes(
     ended: &SessionEnd,
 ) -> Result<(), AllocError>
     requires { All (IsCommand chips.now payload.now) lines.now }
-    ensures { OnOk result (out.new ≡ out.old ++ outcome_lines (map (command_of chips.now payload.now) lines.now) ended.now.outcomes) }
+    ensures { OnOk result (out.new ≡ out.old
+        ++ outcome_lines (map (command_of chips.now payload.now) lines.now) ended.now.outcomes) }
 {
     for n in 0..lines.len().min(ended.len()) {
         let command = command_of_line(alloc, chips, payload, lines.get(n))?;
@@ -248,7 +255,8 @@ pub fn put_session(
     ended: &SessionEnd,
 ) -> Result<(), AllocError>
     requires { All (IsCommand chips.now payload.now) lines.now }
-    ensures { OnOk result (out.new ≡ out.old ++ ended_text number (map (command_of chips.now payload.now) lines.now) ended.now) }
+    ensures { OnOk result (out.new ≡ out.old
+        ++ ended_text number (map (command_of chips.now payload.now) lines.now) ended.now) }
 {
     let text = format!(in alloc; "session {number}\n")?;
     put_text(out, text.as_str())?;

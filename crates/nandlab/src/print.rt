@@ -36,7 +36,8 @@ fn put_run(
     row: &[u8],
 ) -> Result<(), AllocError>
     requires { 32 * at < 2 ^ 64 }
-    ensures { OnOk result (out.new ≡ out.old ++ row_line (record { at = at; count = count; row = row.now })) }
+    ensures { OnOk result (out.new ≡ out.old
+        ++ row_line (record { at = at; count = count; row = row.now })) }
 {
     let offset = hex::encode(alloc, low_bytes(32 * at))?;
     let digits = hex::encode(alloc, row)?;
@@ -116,7 +117,8 @@ fn put_operation(
     number: u32,
 ) -> Result<(), AllocError>
     ensures { OnOk result (out.new ≡ out.old
-        ++ line (spaced (codes "b" ∷ decimal session ∷ name.now ∷ device_name dev ∷ decimal number ∷ []))) }
+        ++ line (spaced (codes "b" ∷ decimal session ∷ name.now ∷ device_name dev ∷ decimal number
+        ∷ []))) }
 {
     let text = format!(in alloc; "b {session} {name} mtd{dev} {number}\n")?;
     put_text(out, text.as_str())
@@ -124,7 +126,8 @@ fn put_operation(
 
 // The line of an operation that begins.
 fn put_began(alloc: Global, out: &mut Bytes, session: u32, op: &Op) -> Result<(), AllocError>
-    ensures { OnOk result (out.new ≡ out.old ++ line (spaced (codes "b" ∷ decimal session ∷ op_text op.now))) }
+    ensures { OnOk result (out.new ≡ out.old
+        ++ line (spaced (codes "b" ∷ decimal session ∷ op_text op.now))) }
 {
     match op {
         Op::Read { dev, page } => put_operation(alloc, out, session, "read", *dev, *page),
@@ -247,7 +250,8 @@ fn put_answered(
     reply: &Reply,
 ) -> Result<(), AllocError>
     ensures { OnOk result (out.new ≡ out.old
-        ++ (line (spaced (codes "a" ∷ decimal session ∷ reply_text reply.now ∷ [])) ++ reply_rows reply.now)) }
+        ++ (line (spaced (codes "a" ∷ decimal session ∷ reply_text reply.now ∷ []))
+        ++ reply_rows reply.now)) }
 {
     let text = format!(in alloc; "a {session} ")?;
     put_text(out, text.as_str())?;
@@ -326,8 +330,10 @@ fn put_attach_words(
     copies: u32,
     quiet: bool,
 ) -> Result<(), AllocError>
-    ensures { OnOk result (out.new ≡ out.old ++ spaced (codes "attach" ∷ chip.now ∷ origin_text origin
-        ∷ codes "version" ∷ decimal version ∷ codes "copies" ∷ decimal copies ∷ codes "quiet" ∷ yes_or_no quiet ∷ codes "bad" ∷ [] ∷ [])) }
+    ensures { OnOk result (out.new ≡ out.old
+        ++ spaced (codes "attach" ∷ chip.now ∷ origin_text origin
+        ∷ codes "version" ∷ decimal version ∷ codes "copies" ∷ decimal copies ∷ codes "quiet"
+        ∷ yes_or_no quiet ∷ codes "bad" ∷ [] ∷ [])) }
 {
     let origin = origin_name(origin);
     let quiet = answer_name(quiet);
@@ -348,8 +354,10 @@ fn put_attached(
     quiet: bool,
     states: &[u8],
 ) -> Result<(), AllocError>
-    ensures { OnOk result (out.new ≡ out.old ++ line (spaced (codes "attach" ∷ chip.now ∷ origin_text origin
-        ∷ codes "version" ∷ decimal version ∷ codes "copies" ∷ decimal copies ∷ codes "quiet" ∷ yes_or_no quiet
+    ensures { OnOk result (out.new ≡ out.old
+        ++ line (spaced (codes "attach" ∷ chip.now ∷ origin_text origin
+        ∷ codes "version" ∷ decimal version ∷ codes "copies" ∷ decimal copies ∷ codes "quiet"
+        ∷ yes_or_no quiet
         ∷ codes "bad" ∷ joined_by_commas (bad_entries 0 states.now) ∷ []))) }
 {
     put_attach_words(alloc, out, chip, origin, version, copies, quiet)?;
@@ -397,7 +405,8 @@ fn put_torn(
     cut: bool,
     fairness: Fairness,
 ) -> Result<(), AllocError>
-    ensures { OnOk result (out.new ≡ out.old ++ line (spaced (codes "torn" ∷ chip.now ∷ codes "event" ∷ decimal number
+    ensures { OnOk result (out.new ≡ out.old
+        ++ line (spaced (codes "torn" ∷ chip.now ∷ codes "event" ∷ decimal number
         ∷ spaced (event_text event) ∷ cause_text cut ∷ fairness_text fairness ∷ []))) }
 {
     let words = event_words(alloc, event)?;

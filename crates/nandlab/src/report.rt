@@ -25,7 +25,8 @@ fn put_sessions(
 ) -> Result<(), AllocError>
     requires legal { IsPlan plan.now }
     requires many { length ends.now ≡ length plan.now.sessions }
-    ensures { OnOk result (out.new ≡ out.old ++ ended_texts 0 (boot_of plan.now).sessions ends.now) }
+    ensures { OnOk result (out.new ≡ out.old
+        ++ ended_texts 0 (boot_of plan.now).sessions ends.now) }
 {
     let payload = plan.payload.as_slice();
     for n in 0..plan.sessions.len() {
@@ -45,9 +46,12 @@ fn boot_report(
     stats: &StatsList,
 ) -> Result<Bytes, AllocError>
     requires legal { IsPlan plan.now }
-    requires ends { ends.now ≡ ends_by (geometry_in (plan_of plan.now) 0) 0 (boot_of plan.now).sessions notes.now.notes }
-    requires stats { stats.now ≡ stats_by 0 (length plan.now.chips) (length plan.now.sessions) notes.now.notes }
-    ensures { IfOk result (λ text. text ≡ report_text (plan_of plan.now) ((notes.now.notes ∷ []) ∷ [])) }
+    requires ends { ends.now
+        ≡ ends_by (geometry_in (plan_of plan.now) 0) 0 (boot_of plan.now).sessions notes.now.notes }
+    requires stats { stats.now
+        ≡ stats_by 0 (length plan.now.chips) (length plan.now.sessions) notes.now.notes }
+    ensures { IfOk result (λ text. text
+        ≡ report_text (plan_of plan.now) ((notes.now.notes ∷ []) ∷ [])) }
 {
     let mut out = Bytes::filled(alloc, 0, 0)?;
     put_text(&mut out, "boot 0\ncontroller 0\n")?;

@@ -31,7 +31,8 @@ fn are_accepted(words: &Vec<String>) -> bool
 // Writes a text, and answers this status, or `WriteFault` where the sink failed.
 fn written<K: Sink>(sink: &mut K, text: &[u8], status: Status) -> Status
     ensures count { K.faults sink.old ≤ K.faults sink.new }
-    ensures either { ((result ≡ status) × (K.held sink.new ≡ append_known (K.held sink.old) text.now))
+    ensures either { ((result ≡ status)
+        × (K.held sink.new ≡ append_known (K.held sink.old) text.now))
         ⊎ ((result ≡ Status.WriteFault) × HasRisen (K.faults sink.old) (K.faults sink.new)
         × TookPrefix (K.held sink.old) (K.held sink.new) text.now) }
 {
@@ -56,27 +57,35 @@ pub fn serial_top<S: Source, K: Sink>(
 ) -> Status
     // The words.
     ensures usage { result ≡ Status.Usage → is_served words.now.items ≡ false }
-    ensures refused { is_served words.now.items ≡ false → (result ≡ Status.Usage) ⊎ (result ≡ Status.WriteFault) }
+    ensures refused { is_served words.now.items ≡ false → (result ≡ Status.Usage)
+        ⊎ (result ≡ Status.WriteFault) }
     ensures unread { is_served words.now.items ≡ false
         → (S.left source.new ≡ S.left source.old) × (S.faults source.new ≡ S.faults source.old) }
 
     // The bytes.
-    ensures fine { result ≡ Status.Fine → IsAtEnd (S.left source.new) × IfSome (S.left source.old) IsOfTheForm }
+    ensures fine { result ≡ Status.Fine → IsAtEnd (S.left source.new)
+        × IfSome (S.left source.old) IsOfTheForm }
     ensures plan_refused { result ≡ Status.PlanRefused → IfSome (S.left source.old) IsRefused }
     ensures refused_at_end { result ≡ Status.PlanRefused
-        → IfSome (S.left source.old) (λ bytes. length bytes ≤ most_bytes → IsAtEnd (S.left source.new)) }
+        → IfSome (S.left source.old)
+        (λ bytes. length bytes ≤ most_bytes → IsAtEnd (S.left source.new)) }
     ensures complete { is_served words.now.items ≡ true
-        → IsCalm (S.faults source.old) (S.faults source.new) → IsCalm (K.faults sink.old) (K.faults sink.new)
+        → IsCalm (S.faults source.old) (S.faults source.new) →
+        IsCalm (K.faults sink.old) (K.faults sink.new)
         → (bytes : List ℕ) → S.left source.old ≡ Some bytes → IsOfTheForm bytes
         → (result ≡ Status.Fine) ⊎ (result ≡ Status.Memory) }
-    ensures written { (bytes before : List ℕ) → S.left source.old ≡ Some bytes → K.held sink.old ≡ Some before
+    ensures written { (bytes before : List ℕ) → S.left source.old ≡ Some bytes → K.held sink.old
+        ≡ Some before
         → Leaves words.now.items bytes result before (K.held sink.new) }
 
     // The faults.
-    ensures read_fault { result ≡ Status.ReadFault → HasRisen (S.faults source.old) (S.faults source.new) }
+    ensures read_fault { result ≡ Status.ReadFault →
+        HasRisen (S.faults source.old) (S.faults source.new) }
     ensures ended_by_fault { S.faults source.old < S.faults source.new → result ≡ Status.ReadFault }
-    ensures write_fault { result ≡ Status.WriteFault → HasRisen (K.faults sink.old) (K.faults sink.new) }
-    ensures counts { (S.faults source.old ≤ S.faults source.new) × (K.faults sink.old ≤ K.faults sink.new) }
+    ensures write_fault { result ≡ Status.WriteFault →
+        HasRisen (K.faults sink.old) (K.faults sink.new) }
+    ensures counts { (S.faults source.old ≤ S.faults source.new)
+        × (K.faults sink.old ≤ K.faults sink.new) }
 {
     if !are_accepted(words) {
         return written(sink, USAGE, Status::Usage);

@@ -24,11 +24,16 @@ pub fn read<F: Flash, C: PageCode>(
     image: &mut [u8],
 ) -> (PageKind, PageRead)
     requires { FitsPage (F.state flash.now).geometry page image.old }
-    ensures image { image.new ≡ (decoded (F.state flash.now).geometry ((F.state flash.now).pages page).cells).image }
-    ensures kind { result.0 ≡ kind_of (F.state flash.now).geometry (decoded (F.state flash.now).geometry ((F.state flash.now).pages page).cells) }
-    ensures corrected { result.1.corrected ≡ (decoded (F.state flash.now).geometry ((F.state flash.now).pages page).cells).corrected }
-    ensures greatest { result.1.greatest ≡ (decoded (F.state flash.now).geometry ((F.state flash.now).pages page).cells).greatest }
-    ensures failed { result.1.failed ≡ (decoded (F.state flash.now).geometry ((F.state flash.now).pages page).cells).failed }
+    ensures image { image.new
+        ≡ (decoded (F.state flash.now).geometry ((F.state flash.now).pages page).cells).image }
+    ensures kind { result.0 ≡ kind_of (F.state flash.now).geometry
+        (decoded (F.state flash.now).geometry ((F.state flash.now).pages page).cells) }
+    ensures corrected { result.1.corrected
+        ≡ (decoded (F.state flash.now).geometry ((F.state flash.now).pages page).cells).corrected }
+    ensures greatest { result.1.greatest
+        ≡ (decoded (F.state flash.now).geometry ((F.state flash.now).pages page).cells).greatest }
+    ensures failed { result.1.failed
+        ≡ (decoded (F.state flash.now).geometry ((F.state flash.now).pages page).cells).failed }
 {
     let g = flash.geometry();
     flash.read_page(page, image);
@@ -38,7 +43,8 @@ pub fn read<F: Flash, C: PageCode>(
 
 // What a decoded page is called.
 fn kind(g: &Geometry, read: PageRead) -> PageKind
-    ensures { (d : Decoding) → d.failed ≡ read.failed → d.greatest ≡ read.greatest → result ≡ kind_of g.now d }
+    ensures { (d : Decoding) → d.failed ≡ read.failed → d.greatest ≡ read.greatest → result
+        ≡ kind_of g.now d }
 {
     if read.failed > 0 {
         PageKind::Uncorrectable
@@ -61,8 +67,10 @@ pub fn read_raw<F: Flash>(flash: &F, page: u32, image: &mut [u8])
 fn program<F: Flash>(flash: &mut F, page: u32, image: &[u8]) -> Result<(), WriteError>
     requires place { FitsPage (F.state flash.old).geometry page image.now }
     requires room { 0 < F.room flash.old }
-    ensures state { F.state flash.new ≡ happens F.fault_model (F.state flash.old) (Complete (ProgramEvent page image.now)) }
-    ensures ended { result ≡ write_ended (failure_of F.fault_model (F.state flash.old) (ProgramCall page)) }
+    ensures state { F.state flash.new
+        ≡ happens F.fault_model (F.state flash.old) (Complete (ProgramEvent page image.now)) }
+    ensures ended { result ≡ write_ended
+        (failure_of F.fault_model (F.state flash.old) (ProgramCall page)) }
     ensures failed { OnErr result (HasRisen (F.state flash.old).faults (F.state flash.new).faults) }
     ensures room { F.room flash.old ≤ F.room flash.new + 1 }
     ensures bit_room { F.bit_room flash.old ≤ F.bit_room flash.new }
@@ -88,12 +96,16 @@ pub fn write<F: Flash, C: PageCode>(
 ) -> Result<(), WriteError>
     requires place { FitsPage (F.state flash.old).geometry page image.old }
     requires room { 0 < F.room flash.old }
-    ensures refused { state ≢ 0 → (result ≡ Err WriteError.BadBlock) × (flash.new ≡ flash.old) × (image.new ≡ image.old) }
+    ensures refused { state ≢ 0 → (result ≡ Err WriteError.BadBlock) × (flash.new ≡ flash.old)
+        × (image.new ≡ image.old) }
     ensures image { state ≡ 0 → image.new ≡ encoded (F.state flash.old).geometry image.old }
     ensures state { state ≡ 0 → F.state flash.new
-        ≡ happens F.fault_model (F.state flash.old) (Complete (ProgramEvent page (encoded (F.state flash.old).geometry image.old))) }
-    ensures ended { state ≡ 0 → result ≡ write_ended (failure_of F.fault_model (F.state flash.old) (ProgramCall page)) }
-    ensures failed { result ≡ Err WriteError.ProgramFailed → HasRisen (F.state flash.old).faults (F.state flash.new).faults }
+        ≡ happens F.fault_model (F.state flash.old)
+        (Complete (ProgramEvent page (encoded (F.state flash.old).geometry image.old))) }
+    ensures ended { state ≡ 0 → result
+        ≡ write_ended (failure_of F.fault_model (F.state flash.old) (ProgramCall page)) }
+    ensures failed { result ≡ Err WriteError.ProgramFailed →
+        HasRisen (F.state flash.old).faults (F.state flash.new).faults }
     ensures room { F.room flash.old ≤ F.room flash.new + 1 }
     ensures bit_room { F.bit_room flash.old ≤ F.bit_room flash.new }
 {
@@ -123,10 +135,12 @@ pub fn write_raw<F: Flash>(
     ensures marker { state ≡ 0 → marker_byte (F.state flash.old).geometry image.now ≢ 0xff
         → (result ≡ Err WriteError.MarkerByte) × (flash.new ≡ flash.old) }
     ensures state { state ≡ 0 → marker_byte (F.state flash.old).geometry image.now ≡ 0xff
-        → F.state flash.new ≡ happens F.fault_model (F.state flash.old) (Complete (ProgramEvent page image.now)) }
+        → F.state flash.new ≡ happens F.fault_model (F.state flash.old)
+        (Complete (ProgramEvent page image.now)) }
     ensures ended { state ≡ 0 → marker_byte (F.state flash.old).geometry image.now ≡ 0xff
         → result ≡ write_ended (failure_of F.fault_model (F.state flash.old) (ProgramCall page)) }
-    ensures failed { result ≡ Err WriteError.ProgramFailed → HasRisen (F.state flash.old).faults (F.state flash.new).faults }
+    ensures failed { result ≡ Err WriteError.ProgramFailed →
+        HasRisen (F.state flash.old).faults (F.state flash.new).faults }
     ensures room { F.room flash.old ≤ F.room flash.new + 1 }
     ensures bit_room { F.bit_room flash.old ≤ F.bit_room flash.new }
 {
@@ -146,9 +160,12 @@ pub fn write_raw<F: Flash>(
 pub fn erase<F: Flash>(flash: &mut F, block: u32, state: u32) -> Result<(), EraseError>
     requires { block < (F.state flash.old).geometry.blocks }
     ensures refused { state ≢ 0 → (result ≡ Err EraseError.BadBlock) × (flash.new ≡ flash.old) }
-    ensures state { state ≡ 0 → F.state flash.new ≡ happens F.fault_model (F.state flash.old) (Complete (EraseEvent block)) }
-    ensures ended { state ≡ 0 → result ≡ erase_ended (failure_of F.fault_model (F.state flash.old) (EraseCall block)) }
-    ensures failed { result ≡ Err EraseError.EraseFailed → HasRisen (F.state flash.old).faults (F.state flash.new).faults }
+    ensures state { state ≡ 0 → F.state flash.new
+        ≡ happens F.fault_model (F.state flash.old) (Complete (EraseEvent block)) }
+    ensures ended { state ≡ 0 → result
+        ≡ erase_ended (failure_of F.fault_model (F.state flash.old) (EraseCall block)) }
+    ensures failed { result ≡ Err EraseError.EraseFailed →
+        HasRisen (F.state flash.old).faults (F.state flash.new).faults }
     ensures room { F.room flash.old ≤ F.room flash.new }
     ensures bit_room { F.bit_room flash.old ≤ F.bit_room flash.new }
 {
@@ -172,8 +189,12 @@ pub fn marker<F: Flash>(flash: &mut F, block: u32, image: &mut [u8]) -> Result<(
     requires room { 0 < F.room flash.old }
     ensures image { image.new ≡ marker_image (F.state flash.old).geometry }
     ensures state { F.state flash.new ≡ happens F.fault_model (F.state flash.old)
-        (Complete (ProgramEvent (first_page (F.state flash.old).geometry block) (marker_image (F.state flash.old).geometry))) }
-    ensures ok { is_ok result ≡ is_none (failure_of F.fault_model (F.state flash.old) (ProgramCall (first_page (F.state flash.old).geometry block))) }
+        (Complete (ProgramEvent (first_page (F.state flash.old).geometry block)
+        (marker_image (F.state flash.old).geometry))) }
+    ensures ok { is_ok result
+        ≡ is_none
+        (failure_of F.fault_model (F.state flash.old)
+        (ProgramCall (first_page (F.state flash.old).geometry block))) }
     ensures failed { OnErr result (HasRisen (F.state flash.old).faults (F.state flash.new).faults) }
     ensures room { F.room flash.old ≤ F.room flash.new + 1 }
     ensures bit_room { F.bit_room flash.old ≤ F.bit_room flash.new }

@@ -28,8 +28,10 @@ pub fn wrong_bits_were_flipped<W>()
 /// the body and the parity bits that were written, and its counts are those of the wrong bits. No
 /// step fails.
 pub fn filled_pages_read_back<W>()
-    ensures any_chip { (model : FaultModel W) (chip : ChipState W) → FilledPagesReadBack model chip }
-    ensures new_chip { (g : Geometry) (bad : List ℕ) (weak : List Weak) → ProgrammedPagesReadBack g bad weak }
+    ensures any_chip { (model : FaultModel W) (chip : ChipState W) →
+        FilledPagesReadBack model chip }
+    ensures new_chip { (g : Geometry) (bad : List ℕ) (weak : List Weak) →
+        ProgrammedPagesReadBack g bad weak }
 {}
 
 /// A write that was answered done has filled its page with one good program, where that was erased
@@ -41,25 +43,32 @@ pub fn done_writes_fill_pages<W>()
 /// Each answered read of such a page, in the life of a chip that was fresh, gives it back, with
 /// exact counts and by them its kind.
 pub fn lives_read_back<W>()
-    ensures one_life { (model : FaultModel W) (partitions : Partitions) (k : ℕ) (chip : ChipState W) (life : List ChipBoot)
-        (notes : List (List Note)) → IsFresh chip → IsChipLife model partitions k chip life notes → ReadsBackAlong model chip [] life }
-    ensures one_thread { (model : FaultModel W) (partitions : Partitions) (starts : List (ChipState W)) (lives : List (List ChipBoot))
+    ensures one_life { (model : FaultModel W) (partitions : Partitions) (k : ℕ)
+        (chip : ChipState W) (life : List ChipBoot)
+        (notes : List (List Note)) → IsFresh chip → IsChipLife model partitions k chip life notes →
+        ReadsBackAlong model chip [] life }
+    ensures one_thread { (model : FaultModel W) (partitions : Partitions)
+        (starts : List (ChipState W)) (lives : List (List ChipBoot))
         (notes : List (List Note)) → AreOneThread model partitions starts lives notes →
-        (k : ℕ) (chip : ChipState W) (life : List ChipBoot) → slice_get starts k ≡ Some chip → IsFresh chip → slice_get lives k ≡ Some life →
+        (k : ℕ) (chip : ChipState W) (life : List ChipBoot) → slice_get starts k ≡ Some chip →
+        IsFresh chip → slice_get lives k ≡ Some life →
         ReadsBackAlong model chip [] life }
 {}
 
 /// In every course, whatever its turns, flips, cut and failures: the notes are a history of one
 /// thread, in which each answered read of such a page, of a chip that was fresh, gives it back.
 pub fn courses_read_back<W>()
-    ensures { (model : FaultModel W) (boot : Boot) (starts : List (ChipState W)) (attaches : ℕ) (turns : List ℕ) →
+    ensures { (model : FaultModel W) (boot : Boot) (starts : List (ChipState W)) (attaches : ℕ)
+        (turns : List ℕ) →
         CoursesReadBack model boot starts attaches turns }
 {}
 
 /// The same over all boots of a run, each from the states that the one before it left.
 pub fn runs_read_back<W>()
-    ensures { (model : FaultModel W) (partitions : Partitions) (starts : List (ChipState W)) (boots : List Boot)
+    ensures { (model : FaultModel W) (partitions : Partitions) (starts : List (ChipState W))
+        (boots : List Boot)
         (turns : List (List ℕ)) (courses : List (Course W)) →
-        ((boot : Boot) → Contains boots boot → boot.partitions ≡ partitions) → AreBoots model starts boots turns courses →
+        ((boot : Boot) → Contains boots boot → boot.partitions ≡ partitions) →
+        AreBoots model starts boots turns courses →
         RunsReadBack model partitions starts boots courses }
 {}

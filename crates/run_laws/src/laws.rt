@@ -13,15 +13,18 @@ ghost use Rattle.run_laws.specs.Turns.{AttachIsStep, TurnIsStep, BusyTurnsSuffic
 /// one thread whose traces are what befell the chips, and each session's operations are those of
 /// its commands, in order and each once.
 pub fn every_interleaving<W>()
-    ensures { (model : FaultModel W) (boot : Boot) (starts : List (ChipState W)) (attaches : ℕ) (turns : List ℕ) →
+    ensures { (model : FaultModel W) (boot : Boot) (starts : List (ChipState W)) (attaches : ℕ)
+        (turns : List ℕ) →
         CoursesAreFaithful model boot starts attaches turns }
 {}
 
 /// The same over all boots of a run, each from the states that the one before it left.
 pub fn every_run<W>()
-    ensures { (model : FaultModel W) (partitions : Partitions) (starts : List (ChipState W)) (boots : List Boot)
+    ensures { (model : FaultModel W) (partitions : Partitions) (starts : List (ChipState W))
+        (boots : List Boot)
         (turns : List (List ℕ)) (courses : List (Course W)) →
-        ((boot : Boot) → Contains boots boot → boot.partitions ≡ partitions) → AreBoots model starts boots turns courses →
+        ((boot : Boot) → Contains boots boot → boot.partitions ≡ partitions) →
+        AreBoots model starts boots turns courses →
         RunsAreFaithful model partitions starts boots courses }
 {}
 
@@ -34,7 +37,8 @@ pub fn chips_stand_alone<W>()
 /// An attach step of a course changes nothing where the controller is dark or all chips are
 /// attached, and is else one page event.
 pub fn attach_steps_are_events<W>()
-    ensures { (model : FaultModel W) (boot : Boot) (starts : List (ChipState W)) (sizes : Command → Geometry) (attaches : ℕ) (turns : List ℕ) →
+    ensures { (model : FaultModel W) (boot : Boot) (starts : List (ChipState W))
+        (sizes : Command → Geometry) (attaches : ℕ) (turns : List ℕ) →
         AttachIsStep model boot sizes (course_after model boot starts attaches turns) }
 {}
 
@@ -42,9 +46,11 @@ pub fn attach_steps_are_events<W>()
 /// or one page event is done, or the operation is answered. So the turns of a list that are not
 /// idle lead to the same course.
 pub fn turns_are_steps<W>()
-    ensures one_step { (model : FaultModel W) (boot : Boot) (sizes : Command → Geometry) (course : Course W) (session : ℕ) →
+    ensures one_step { (model : FaultModel W) (boot : Boot) (sizes : Command → Geometry)
+        (course : Course W) (session : ℕ) →
         TurnIsStep model boot sizes course session }
-    ensures busy_turns { (model : FaultModel W) (boot : Boot) (starts : List (ChipState W)) (turns : List ℕ) (course : Course W) →
+    ensures busy_turns { (model : FaultModel W) (boot : Boot) (starts : List (ChipState W))
+        (turns : List ℕ) (course : Course W) →
         BusyTurnsSuffice model boot starts turns course }
 {}
 
@@ -52,6 +58,8 @@ pub fn turns_are_steps<W>()
 /// session of the boot is not idle, where each session has one number and the chip of each
 /// command's device is there.
 pub fn courses_go_on<W>()
-    ensures { (model : FaultModel W) (boot : Boot) (starts : List (ChipState W)) (attaches : ℕ) (turns : List ℕ) →
-        HaveOneNumberEach boot.sessions → HaveChips boot starts → SomeTurnIsBusy boot starts (course_after model boot starts attaches turns) }
+    ensures { (model : FaultModel W) (boot : Boot) (starts : List (ChipState W)) (attaches : ℕ)
+        (turns : List ℕ) →
+        HaveOneNumberEach boot.sessions → HaveChips boot starts →
+        SomeTurnIsBusy boot starts (course_after model boot starts attaches turns) }
 {}

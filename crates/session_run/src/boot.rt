@@ -30,7 +30,8 @@ fn take_turns<F: Flash, C: PageCode>(
     requires attached { unattached (course_of F.fault_model F.state core.old) ≡ None }
     requires own { All (HasSession core.old.boot) sessions.now }
     ensures course { OnOk result (course_of F.fault_model F.state core.new
-        ≡ turns_taken F.fault_model core.old.boot (starts_of F.state core.old) sessions.now (course_of F.fault_model F.state core.old)) }
+        ≡ turns_taken F.fault_model core.old.boot (starts_of F.state core.old) sessions.now
+        (course_of F.fault_model F.state core.old)) }
     ensures attached { OnOk result (unattached (course_of F.fault_model F.state core.new) ≡ None) }
     ensures same { IsOfTheSameStart core.old core.new }
     ensures attaches { core.new.attaches ≡ core.old.attaches }
@@ -63,7 +64,8 @@ fn take_round<F: Flash, C: PageCode>(core: &mut Core<F, C>) -> Result<(), AllocE
     requires can { CanStart core.old.boot (starts_of F.state core.old) }
     requires goes { is_over (course_of F.fault_model F.state core.old) ≡ false }
     ensures course { OnOk result (course_of F.fault_model F.state core.new
-        ≡ turns_taken F.fault_model core.old.boot (starts_of F.state core.old) (session_numbers core.old.boot) (course_of F.fault_model F.state core.old)) }
+        ≡ turns_taken F.fault_model core.old.boot (starts_of F.state core.old)
+        (session_numbers core.old.boot) (course_of F.fault_model F.state core.old)) }
     ensures attached { OnOk result (unattached (course_of F.fault_model F.state core.new) ≡ None) }
     ensures same { IsOfTheSameStart core.old core.new }
     ensures attaches { core.new.attaches ≡ core.old.attaches }
@@ -90,7 +92,9 @@ pub fn replay<F: Flash, C: PageCode>(
     requires attaches { core.attaches ≡ 0 }
     requires turns { core.turns ≡ [] }
     requires own { All (HasSession core.boot) schedule.now }
-    ensures replayed { IfOk result (λ done. IsReplayed F.fault_model core.boot (starts_of F.state core) schedule.now (course_of F.fault_model F.state done)) }
+    ensures replayed { IfOk result
+        (λ done. IsReplayed F.fault_model core.boot (starts_of F.state core) schedule.now
+        (course_of F.fault_model F.state done)) }
     ensures same { IfOk result (IsOfTheSameStart core) }
 {
     let mut core = core;

@@ -32,7 +32,8 @@ pub struct Session {
 impl Session {
     /// A session at its start. It takes no memory.
     pub fn new(alloc: Global, number: u32) -> Session
-        ensures { (sizes : Ordered → Sizes) (commands : List Ordered) (notes : List Noted) → CanAllRun sizes commands →
+        ensures { (sizes : Ordered → Sizes) (commands : List Ordered) (notes : List Noted) →
+            CanAllRun sizes commands →
             Mirrors sizes commands notes result (without_finished sizes number commands [] []) }
     {
         Session {
@@ -52,7 +53,8 @@ impl Session {
 
     /// Whether all commands are finished. It takes no memory.
     pub fn is_over(&self, commands: &ItemList<Command>, notes: &History) -> bool
-        ensures { result ≡ is_finished (commands_by commands.now (standing notes.now.notes self.now)) }
+        ensures { result ≡ is_finished
+            (commands_by commands.now (standing notes.now.notes self.now)) }
     {
         self.next_command(commands, notes).is_none()
     }
@@ -64,7 +66,8 @@ impl Session {
         commands: &'a ItemList<Command>,
         notes: &History,
     ) -> Option<&'a Command>
-        ensures { option_copied result ≡ slice_get (commands_by commands.now (standing notes.now.notes self.now)) 0 }
+        ensures { option_copied result
+            ≡ slice_get (commands_by commands.now (standing notes.now.notes self.now)) 0 }
     {
         let finished = self.finished(notes);
         if finished < commands.len() {
@@ -83,11 +86,17 @@ impl Session {
         g: &Geometry,
         notes: &History,
     ) -> Result<Op, AllocError>
-        requires { First (CanRun g.now) (commands_by commands.now (standing notes.now.notes self.old)) }
-        ensures op { IfOk result (λ op. (sizes : Ordered → Sizes) (run : SessionRun) → Mirrors sizes commands.now notes.now.notes self.old run →
-            First (λ c. sizes c ≡ g.now) run.commands → next_op_of sizes run.commands run.replies ≡ Some op) }
-        ensures mirrors { (sizes : Ordered → Sizes) (run : SessionRun) → Mirrors sizes commands.now notes.now.notes self.old run →
-            First (λ c. sizes c ≡ g.now) run.commands → Mirrors sizes commands.now notes.now.notes self.new run }
+        requires { First (CanRun g.now)
+            (commands_by commands.now (standing notes.now.notes self.old)) }
+        ensures op { IfOk result
+            (λ op. (sizes : Ordered → Sizes) (run : SessionRun) →
+            Mirrors sizes commands.now notes.now.notes self.old run →
+            First (λ c. sizes c ≡ g.now) run.commands → next_op_of sizes run.commands run.replies
+            ≡ Some op) }
+        ensures mirrors { (sizes : Ordered → Sizes) (run : SessionRun) →
+            Mirrors sizes commands.now notes.now.notes self.old run →
+            First (λ c. sizes c ≡ g.now) run.commands →
+            Mirrors sizes commands.now notes.now.notes self.new run }
         ensures waits { OnOk result (IsWaiting self.new) }
     {
         if let Some(op) = self.resume(notes)? {
@@ -101,8 +110,10 @@ impl Session {
     /// Tells the session that the reply to its operation is at place `at` of the notes. It takes no
     /// memory.
     pub fn replied(&mut self, at: usize)
-        ensures { (sizes : Ordered → Sizes) (commands : List Ordered) (notes later : List Noted) (run : SessionRun) (session : ℕ) (reply : Replied) →
-            Mirrors sizes commands notes self.old run → IsWaiting self.old → slice_get later at ≡ Some (Answered session reply) →
+        ensures { (sizes : Ordered → Sizes) (commands : List Ordered) (notes later : List Noted)
+            (run : SessionRun) (session : ℕ) (reply : Replied) →
+            Mirrors sizes commands notes self.old run → IsWaiting self.old → slice_get later at
+            ≡ Some (Answered session reply) →
             Mirrors sizes commands later self.new (with_reply sizes reply run) }
     {
         self.last = Some(at);
@@ -164,7 +175,8 @@ impl Session {
     // The outcome of a command that is over is put down, and no tool stands.
     fn put_outcome_down(&mut self) -> Result<(), AllocError>
         requires { IsBetween (standing_alone self.old).script }
-        ensures put_down { OnOk result (standing_alone self.new ≡ put_down (standing_alone self.old)) }
+        ensures put_down { OnOk result
+            (standing_alone self.new ≡ put_down (standing_alone self.old)) }
         ensures no_memory { OnErr result (standing_alone self.new ≡ standing_alone self.old) }
         ensures last { self.new.last ≡ self.old.last }
     {
@@ -179,7 +191,9 @@ impl Session {
     fn begin(&mut self, command: &Command, g: &Geometry) -> Result<Op, AllocError>
         requires { CanRun g.now command.now }
         ensures op { IfOk result (λ op. op_asked (Some (script_of g.now command.now)) ≡ Some op) }
-        ensures begun { OnOk result (standing_alone self.new ≡ begun (script_of g.now command.now) (standing_alone self.old)) }
+        ensures begun { OnOk result
+            (standing_alone self.new
+            ≡ begun (script_of g.now command.now) (standing_alone self.old)) }
         ensures no_memory { OnErr result (standing_alone self.new ≡ standing_alone self.old) }
         ensures last { self.new.last ≡ self.old.last }
     {

@@ -21,7 +21,8 @@ fn sizes() -> Result<Geometry, Fail>
 
 // `isbad` of a block, and then `nanddump` of the first page.
 fn commands(alloc: Global) -> Result<ItemList<Command>, Fail>
-    ensures { IfOk result (λ commands. commands ≡ Command.IsBad 3 16 5 ∷ Command.NandDump 3 16 0 2048 true false BadMode.DumpBad ∷ []) }
+    ensures { IfOk result (λ commands. commands ≡ Command.IsBad 3 16 5
+        ∷ Command.NandDump 3 16 0 2048 true false BadMode.DumpBad ∷ []) }
 {
     let mut commands = ItemList::new(alloc);
     let asking = Command::IsBad {
@@ -44,7 +45,8 @@ fn commands(alloc: Global) -> Result<ItemList<Command>, Fail>
 }
 
 fn answered(notes: &mut History, reply: Reply) -> Result<usize, Fail>
-    ensures { IfOk result (λ place. slice_get notes.new.notes place ≡ Some (Note.Answered 7 reply)) }
+    ensures { IfOk result (λ place. slice_get notes.new.notes place
+        ≡ Some (Note.Answered 7 reply)) }
 {
     let place = notes.len();
     notes.reserve(1)?;

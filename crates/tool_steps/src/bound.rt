@@ -14,7 +14,8 @@ use nand_model::{Command, Geometry, Part};
 /// memory.
 pub fn has_operation(command: &Command) -> bool
     ensures asked { result ≡ asks_something command.now }
-    ensures first { (g : Sizes) → CanRun g command.now → result ≡ not (is_over (next_step g command.now [])) }
+    ensures first { (g : Sizes) → CanRun g command.now → result
+        ≡ not (is_over (next_step g command.now [])) }
 {
     match command {
         Command::NandWrite { bytes, .. } => !bytes.as_slice().is_empty(),

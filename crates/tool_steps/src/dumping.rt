@@ -57,7 +57,8 @@ impl Dumping {
 
     /// Where the command stands once the page's block is known to be good or bad.
     pub fn looked(self, alloc: Global, g: &Geometry, reply: &Reply) -> Result<State, AllocError>
-        ensures { IfOk result (λ state. (unit : List ℕ) → script_left g.now unit state ≡ after_replies (reply.now ∷ []) (work_left g.now unit (Looking self))) }
+        ensures { IfOk result (λ state. (unit : List ℕ) → script_left g.now unit state
+            ≡ after_replies (reply.now ∷ []) (work_left g.now unit (Looking self))) }
     {
         if tells_bad(reply) {
             Ok(State::Over(self.passed(alloc, g)?))

@@ -26,7 +26,8 @@ impl Erasing {
 
     /// Where the command stands after the reply to the block's erase.
     pub fn after(self, reply: &Reply) -> State
-        ensures { (g : Geometry) (unit : List ℕ) → script_left g unit result ≡ after_replies (reply.now ∷ []) (work_left g unit (IsErasing self)) }
+        ensures { (g : Geometry) (unit : List ℕ) → script_left g unit result
+            ≡ after_replies (reply.now ∷ []) (work_left g unit (IsErasing self)) }
     {
         let done = was_done(reply);
         let erased = self.erased + u64::from(done);

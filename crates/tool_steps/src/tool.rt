@@ -48,10 +48,15 @@ impl Tool {
     /// The next step: None is handed over at first, and afterwards the reply to the operation that
     /// was given last. Where memory runs out, the tool is as before.
     pub fn next(&mut self, last: Option<&Reply>) -> Result<Step, AllocError>
-        ensures step { IfOk result (λ step. step ≡ step_of (next_in (after_last (option_copied last.entry) (left_of self.old)))) }
-        ensures goes_on { OnOk result (left_of self.new ≡ after_last (option_copied last.entry) (left_of self.old)) }
-        ensures replies { (g : Sizes) (command : Ordered) (replies : List Replied) → HasHad g command replies (left_of self.old) →
-            OnOk result (HasHad g command (replies ++ handed (option_copied last.entry)) (left_of self.new)) }
+        ensures step { IfOk result
+            (λ step. step
+            ≡ step_of (next_in (after_last (option_copied last.entry) (left_of self.old)))) }
+        ensures goes_on { OnOk result
+            (left_of self.new ≡ after_last (option_copied last.entry) (left_of self.old)) }
+        ensures replies { (g : Sizes) (command : Ordered) (replies : List Replied) →
+            HasHad g command replies (left_of self.old) →
+            OnOk result (HasHad g command (replies ++ handed (option_copied last.entry))
+            (left_of self.new)) }
         ensures no_memory { OnErr result (self.new ≡ self.old) }
     {
         self.resume(last)
@@ -59,8 +64,11 @@ impl Tool {
 
     // The next step, said of the script that is left.
     fn resume(&mut self, last: Option<&Reply>) -> Result<Step, AllocError>
-        ensures step { IfOk result (λ step. step ≡ step_of (next_in (after_last (option_copied last.entry) (left_of self.old)))) }
-        ensures goes_on { OnOk result (left_of self.new ≡ after_last (option_copied last.entry) (left_of self.old)) }
+        ensures step { IfOk result
+            (λ step. step
+            ≡ step_of (next_in (after_last (option_copied last.entry) (left_of self.old)))) }
+        ensures goes_on { OnOk result
+            (left_of self.new ≡ after_last (option_copied last.entry) (left_of self.old)) }
         ensures no_memory { OnErr result (self.new ≡ self.old) }
     {
         if let State::At(work) = &self.state {
@@ -81,7 +89,8 @@ impl Tool {
 
     /// Whether `next` with this argument answers `Done`. It takes no memory.
     pub fn ends(&self, last: Option<&Reply>) -> bool
-        ensures { result ≡ is_over (next_in (after_last (option_copied last.entry) (left_of self.now))) }
+        ensures { result ≡ is_over
+            (next_in (after_last (option_copied last.entry) (left_of self.now))) }
     {
         match (&self.state, last) {
             (State::Over(_), _) => true,
@@ -116,7 +125,8 @@ impl Tool {
 
 // The step of a command that stands here.
 fn step_at(alloc: Global, g: &Geometry, unit: &[u8], state: &State) -> Result<Step, AllocError>
-    ensures { IfOk result (λ step. step ≡ step_of (next_in (script_left g.now unit.now state.now))) }
+    ensures { IfOk result (λ step. step
+        ≡ step_of (next_in (script_left g.now unit.now state.now))) }
 {
     match state {
         State::At(work) => Ok(Step::Do(work.op(alloc, g, unit)?)),
@@ -127,7 +137,8 @@ fn step_at(alloc: Global, g: &Geometry, unit: &[u8], state: &State) -> Result<St
 // Where a command begins.
 fn first_state(command: &Command, g: &Geometry) -> State
     requires { CanRun g.now command.now }
-    ensures { script_left g.now (unit_bytes g.now command.now) result ≡ script_of g.now command.now }
+    ensures { script_left g.now (unit_bytes g.now command.now) result
+        ≡ script_of g.now command.now }
 {
     match command {
         Command::FlashErase { dev, blocks, .. } => State::At(Work::Erasing(Erasing {

@@ -73,7 +73,8 @@ impl Work {
 
     /// Where the command stands after the reply.
     pub fn after(&self, alloc: Global, g: &Geometry, reply: &Reply) -> Result<State, AllocError>
-        ensures { IfOk result (λ state. (unit : List ℕ) → script_left g.now unit state ≡ after_replies (reply.now ∷ []) (work_left g.now unit self.now)) }
+        ensures { IfOk result (λ state. (unit : List ℕ) → script_left g.now unit state
+            ≡ after_replies (reply.now ∷ []) (work_left g.now unit self.now)) }
     {
         match self {
             Work::Erasing(erasing) => Ok(erasing.after(reply)),
@@ -91,7 +92,8 @@ impl Work {
 
     /// Whether the command is over after the reply.
     pub fn ends_at(&self, reply: &Reply) -> bool
-        ensures { (g : Sizes) (unit : List ℕ) → result ≡ is_over (next_in (after_replies (reply.now ∷ []) (work_left g unit self.now))) }
+        ensures { (g : Sizes) (unit : List ℕ) → result
+            ≡ is_over (next_in (after_replies (reply.now ∷ []) (work_left g unit self.now))) }
     {
         match self {
             Work::Erasing(erasing) => erasing.after(reply).is_over(),
@@ -112,7 +114,8 @@ impl State {
 
     /// Whether the command is over.
     pub fn is_over(&self) -> bool
-        ensures { (g : Sizes) (unit : List ℕ) → result ≡ is_over (next_in (script_left g unit self.now)) }
+        ensures { (g : Sizes) (unit : List ℕ) → result
+            ≡ is_over (next_in (script_left g unit self.now)) }
     {
         matches!(self, State::Over(_))
     }

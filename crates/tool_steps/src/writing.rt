@@ -31,7 +31,9 @@ impl Writing {
     /// The program of the unit into the first page of the block, its spare or its free bytes being
     /// 0xFF.
     pub fn program(self, alloc: Global, g: &Geometry, unit: &[u8]) -> Result<Op, AllocError>
-        ensures { IfOk result (λ op. op ≡ write_unit g.now (write_mode self.dev self.raw) (self.block * g.now.pages_per_block) unit.now) }
+        ensures { IfOk result (λ op. op
+            ≡ write_unit g.now (write_mode self.dev self.raw)
+            (self.block * g.now.pages_per_block) unit.now) }
     {
         let dev = self.dev;
         let page = self.block * g.pages_per_block;
@@ -51,7 +53,8 @@ impl Writing {
 
     /// Where the command stands once the block is known to be good or bad.
     pub fn scanned(self, reply: &Reply) -> State
-        ensures { (g : Sizes) (unit : List ℕ) → script_left g unit result ≡ after_replies (reply.now ∷ []) (work_left g unit (Scanning self)) }
+        ensures { (g : Sizes) (unit : List ℕ) → script_left g unit result
+            ≡ after_replies (reply.now ∷ []) (work_left g unit (Scanning self)) }
     {
         if tells_bad(reply) {
             self.next_block(self.skipped + 1, self.failed)
@@ -62,7 +65,8 @@ impl Writing {
 
     /// Where the command stands after the reply to the unit's program.
     pub fn programmed(self, reply: &Reply) -> State
-        ensures { (g : Sizes) (unit : List ℕ) → script_left g unit result ≡ after_replies (reply.now ∷ []) (work_left g unit (Programming self)) }
+        ensures { (g : Sizes) (unit : List ℕ) → script_left g unit result
+            ≡ after_replies (reply.now ∷ []) (work_left g unit (Programming self)) }
     {
         match reply {
             Reply::ProgramFailed => State::At(Work::Clearing(self)),
@@ -74,7 +78,8 @@ impl Writing {
 
     /// Where the command stands once a block whose program failed was erased, whatever came of it.
     pub fn cleared(self, reply: &Reply) -> State
-        ensures { (g : Sizes) (unit : List ℕ) → script_left g unit result ≡ after_replies (reply.now ∷ []) (work_left g unit (Clearing self)) }
+        ensures { (g : Sizes) (unit : List ℕ) → script_left g unit result
+            ≡ after_replies (reply.now ∷ []) (work_left g unit (Clearing self)) }
     {
         let _ = reply;
         self.next_block(self.skipped, self.failed + 1)
@@ -84,7 +89,9 @@ impl Writing {
     fn next_block(self, skipped: u64, failed: u64) -> State
         requires skipped_before { skipped ≤ self.block + 1 }
         requires failed_before { failed ≤ self.block + 1 }
-        ensures { (g : Sizes) (unit : List ℕ) → script_left g unit result ≡ later_blocks g (write_mode self.dev self.raw) unit self.block self.rest skipped failed }
+        ensures { (g : Sizes) (unit : List ℕ) → script_left g unit result
+            ≡ later_blocks g
+            (write_mode self.dev self.raw) unit self.block self.rest skipped failed }
     {
         if self.rest == 0 {
             return State::Over(Outcome::NandWrite {

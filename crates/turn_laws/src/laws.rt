@@ -10,10 +10,14 @@ ghost use Rattle.turn_laws.specs.Laws.{BusyTurnsAreFew, EventsAreTurns, Attaches
 /// few of them do anything, and each does at most one event. An attach has at most an event for
 /// each block and sixteen more.
 pub fn courses_end<W>()
-    ensures turns { (model : FaultModel W) (boot : Boot) (starts : List (ChipState W)) (attaches : ℕ) (turns : List ℕ) →
-        CanRunBoot boot starts → HaveOneNumberEach boot.sessions → BusyTurnsAreFew model boot starts attaches turns }
-    ensures events { (model : FaultModel W) (boot : Boot) (starts : List (ChipState W)) (attaches : ℕ) (turns : List ℕ) →
+    ensures turns { (model : FaultModel W) (boot : Boot) (starts : List (ChipState W))
+        (attaches : ℕ) (turns : List ℕ) →
+        CanRunBoot boot starts → HaveOneNumberEach boot.sessions →
+        BusyTurnsAreFew model boot starts attaches turns }
+    ensures events { (model : FaultModel W) (boot : Boot) (starts : List (ChipState W))
+        (attaches : ℕ) (turns : List ℕ) →
         EventsAreTurns model boot starts attaches turns }
-    ensures attaches { (model : FaultModel W) (boot : Boot) (starts : List (ChipState W)) (attaches : ℕ) →
+    ensures attaches { (model : FaultModel W) (boot : Boot) (starts : List (ChipState W))
+        (attaches : ℕ) →
         AttachesAreShort model boot starts attaches }
 {}
