@@ -5,8 +5,8 @@ use Rattle.bch_decode.specs.declared.decoder.Decoded.{Decoded}
 use Rattle.bch_decode.specs.declared.decoder.Decoded.TheVariants.{Corrected, Failed}
 
 -- the word of a step of 512 bytes and its parity: all bits of the step and then 13 t bits of parity
-abbrev pub step_word : ℕ → List ℕ → List ℕ → List ℕ
-step_word t step parity = bits_of step ++ take (13 * t) (bits_of parity)
+abbrev pub step_and_parity : ℕ → List ℕ → List ℕ → List ℕ
+step_and_parity t step parity = bits_of step ++ take (13 * t) (bits_of parity)
 
 -- an answer beside the word that the decoder left: the nearest code word and its distance, or
 -- nothing

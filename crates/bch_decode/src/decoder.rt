@@ -2,7 +2,7 @@
 ghost use Rattle.std.specs.Prelude.{◌≡◌, ◌<◌, ◌≤◌, ◌+◌, ◌*◌, ◌/◌, ◌++◌, ℕ, List, length, take};
 ghost use Rattle.code_model.specs.Bits.{bit_of};
 ghost use Rattle.code_model.specs.Code.{code_512, IsNearest, Decodes};
-ghost use Rattle.bch_decode.specs.Answers.{answer_of, step_word};
+ghost use Rattle.bch_decode.specs.Answers.{answer_of, step_and_parity};
 
 use bch_solver::decode_word;
 use gf2_poly::generator;
@@ -46,11 +46,11 @@ fn part(word: &[u8], step: &mut [u8; 512], parity: &mut [u8])
 pub fn decode(t: u32, step: &mut [u8; 512], parity: &mut [u8]) -> Decoded
     requires strength { (0 < t) × (t ≤ 16) }
     requires room { length parity.old ≡ (13 * t + 7) / 8 }
-    ensures decodes { Decodes (code_512 t) (step_word t step.old parity.old)
-        (answer_of result (step_word t step.new parity.new)) }
+    ensures decodes { Decodes (code_512 t) (step_and_parity t step.old parity.old)
+        (answer_of result (step_and_parity t step.new parity.new)) }
     ensures finds { (c : List ℕ) (n : ℕ) →
-        IsNearest (code_512 t) (step_word t step.old parity.old) c n
-        → (result ≡ Decoded.Corrected n) × (step_word t step.new parity.new ≡ c) }
+        IsNearest (code_512 t) (step_and_parity t step.old parity.old) c n
+        → (result ≡ Decoded.Corrected n) × (step_and_parity t step.new parity.new ≡ c) }
     ensures padding { (k : ℕ) → 13 * t ≤ k → bit_of parity.new k ≡ bit_of parity.old k }
     ensures unchanged { result ≡ Decoded.Failed → (step.new ≡ step.old)
         × (parity.new ≡ parity.old) }

@@ -5,7 +5,7 @@ ghost use Rattle.code_model.specs.Bits.{bits_of, bytes_of};
 ghost use Rattle.code_model.specs.Code.{code_512, parity_number};
 ghost use Rattle.code_model.specs.Generator.{generator_of};
 ghost use Rattle.code_model.specs.Word.{number_from};
-ghost use Rattle.bch_decode.specs.Answers.{step_word};
+ghost use Rattle.bch_decode.specs.Answers.{step_and_parity};
 ghost use Rattle.bch_tables.specs.Rows.{aligned, AreRows, AreWideRows};
 
 use bch_register::number_of;
@@ -150,7 +150,7 @@ pub(crate) fn remainder_quick(t: u32, step: &[u8; 512], parity: &[u8]) -> U256
     requires strength { (0 < t) × (t ≤ 16) }
     requires room { length parity.now ≡ (13 * t + 7) / 8 }
     ensures value { result ≡ remainder (13 * t) (generator_of 13 0x201b t)
-        (number_from 0 (step_word t step.now parity.now)) }
+        (number_from 0 (step_and_parity t step.now parity.now)) }
     ensures small { result < 2 ^ (13 * t) }
 {
     let padding = 8 * parity.len() as u32 - 13 * t;

@@ -3,7 +3,7 @@
 ghost use Rattle.std.specs.Prelude.{◌≡◌, ◌<◌, ◌≤◌, ◌+◌, ◌*◌, ◌/◌, ◌++◌, ℕ, List, length, take, IsTrue};
 ghost use Rattle.code_model.specs.Bits.{bit_of};
 ghost use Rattle.code_model.specs.Code.{code_512, IsNearest, NoneNear, Decodes};
-ghost use Rattle.bch_decode.specs.Answers.{answer_of, step_word};
+ghost use Rattle.bch_decode.specs.Answers.{answer_of, step_and_parity};
 
 use crate::copies::{joined, part};
 use crate::register::remainder_quick;
@@ -16,11 +16,11 @@ use gf13_tables::TableField13;
 fn decode_searched(t: u32, step: &mut [u8; 512], parity: &mut [u8]) -> Decoded
     requires strength { (0 < t) × (t ≤ 16) }
     requires room { length parity.old ≡ (13 * t + 7) / 8 }
-    ensures decodes { Decodes (code_512 t) (step_word t step.old parity.old)
-        (answer_of result (step_word t step.new parity.new)) }
+    ensures decodes { Decodes (code_512 t) (step_and_parity t step.old parity.old)
+        (answer_of result (step_and_parity t step.new parity.new)) }
     ensures finds { (c : List ℕ) (n : ℕ)
-        → IsNearest (code_512 t) (step_word t step.old parity.old) c n
-        → (result ≡ Decoded.Corrected n) × (step_word t step.new parity.new ≡ c) }
+        → IsNearest (code_512 t) (step_and_parity t step.old parity.old) c n
+        → (result ≡ Decoded.Corrected n) × (step_and_parity t step.new parity.new ≡ c) }
     ensures padding { (k : ℕ) → 13 * t ≤ k → bit_of parity.new k ≡ bit_of parity.old k }
     ensures unchanged { result ≡ Decoded.Failed
         → (step.new ≡ step.old) × (parity.new ≡ parity.old) }
@@ -41,7 +41,7 @@ fn decode_searched(t: u32, step: &mut [u8; 512], parity: &mut [u8]) -> Decoded
 fn is_word_far(t: u32, step: &[u8; 512], parity: &[u8], degree: u32) -> bool
     requires strength { (0 < t) × (t ≤ 16) }
     requires room { length parity.now ≡ (13 * t + 7) / 8 }
-    ensures { IsTrue result → NoneNear (code_512 t) (step_word t step.now parity.now) }
+    ensures { IsTrue result → NoneNear (code_512 t) (step_and_parity t step.now parity.now) }
 {
     let count = 4096 + 13 * t as usize;
     is_far::<TableField13>(t, remainder_quick(t, step, parity), count, degree)
@@ -57,11 +57,11 @@ pub(crate) fn decode_unguessed(
 ) -> Decoded
     requires strength { (0 < t) × (t ≤ 16) }
     requires room { length parity.old ≡ (13 * t + 7) / 8 }
-    ensures decodes { Decodes (code_512 t) (step_word t step.old parity.old)
-        (answer_of result (step_word t step.new parity.new)) }
+    ensures decodes { Decodes (code_512 t) (step_and_parity t step.old parity.old)
+        (answer_of result (step_and_parity t step.new parity.new)) }
     ensures finds { (c : List ℕ) (n : ℕ)
-        → IsNearest (code_512 t) (step_word t step.old parity.old) c n
-        → (result ≡ Decoded.Corrected n) × (step_word t step.new parity.new ≡ c) }
+        → IsNearest (code_512 t) (step_and_parity t step.old parity.old) c n
+        → (result ≡ Decoded.Corrected n) × (step_and_parity t step.new parity.new ≡ c) }
     ensures padding { (k : ℕ) → 13 * t ≤ k → bit_of parity.new k ≡ bit_of parity.old k }
     ensures unchanged { result ≡ Decoded.Failed
         → (step.new ≡ step.old) × (parity.new ≡ parity.old) }

@@ -10,7 +10,7 @@ use Rattle.code_model.proofs.KeyEquation.{Has}
 use Rattle.code_model.proofs.ValueLemmas.{places}
 use Rattle.code_model.proofs.FieldLemmas.{powers_differ, power-lt}
 use Rattle.code_model.specs.Bits.{bit_of, bits_from}
-use Rattle.bch_solver.specs.Words.{Turned}
+use Rattle.bch_solver.specs.Words.{TurnsAtZero}
 use Rattle.bch_solver.proofs.RowLemmas.{one_below}
 use Rattle.code_model.specs.Binary.{IsPrimitive}
 use Rattle.code_model.proofs.Instances.{domain_from_primitive}
@@ -116,7 +116,7 @@ module _ (m f : ℕ) (p : IsPrimitive m f) where
   -- it
   pub corrected_is : (v : ℕ → ℕ) (xs ys c : List ℕ) (n : ℕ) → n ≤ 2 ^ m - 1 → length c ≡ n → AreBits c
       → ZeroAt v (differences (bits_from xs 0 n) c) → ((y : ℕ) → y < 2 ^ m → v y ≡ 0 → InPlaces y (differences (bits_from xs 0 n) c))
-      → ((k : ℕ) → k < n → Turned (v (α (n - suc k))) (bit_of xs k) (bit_of ys k)) → bits_from ys 0 n ≡ c
+      → ((k : ℕ) → k < n → TurnsAtZero (v (α (n - suc k))) (bit_of xs k) (bit_of ys k)) → bits_from ys 0 n ≡ c
   corrected_is v xs ys c n room len bits zeros only turned =
       same_number_lists (bits_from ys 0 n) c (length-bits_from ys 0 n ∙ sym len) (λ k h. at k (subst (λ (i : ℕ). k < i) (length-bits_from ys 0 n) h))
     where

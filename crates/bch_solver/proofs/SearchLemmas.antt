@@ -2,14 +2,14 @@ use Rattle.std.proofs.Common.{◌≡◌, ◌≢◌, ℕ, suc, ◌+◌, ◌-◌, 
 use Rattle.std.proofs.lemmas.Bool.{cases_eq}
 use Rattle.code_model.specs.Word.{distance}
 use Rattle.code_model.specs.Bits.{bit_of, bits_from}
-use Rattle.bch_solver.specs.Words.{Turned}
+use Rattle.bch_solver.specs.Words.{TurnsAtZero}
 use Rattle.bch_solver.proofs.DistanceLemmas.{distance_none, distance_kept, distance_more}
 
 -- the loop's facts on bits, at bytes ys, once k degrees are done
 pub record Done (v : ℕ → ℕ) (n k c : ℕ) (xs ys : List ℕ) : Type 0 where
   pub before : (j : ℕ) → j + k < n → bit_of ys j ≡ bit_of xs j
   pub after : (j : ℕ) → n ≤ j → bit_of ys j ≡ bit_of xs j
-  pub turned : (j : ℕ) → j < n → n ≤ j + k → Turned (v (n - suc j)) (bit_of xs j) (bit_of ys j)
+  pub turned : (j : ℕ) → j < n → n ≤ j + k → TurnsAtZero (v (n - suc j)) (bit_of xs j) (bit_of ys j)
   pub number : c ≡ distance (bits_from xs (n - k) k) (bits_from ys (n - k) k)
 
 pub done_none : (v : ℕ → ℕ) (n : ℕ) (xs : List ℕ) → Done v n 0 0 xs xs
@@ -28,8 +28,8 @@ done_more v n k c c' xs zs ys h d others here = record {
   before = λ j g. others j (omega arith) ∙ d.before j (omega arith);
   after = λ j g. others j (omega arith) ∙ d.after j g;
   turned = λ j g f. elim (cases_eq j (n - 1 - k)) [
-    | inl e ↦ subst (λ (i : ℕ). Turned (v (n - suc i)) (bit_of xs i) (bit_of ys i)) (sym e) turned_here
-    | inr ne ↦ subst (λ (b : ℕ). Turned (v (n - suc j)) (bit_of xs j) b) (sym (others j ne)) (d.turned j g (omega arith))
+    | inl e ↦ subst (λ (i : ℕ). TurnsAtZero (v (n - suc i)) (bit_of xs i) (bit_of ys i)) (sym e) turned_here
+    | inr ne ↦ subst (λ (b : ℕ). TurnsAtZero (v (n - suc j)) (bit_of xs j) b) (sym (others j ne)) (d.turned j g (omega arith))
   ];
   number = elim here [
     | inl z ↦ z.2 ∙ distance_more xs ys zs p (n - k) k c next d.number same (λ q. changed (old ∙ q ∙ z.1)) ∙ length_is
@@ -61,7 +61,7 @@ done_more v n k c c' xs zs ys h d others here = record {
     changed : bit_of zs (n - 1 - k) ≡ 1 - bit_of zs (n - 1 - k) → ⊥
     changed q = (let b : bit_of zs (n - 1 - k) < 2 = omega arith in omega arith)
 
-    turned_here : Turned (v (n - suc (n - 1 - k))) (bit_of xs (n - 1 - k)) (bit_of ys (n - 1 - k))
+    turned_here : TurnsAtZero (v (n - suc (n - 1 - k))) (bit_of xs (n - 1 - k)) (bit_of ys (n - 1 - k))
     turned_here = elim here [
       | inl z ↦ record {
         at_zero = λ _. z.1 ∙ ap (λ b. 1 - b) old;

@@ -4,7 +4,7 @@ ghost use Rattle.code_model.specs.Binary.{times, power};
 ghost use Rattle.code_model.specs.Bits.{bit_of, bits_from};
 ghost use Rattle.code_model.specs.Poly.{value};
 ghost use Rattle.code_model.specs.Word.{distance};
-ghost use Rattle.bch_solver.specs.Words.{Turned};
+ghost use Rattle.bch_solver.specs.Words.{TurnsAtZero};
 ghost use Rattle.bch_solver.specs.Rows.{AllBelow, polynomial_of};
 
 use crate::locator::Locator;
@@ -42,7 +42,7 @@ pub fn correct<F: FieldProducts>(bytes: &mut [u8], count: usize, locator: &Locat
     requires below_order { count < 2 ^ F.DEGREE }
     requires small_degree { locator.now.degree < 17 }
     requires small_locator { AllBelow (2 ^ F.DEGREE) locator.now.coefficients }
-    ensures turned { (k : ℕ) → k < count → Turned
+    ensures turned { (k : ℕ) → k < count → TurnsAtZero
         (value (times F.DEGREE F.MODULUS)
         (polynomial_of locator.now.coefficients locator.now.degree)
         (power F.DEGREE F.MODULUS 2 (count - suc k)))

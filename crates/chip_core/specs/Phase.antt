@@ -91,6 +91,7 @@ seen_marker quiet (Working task) = Working task
 abbrev pub pending_note_of : Finding → Bool × Attaching
 pending_note_of finding = (finding.quiet, attached_by_markers finding.states)
 
+-- the same of a chip in this phase; one that still attaches has none
 abbrev pub pending_note_in : Phase → Option Finding → Option (Bool × Attaching)
 pending_note_in (IsAttaching scan) finding = None
 pending_note_in Resting finding = option_map pending_note_of finding

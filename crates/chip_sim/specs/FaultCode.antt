@@ -15,12 +15,14 @@ use Rattle.nand_model.specs.declared.words.WeakKind.TheVariants.{Program, Erase}
 abbrev TearCases : Type 0
 TearCases = Unit {0} ⊎ (Unit {0} ⊎ (ℕ ⊎ List (ℕ × ℕ)))
 
+-- the case of a tear
 abbrev tear_cases : Tear → TearCases
 tear_cases Nothing = inl tt
 tear_cases Everything = inr (inl tt)
 tear_cases (Seed n) = inr (inr (inl n))
 tear_cases (Spans spans) = inr (inr (inr spans))
 
+-- the tear of a case
 abbrev tear_of_cases : TearCases → Tear
 tear_of_cases (inl _) = Nothing
 tear_of_cases (inr (inl _)) = Everything
@@ -33,14 +35,17 @@ tear_back Everything = refl
 tear_back (Seed n) = refl
 tear_back (Spans spans) = refl
 
+-- a code of tears
 abbrev coded_tear : Coded Tear
 coded_tear =
     code_by TearCases (coded⊎ coded_unit (coded⊎ coded_unit (coded⊎ coded_ℕ (coded_list (coded× coded_ℕ coded_ℕ))))) tear_cases tear_of_cases tear_back
 
+-- a weak place of programs
 abbrev is_program : WeakKind → Bool
 is_program Program = true
 is_program Erase = false
 
+-- the kind of a weak place by this test
 abbrev kind_of : Bool → WeakKind
 kind_of true = Program
 kind_of false = Erase
@@ -49,9 +54,11 @@ pub kind_back : (kind : WeakKind) → kind_of (is_program kind) ≡ kind
 kind_back Program = refl
 kind_back Erase = refl
 
+-- a code of kinds of weak places
 abbrev coded_kind : Coded WeakKind
 coded_kind = code_by Bool coded_bool is_program kind_of kind_back
 
+-- a code of weak places
 abbrev coded_weak : Coded Weak
 coded_weak =
     code_by (WeakKind × (ℕ × (ℕ × Tear))) (coded× coded_kind (coded× coded_ℕ (coded× coded_ℕ coded_tear))) (λ w. (w.kind, (w.at, (w.after, w.tear))))

@@ -21,10 +21,11 @@ with_failure s failure =
 abbrev pub failing_state : FailingFlash → ChipState ℕ
 failing_state flash = with_failure (sim_state flash.chip) flash.failure
 
--- its room, and its room for bits
+-- its room for pages
 abbrev pub failing_room : FailingFlash → ℕ
 failing_room flash = sim_room flash.chip
 
+-- its room for bits
 abbrev pub failing_bit_room : FailingFlash → ℕ
 failing_bit_room flash = sim_bit_room flash.chip
 

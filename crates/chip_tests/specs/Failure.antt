@@ -10,10 +10,12 @@ abbrev pub fails_at : ℕ → Call → Option DoneBits
 fails_at left (ProgramCall page) = if left == 1 then Some (λ q i. 0xff) else None
 fails_at left (EraseCall block) = None
 
+-- a program comes nearer to the one that fails
 abbrev pub left_after : ℕ → Call → ℕ
 left_after left (ProgramCall page) = left - 1
 left_after left (EraseCall block) = left
 
+-- one program fails, and nothing else
 abbrev pub one_failure : FaultModel ℕ
 one_failure = record { fails = fails_at; after_call = left_after }
 

@@ -14,9 +14,17 @@ unfoldable pub bits_of : List ℕ → List ℕ
 bits_of [] = []
 bits_of (byte ∷ bytes) = byte_bits byte ++ bits_of bytes
 
+-- the byte in which bit k stands
+abbrev pub byte_with_bit : ℕ → ℕ
+byte_with_bit k = k / 8
+
+-- the value that bit k has in its byte
+abbrev pub value_of_bit : ℕ → ℕ
+value_of_bit k = 2 ^ (7 - k % 8)
+
 -- bit k of bytes
 abbrev pub bit_of : List ℕ → ℕ → ℕ
-bit_of bytes k = slice_index bytes (k / 8) / 2 ^ (7 - k % 8) % 2
+bit_of bytes k = slice_index bytes (byte_with_bit k) / value_of_bit k % 2
 
 -- n bits of bytes, from the k-th on
 unfoldable pub bits_from : List ℕ → ℕ → ℕ → List ℕ

@@ -9,6 +9,7 @@ unfoldable pub number_from : ℕ → List ℕ → ℕ
 number_from a [] = a
 number_from a (b ∷ bs) = number_from (2 * a + b) bs
 
+-- each is 0 or 1
 abbrev pub AreBits : List ℕ → Type 0
 AreBits bs = Every (λ b. b < 2) bs
 
@@ -22,5 +23,6 @@ differences [] ys = []
 differences (x ∷ xs) [] = []
 differences (x ∷ xs) (y ∷ ys) = let rest = differences xs ys in cond (nat_eq x y) rest (length xs ∷ rest)
 
+-- at how many degrees two words of one length differ
 abbrev pub distance : List ℕ → List ℕ → ℕ
 distance xs ys = length (differences xs ys)

@@ -26,7 +26,7 @@ use Rattle.command_model.specs.Runnable.{CanRun}
 use Rattle.tool_steps.proofs.Scripts.{asks_first}
 use Rattle.session_steps.specs.declared.session.Session.{Session}
 use Rattle.session_steps.specs.Standing.{standing}
-use Rattle.session_steps.specs.Mirrors.{GoesOn, Mirrors}
+use Rattle.session_steps.specs.Mirrors.{IsUnderWay, Mirrors}
 use Rattle.session_steps.proofs.Scripts.{an_op}
 use Rattle.run_model.specs.Start.{CanStart, IsOnChip, IsOfDevice}
 
@@ -116,7 +116,7 @@ drop_all P n xs all k d h =
 
 -- commands that are not over ask for an operation
 asks : (sizes : Command → Geometry) (command : Command) (rest : List Command) (replies : List Reply) (script : Option Script) → CanRun (sizes command) command
-    → GoesOn sizes (command ∷ rest) replies script
+    → IsUnderWay sizes (command ∷ rest) replies script
     → (op : Op) × (next_op_of sizes (command ∷ rest) replies ≡ Some op)
 asks sizes command rest replies None can goes =
     let n = an_op (next_step (sizes command) command []) (asks_first (sizes command) command can) in
@@ -131,6 +131,6 @@ pub next_of : (sizes : Command → Geometry) (commands : List Command) (notes : 
     → (command : Command) (rest : List Command) → run.commands ≡ command ∷ rest → CanRun (sizes command) command
     → (op : Op) × (next_op_of sizes run.commands run.replies ≡ Some op)
 next_of sizes commands notes s run m command rest h can =
-    let a = asks sizes command rest run.replies (standing notes s).script can (subst (λ cs. GoesOn sizes cs run.replies (standing notes s).script) h
+    let a = asks sizes command rest run.replies (standing notes s).script can (subst (λ cs. IsUnderWay sizes cs run.replies (standing notes s).script) h
     m.shows.goes_on) in
     (a.0, ap (λ cs. next_op_of sizes cs run.replies) h ∙ a.1)

@@ -20,7 +20,7 @@ use Rattle.session_steps.specs.Mirrors.{Mirrors}
 use Rattle.ctl_core.specs.declared.board.Board.{Board}
 use Rattle.ctl_core.specs.SlotState.{SlotState, slot_first, slots_as, first_attaching}
 use Rattle.ctl_core.specs.Past.{Past, at_start, course_of}
-use Rattle.ctl_core.specs.Sessions.{AreFresh, AreAllDone}
+use Rattle.ctl_core.specs.Sessions.{HaveNotBegun, AreAllDone}
 use Rattle.run_model.specs.Start.{CanStart}
 use Rattle.ctl_core.specs.Board.{slot_state, slot_states, IsOnCourse}
 use Rattle.ctl_core.proofs.Positions.{mapped_at, mapped_length}
@@ -168,7 +168,7 @@ slots_at_start partitions (s ∷ starts) = ap (λ zs. slot_first s ∷ zs) (slot
 
 -- a controller at its start
 pub start_on : {F C : Type 0} {flash : Ghosts F} (boot : Boot) (flashes : List F) (board : Board F C flash) → CanStart boot (map flash.state flashes)
-    → map slot_state board.slots.items ≡ map slot_first (map flash.state flashes) → AreFresh boot.sessions board.sessions.items → board.events ≡ 0
+    → map slot_state board.slots.items ≡ map slot_first (map flash.state flashes) → HaveNotBegun boot.sessions board.sessions.items → board.events ≡ 0
     → board.notes.notes ≡ []
     → IsOnCourse (at_start boot flashes) board
 start_on {F} {C} {flash} boot flashes board start slots fresh events notes = record {

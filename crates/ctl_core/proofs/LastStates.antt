@@ -1,5 +1,5 @@
 -- What is left of a course that is over, by what its controller keeps.
-use Rattle.std.proofs.Common.{◌≡◌, ◌<◌, ◌≤◌, ◌+◌, arith, ℕ, zero, suc, Bool, true, false, ◌&&◌, ◌||◌, List, [], ◌∷◌, ◌++◌, length, map, take, Option, Some, None, refl, ap, sym, ◌∙◌, get_or, add-one, cond}
+use Rattle.std.proofs.Common.{◌≡◌, ◌<◌, ◌≤◌, ◌+◌, arith, ℕ, zero, suc, Bool, true, false, not, ◌&&◌, ◌||◌, List, [], ◌∷◌, ◌++◌, length, map, take, Option, Some, None, refl, ap, sym, ◌∙◌, get_or, add-one, cond}
 use Rattle.std.specs.Prelude.{slice_get, find, option_map, ◌==◌, All, sum_by, is_some}
 use Rattle.std.specs.List.{list_all}
 use Rattle.std.proofs.lemmas.Bool.{and_parts}
@@ -124,9 +124,20 @@ module _ {F C : Type 0} {flash : Ghosts F} (past : Past F) (board : Board F C fl
   pub last_states : map slot_flash (slot_states board) ≡ end_states (course_of flash.fault_model flash.state past)
   last_states = ap (map slot_flash) on.stands.keeps.of_chips ∙ states_kept past.boot.partitions (course_of flash.fault_model flash.state past).chips
 
-  pub last_outcomes : map (λ (s : Session). end_of false (standing board.notes.notes s)) board.sessions.items
+  -- where all is over, each session is finished
+  each_finished : is_over (course_of flash.fault_model flash.state past) ≡ true → (i : ℕ) (run : SessionRun)
+      → slice_get (course_of flash.fault_model flash.state past).sessions i ≡ Some run
+      → is_finished run.commands ≡ true
+  each_finished over i run there =
+      true_at (λ (s : SessionRun). is_finished s.commands) (course_of flash.fault_model flash.state past).sessions i run
+      (over_parts (course_of flash.fault_model flash.state past).dark (list_all (λ (d : ChipRun flash.FaultState). is_some d.known)
+      (course_of flash.fault_model flash.state past).chips)
+      (list_all (λ (s : SessionRun). is_finished s.commands) (course_of flash.fault_model flash.state past).sessions) on.stands.keeps.lit over).1 there
+
+  pub last_outcomes : is_over (course_of flash.fault_model flash.state past) ≡ true
+      → map (λ (s : Session). end_of false (standing board.notes.notes s)) board.sessions.items
       ≡ map end_of_run (course_of flash.fault_model flash.state past).sessions
-  last_outcomes = same_mapped (λ (s : Session). end_of false (standing board.notes.notes s)) end_of_run board.sessions.items
+  last_outcomes over = same_mapped (λ (s : Session). end_of false (standing board.notes.notes s)) end_of_run board.sessions.items
       (course_of flash.fault_model flash.state past).sessions
       (on.stands.mirrors.many ∙ sym on.stands.mirrors.runs_many) same_end
     where
@@ -137,7 +148,7 @@ module _ {F C : Type 0} {flash : Ghosts F} (past : Past F) (board : Board F C fl
           let within = slice_get_within board.sessions.items i s at in
           let b = item_at past.boot.sessions i (omega (arith, within, on.stands.mirrors.many)) in
           let m = (on.stands.mirrors.each i b.0 s run b.1 at there).1 in
-          λ d. record { session = sym m.shows.number d; cut = false; outcomes = sym m.shows.outcomes d }
+          λ d. record { session = sym m.shows.number d; cut = not (sym (each_finished over i run there) d); outcomes = sym m.shows.outcomes d }
 
   pub last_statistics : slot_statistics past.boot.partitions (slot_states board) (device_numbers past.boot.partitions)
       ≡ device_statistics past.boot.partitions (course_of flash.fault_model flash.state past)

@@ -34,7 +34,7 @@ use Rattle.ctl_core.specs.declared.board.Board.{Board}
 use Rattle.ctl_core.specs.declared.board.Slot.{Slot}
 use Rattle.ctl_core.specs.SlotState.{SlotState, slot_as, first_attaching, first_held_by, is_held_by, after_event, with_note_written, failure_notes, pending_notes}
 use Rattle.ctl_core.specs.Past.{Past, starts_of, sizes_in, course_of, next_course, is_done, has_no_command, session_of, session_on, session_at}
-use Rattle.ctl_core.specs.Answer.{next_chip, held_unless_pending, held_by, held_or_did, done_or, turn_answer}
+use Rattle.ctl_core.specs.Answer.{next_chip, held_unless_pending, held_by, held_or_did, done_if, turn_answer}
 use Rattle.ctl_core.specs.Board.{slot_state, slot_states, StandsAt, StandsAlike, IsOnCourse, IsAtTurn, DidEvent}
 use Rattle.ctl_core.specs.Flips.{CanFlip, slot_flips_before}
 use Rattle.ctl_core.proofs.Places.{item_at}
@@ -301,7 +301,7 @@ module _ {F C : Type 0} {flash : Ghosts F} (past : Past F) (board : Board F C fl
   -- the answers of a turn
   pub answers_done : is_done (course_of flash.fault_model flash.state past) session ≡ true
       → Done ≡ turn_answer past.boot.partitions (sizes_in flash.state past) (course_of flash.fault_model flash.state past) session
-  answers_done h = sym (ap (λ b. done_or b (held_or_did (held_by past.boot.partitions (sizes_in flash.state past)
+  answers_done h = sym (ap (λ b. done_if b (held_or_did (held_by past.boot.partitions (sizes_in flash.state past)
       (course_of flash.fault_model flash.state past) session))) h)
 
   answers_else : (p : Option ℕ) (k : Option ℕ) → is_done (course_of flash.fault_model flash.state past) session ≡ false
@@ -309,7 +309,7 @@ module _ {F C : Type 0} {flash : Ghosts F} (past : Past F) (board : Board F C fl
       → next_chip past.boot.partitions (sizes_in flash.state past) (course_of flash.fault_model flash.state past) session ≡ k
       → held_or_did (held_unless_pending (course_of flash.fault_model flash.state past) p k)
       ≡ turn_answer past.boot.partitions (sizes_in flash.state past) (course_of flash.fault_model flash.state past) session
-  answers_else p k h i j = sym ((λ d. done_or (h d) (held_or_did (held_unless_pending (course_of flash.fault_model flash.state past) (i d) (j d)))))
+  answers_else p k h i j = sym ((λ d. done_if (h d) (held_or_did (held_unless_pending (course_of flash.fault_model flash.state past) (i d) (j d)))))
 
   pending_is_none : first_held_by session (slot_states board) ≡ None → pending_chip (course_of flash.fault_model flash.state past) session ≡ None
   pending_is_none h = pending_there flash.fault_model past.boot turn.on_course.conditions.uncut (starts_of flash.state past)

@@ -27,19 +27,21 @@ abbrev pub held_by : {W : Type 0} → Partitions → (Command → Geometry) → 
 held_by partitions sizes course session =
     held_unless_pending course (pending_chip course session) (next_chip partitions sizes course session)
 
+-- a turn that another session held up, or one that did something
 abbrev pub held_or_did : Option ℕ → Turn
 held_or_did None = Did
 held_or_did (Some by) = Held by
 
-abbrev pub done_or : Bool → Turn → Turn
-done_or true turn = Done
-done_or false turn = turn
+-- a turn of a session whose commands are over is done
+abbrev pub done_if : Bool → Turn → Turn
+done_if true turn = Done
+done_if false turn = turn
 
 -- a turn of a session is answered Done where its commands are over, else Held where another session
 -- holds it up, else Did
 abbrev pub turn_answer : {W : Type 0} → Partitions → (Command → Geometry) → Course W → ℕ → Turn
 turn_answer partitions sizes course session =
-    done_or (is_done course session) (held_or_did (held_by partitions sizes course session))
+    done_if (is_done course session) (held_or_did (held_by partitions sizes course session))
 
 -- a turn that did something
 abbrev pub is_did : Turn → Bool

@@ -1,6 +1,6 @@
 -- What a controller that is over leaves.
-use Rattle.std.specs.Prelude.{false, ℕ, List, map, sum_by, Option, Some, None, slice_get}
-use Rattle.command_model.specs.Session.{SessionRun, exchanges_of, session_after}
+use Rattle.std.specs.Prelude.{not, ℕ, List, map, sum_by, Option, Some, None, slice_get}
+use Rattle.command_model.specs.Session.{SessionRun, exchanges_of, is_finished, session_after}
 use Rattle.session_steps.specs.Ended.{EndOfSession}
 use Rattle.nand_model.specs.Chip.{ChipState}
 use Rattle.command_model.specs.Boot.{Boot}
@@ -15,9 +15,10 @@ use Rattle.nand_model.specs.declared.words.Command.{Command}
 use Rattle.nand_model.specs.declared.words.Note.{Note}
 use Rattle.nand_model.specs.declared.words.Stats.{Stats}
 
--- a session of a course that no power cut ended
+-- how a session of a course ended: cut short where a command of it is left
 abbrev pub end_of_run : SessionRun → EndOfSession
-end_of_run run = record { session = run.number; cut = false; outcomes = run.outcomes }
+end_of_run run =
+    record { session = run.number; cut = not (is_finished run.commands); outcomes = run.outcomes }
 
 -- how a session with these commands ended, by the notes of its controller
 abbrev pub end_by_notes : {W : Type 0} → Boot → List (ChipState W) → List Note → ℕ × List Command → EndOfSession
@@ -41,13 +42,16 @@ abbrev pub slot_statistics_on : {W : Type 0} → Option (SlotState W) → ℕ �
 slot_statistics_on None dev = no_statistics
 slot_statistics_on (Some c) dev = stage_statistics c.stage dev
 
+-- what a device counted, on the chip of this number
 abbrev pub slot_statistics_at : {W : Type 0} → List (SlotState W) → Option ℕ → ℕ → Stats
 slot_statistics_at chips None dev = no_statistics
 slot_statistics_at chips (Some k) dev = slot_statistics_on (slice_get chips k) dev
 
+-- what each of these devices counted
 abbrev pub slot_statistics : {W : Type 0} → Partitions → List (SlotState W) → List ℕ → List (ℕ × Stats)
 slot_statistics partitions chips devices =
     map (λ dev. (dev, slot_statistics_at chips (chip_of partitions dev) dev)) devices
 
+-- how many blocks of a chip in a slot are bad
 abbrev pub slot_bad_blocks : {W : Type 0} → SlotState W → ℕ
 slot_bad_blocks c = bad_blocks_in (stage_table c.stage)

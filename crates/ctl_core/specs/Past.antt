@@ -64,6 +64,7 @@ abbrev pub session_of : Option Pending → Option ℕ
 session_of None = None
 session_of (Some pending) = Some pending.session
 
+-- the same on a chip that may be there
 abbrev pub session_on : {W : Type 0} → Option (ChipRun W) → Option ℕ
 session_on None = None
 session_on (Some c) = session_of c.pending

@@ -27,16 +27,16 @@ HoldersWait {W} chips sessions =
     → c.holder ≡ Some (number_of s) → IsWaiting s
 
 -- a session that has begun nothing
-abbrev pub IsFresh : ℕ → Session → Type 0
-IsFresh number s =
+abbrev pub HasNotBegun : ℕ → Session → Type 0
+HasNotBegun number s =
     (sizes : Command → Geometry) (commands : List Command) (notes : List Note) → CanAllRun sizes commands →
     Mirrors sizes commands notes s (without_finished sizes number commands [] [])
 
 -- the sessions of a boot at their start
-pub record AreFresh (begun : List (ℕ × List Command)) (sessions : List Session) : Type 0 where
+pub record HaveNotBegun (begun : List (ℕ × List Command)) (sessions : List Session) : Type 0 where
   pub many : length sessions ≡ length begun
   pub each : (i : ℕ) (b : ℕ × List Command) (s : Session) → slice_get begun i ≡ Some b → slice_get sessions i ≡ Some s
-      → IsFresh b.0 s
+      → HasNotBegun b.0 s
 
 -- the commands of each session are over
 abbrev pub AreAllDone : List (ℕ × List Command) → List Note → List Session → Type 0

@@ -36,6 +36,7 @@ slot_as partitions c = record {
   holder = holder_by c.known c.pending;
 }
 
+-- all chips of a course in slots
 abbrev pub slots_as : {W : Type 0} → Partitions → List (ChipRun W) → List (SlotState W)
 slots_as partitions chips = map (slot_as partitions) chips
 
@@ -48,10 +49,11 @@ abbrev pub is_held_by : ℕ → Option ℕ → Bool
 is_held_by session None = false
 is_held_by session (Some by) = by == session
 
--- the first chip that is still to be attached, and the first that a session holds
+-- the first chip that is still to be attached
 abbrev pub first_attaching : {W : Type 0} → List (SlotState W) → Option ℕ
 first_attaching {W} chips = position (λ (c : SlotState W). not (is_attached c.stage)) chips
 
+-- the first chip that this session holds
 abbrev pub first_held_by : {W : Type 0} → ℕ → List (SlotState W) → Option ℕ
 first_held_by {W} session chips = position (λ (c : SlotState W). is_held_by session c.holder) chips
 

@@ -3,7 +3,7 @@ ghost use Rattle.std.specs.Prelude.{◌≡◌, All, map, IfOk};
 ghost use Rattle.run_model.specs.Start.{IsPlain};
 ghost use Rattle.ctl_core.specs.SlotState.{slot_first};
 ghost use Rattle.ctl_core.specs.Board.{slot_state};
-ghost use Rattle.ctl_core.specs.Sessions.{AreFresh};
+ghost use Rattle.ctl_core.specs.Sessions.{HaveNotBegun};
 
 use crate::board::Slot;
 use chip_core::Chip;
@@ -47,7 +47,7 @@ fn first_slot<F: Flash, C: PageCode>(
 
 // The sessions of a boot at their start.
 pub fn first_sessions(alloc: Global, boot: &ControllerBoot) -> Result<Vec<Session>, AllocError>
-    ensures { IfOk result (λ sessions. AreFresh boot.now.sessions sessions.items) }
+    ensures { IfOk result (λ sessions. HaveNotBegun boot.now.sessions sessions.items) }
 {
     let mut sessions = Vec::new(alloc);
     while let Some(number) = boot.session(sessions.len()) {

@@ -28,6 +28,7 @@ dumping dev = NandDump dev 1 0 2048 true false DumpBad
 abbrev pub first_block : ℕ → Part
 first_block chip = record { chip = chip; start = 0; count = 1 }
 
+-- two devices of one block, on two chips
 abbrev pub small_parts : Partitions
 small_parts = record { first = 0; parts = first_block 0 ∷ first_block 1 ∷ [] }
 
@@ -43,6 +44,7 @@ reading_sessions = (0, dumping 0 ∷ dumping 0 ∷ dumping 0 ∷ []) ∷ []
 abbrev pub small_sizes : Geometry
 small_sizes = record { page = 2048; spare = 64; pages_per_block = 64; blocks = 8; t = 1; bbt = 0; threshold = 1; in_bounds = refl }
 
+-- a chip of these sizes
 abbrev pub IsSmall : {W : Type 0} → ChipState W → Type 0
 IsSmall s = s.geometry ≡ small_sizes
 

@@ -12,7 +12,7 @@ use std::test::Fail;
 
 // A bit that turns over before an event.
 #[derive(Clone, Copy)]
-struct Turned {
+struct OneFlip {
     chip: u32,
     page: u32,
     before: u32,
@@ -20,8 +20,8 @@ struct Turned {
 }
 
 // A bit of a page of a chip, before this event.
-fn before(event: u32, chip: u32, page: u32, bit: u32) -> Turned {
-    Turned {
+fn before(event: u32, chip: u32, page: u32, bit: u32) -> OneFlip {
+    OneFlip {
         chip,
         page,
         before: event,
@@ -30,7 +30,7 @@ fn before(event: u32, chip: u32, page: u32, bit: u32) -> Turned {
 }
 
 // The flip of one bit, if there is such a bit.
-fn flip_of(alloc: Global, one: Turned) -> Result<Flip, Fail>
+fn flip_of(alloc: Global, one: OneFlip) -> Result<Flip, Fail>
     ensures { IfOk result IsSmallFlip }
 {
     if one.chip >= 2 || one.page >= 512 || one.bit >= 16896 {
@@ -47,7 +47,7 @@ fn flip_of(alloc: Global, one: Turned) -> Result<Flip, Fail>
 }
 
 // The flips of these bits, in this order.
-fn faults_of(alloc: Global, flips: &[Turned]) -> Result<Faults, Fail>
+fn faults_of(alloc: Global, flips: &[OneFlip]) -> Result<Faults, Fail>
     ensures small { IfOk result (λ faults. All IsSmallFlip faults) }
     ensures count { IfOk result (λ faults. length faults ≡ length flips.now) }
 {
@@ -92,7 +92,7 @@ fn tells(history: &History, quiet: [bool; 2], seen: [u8; 3]) -> bool {
 
 // Attaches two chips of eight blocks, by events 1 to 8 and 9 to 16, and dumps the first page of
 // chip 0 by events 17, 18 and 19. Whether that is told.
-fn shows(alloc: Global, flips: &[Turned], quiet: [bool; 2], seen: [u8; 3]) -> Result<bool, Fail>
+fn shows(alloc: Global, flips: &[OneFlip], quiet: [bool; 2], seen: [u8; 3]) -> Result<bool, Fail>
     requires { length flips.now ≤ 65536 }
 {
     let mut core = reading_core(alloc, faults_of(alloc, flips)?)?;

@@ -1,12 +1,14 @@
--- Flips of bits of a page. Bit k of a page is in byte k / 8, and k mod 8 = 0 is its highest bit.
-use Rattle.std.specs.Prelude.{ℕ, ◌-◌, ◌/◌, ◌%◌, ◌^◌, ◌&&◌, nat_le, nat_lt, List, count_by, slice_index, slice_set, bit_xor, fold, ◌*◌, ◌<◌, All, Bool, ◌==◌, filter}
+-- Flips of bits of a page, in the order of its bits.
+use Rattle.std.specs.Prelude.{ℕ, ◌&&◌, nat_le, nat_lt, List, count_by, slice_index, slice_set, bit_xor, fold, ◌*◌, ◌<◌, All, Bool, ◌==◌, filter}
+use Rattle.code_model.specs.Bits.{byte_with_bit, value_of_bit}
 use Rattle.nand_model.specs.Sizes.{page_count, raw_len}
 use Rattle.nand_model.specs.declared.geometry.Geometry.{Geometry}
 use Rattle.nand_model.specs.declared.words.Flip.{Flip}
 
 -- the page with bit k turned
 abbrev pub with_bit_turned : List ℕ → ℕ → List ℕ
-with_bit_turned cells k = slice_set cells (k / 8) (bit_xor (slice_index cells (k / 8)) (2 ^ (7 - k % 8)))
+with_bit_turned cells k =
+    slice_set cells (byte_with_bit k) (bit_xor (slice_index cells (byte_with_bit k)) (value_of_bit k))
 
 -- how many of these flips were made in bits from one up to but not including another
 abbrev pub flips_between : List ℕ → ℕ → ℕ → ℕ

@@ -44,7 +44,7 @@ use Rattle.ctl_core.proofs.Sessions.{one_number_each}
 use Rattle.session_run.specs.Replay.{IsReplayed, rounds_after, session_numbers}
 use Rattle.session_run.proofs.Once.{replayed_once}
 use Rattle.headline_model.specs.Headline.{IsReplayOf}
-use Rattle.nandlab.specs.Ends.{ends_by, stats_by, stats_of}
+use Rattle.nandlab.specs.Ends.{end_by, ends_by, stats_by, stats_of}
 use Rattle.nandlab.specs.Run.{EndsRun}
 use Rattle.nandlab.proofs.OneBoot.{IsOwnCourse, OwnHistory, one_history, one_replay, one_run}
 use Rattle.nandlab.proofs.PlanTurns.{numbered, replay_turns-rounds}
@@ -71,41 +71,18 @@ new_sizes (chip ∷ chips) = ap (λ rest. chip.geometry ∷ rest) (new_sizes chi
 same_sizes : (plan : PlanLines) → sizes_of (the_boot plan) (the_chips plan) ≡ geometry_in (plan_of plan) 0
 same_sizes plan = ap (geometry_for (devices_of (plan_of plan) 0 (map chip_of plan.chips))) (new_sizes (map chip_of plan.chips))
 
-number_after : (sizes : Command → Geometry) (s : SessionRun) (exchanges : List Exchange) → (session_after sizes s exchanges).number ≡ s.number
-number_after sizes s [] = refl
-number_after sizes s (Asked op ∷ rest) = number_after sizes s rest
-number_after sizes s (Replied reply ∷ rest) =
-    number_after sizes (with_reply sizes reply s) rest ∙ number_stays sizes s.number s.commands (s.replies ++ reply ∷ []) s.outcomes
-
-module _ (plan : PlanLines) (notes : List Note) (complete : AreComplete (the_boot plan) (the_chips plan) notes) where
+module _ (plan : PlanLines) (notes : List Note) where
   ends_from : (n : ℕ) (sessions : List (List CommandLine))
-      → ((s : ℕ × List Command) → Contains (sessions_from 0 n (map (session_of plan.chips plan.payload) sessions)) s → Contains (the_boot plan).sessions s)
       → map (end_by_notes (the_boot plan) (the_chips plan) notes) (sessions_from 0 n (map (session_of plan.chips plan.payload) sessions))
       ≡ ends_by (sizes_of (the_boot plan) (the_chips plan)) n (map (session_of plan.chips plan.payload) sessions) notes
-  ends_from n [] here = refl
-  ends_from n (lines ∷ sessions) here = λ i. first i ∷ ends_from (n + 1) sessions (λ s has. here s (suc has.0, omega (arith, has.1), has.2)) i
-    where
-      sizes : Command → Geometry
-      sizes = sizes_of (the_boot plan) (the_chips plan)
-
-      commands : List Command
-      commands = (session_of plan.chips plan.payload lines).commands
-
-      after : SessionRun
-      after = session_after sizes (without_finished sizes n commands [] []) (exchanges_of n notes)
-
-      first : end_by_notes (the_boot plan) (the_chips plan) notes (n, commands)
-          ≡ record { session = n; cut = not (is_finished after.commands); outcomes = after.outcomes }
-      first = λ i. record {
-        session = (number_after sizes (without_finished sizes n commands [] []) (exchanges_of n notes) ∙ number_stays sizes n commands [] []) i;
-        cut = not (sym (complete n commands (here (n, commands) (0, omega arith, refl))) i);
-        outcomes = after.outcomes;
-      }
+  ends_from n [] = refl
+  ends_from n (lines ∷ sessions) = λ i. end_by (sizes_of (the_boot plan) (the_chips plan)) n (session_of plan.chips plan.payload lines).commands notes
+      ∷ ends_from (n + 1) sessions i
 
   -- how the sessions ended by the notes is what the report says of them
   pub ends_are : ends_by_notes (the_boot plan) (the_chips plan) notes ≡ ends_by (geometry_in (plan_of plan) 0) 0 (boot_of plan).sessions notes
   ends_are =
-      ends_from 0 plan.sessions (λ s has. has)
+      ends_from 0 plan.sessions
       ∙ ap (λ sizes. ends_by sizes 0 (boot_of plan).sessions notes) (same_sizes plan)
 
 -- the new chips of a plan are fresh
@@ -174,7 +151,7 @@ module _ (plan : PlanLines) (notes : List Note) (ends : List EndOfSession) (stat
 
   -- how the sessions ended
   pub run_ends : ends ≡ ends_by (geometry_in (plan_of plan) 0) 0 (boot_of plan).sessions notes
-  run_ends = run.ends_are ∙ ends_are plan run.course.notes complete_notes
+  run_ends = run.ends_are ∙ ends_are plan run.course.notes
       ∙ ap (ends_by (geometry_in (plan_of plan) 0) 0 (boot_of plan).sessions) (sym run.notes_are)
 
   sums : (dev : ℕ) → statistics_at run.course (chip_of_device (the_boot plan).partitions dev) dev

@@ -18,12 +18,15 @@ abbrev pub is_served : Words → Bool
 is_served (word ∷ []) = bytes_eq (string_bytes word) (codes "replay")
 is_served _ = false
 
+-- what is written for words that are not served
 abbrev pub usage_line : List ℕ
 usage_line = line (codes "usage: nandlab check or replay or run or make N")
 
+-- what is written for a plan of too many bytes
 abbrev pub too_long_line : List ℕ
 too_long_line = line (codes "line 0: TooLong")
 
+-- what is written for a plan that cannot be run yet
 abbrev pub not_built_line : List ℕ
 not_built_line = line (codes "line 0: NotBuilt")
 

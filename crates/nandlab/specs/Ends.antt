@@ -1,7 +1,7 @@
 -- How a boot's sessions ended and what its devices counted, by the notes of their controller, and
 -- the lines of both.
-use Rattle.std.specs.Prelude.{ℕ, ◌+◌, Bool, true, false, not, List, [], ◌∷◌, ◌++◌, length, map, sum_by, codes, decimal}
-use Rattle.command_model.specs.Session.{SessionRun, is_finished, without_finished, exchanges_of, session_after}
+use Rattle.std.specs.Prelude.{ℕ, ◌+◌, Bool, true, false, List, [], ◌∷◌, ◌++◌, length, map, sum_by, codes, decimal}
+use Rattle.command_model.specs.Session.{without_finished, exchanges_of, session_after}
 use Rattle.nand_model.specs.Sizes.{numbers_from}
 use Rattle.nand_model.specs.declared.geometry.Geometry.{Geometry}
 use Rattle.nand_model.specs.declared.words.Command.{Command}
@@ -12,6 +12,7 @@ use Rattle.plan_model.specs.Plan.{SessionPlan}
 use Rattle.command_model.specs.Reads.{corrected_of, failed_of, reads_of}
 use Rattle.report_model.specs.Report.{device_name, line, outcome_lines}
 use Rattle.session_steps.specs.Ended.{EndOfSession}
+use Rattle.ctl_core.specs.Ended.{end_of_run}
 
 -- where a session is cut short, how many of its commands are finished
 abbrev pub cut_text : Bool → ℕ → List ℕ
@@ -32,13 +33,10 @@ ended_texts n _ _ = []
 abbrev pub device_text : ℕ × Stats → List ℕ
 device_text (dev, stats) = line (codes "device " ++ device_name dev ++ codes " corrected " ++ decimal stats.corrected ++ codes " failed " ++ decimal stats.failed)
 
--- how a session of this number ended
-abbrev pub end_of_run : ℕ → SessionRun → EndOfSession
-end_of_run number run = record { session = number; cut = not (is_finished run.commands); outcomes = run.outcomes }
-
 -- how a session with these commands ended, by the notes of its controller
 abbrev pub end_by : (Command → Geometry) → ℕ → List Command → List Note → EndOfSession
-end_by sizes number commands notes = end_of_run number (session_after sizes (without_finished sizes number commands [] []) (exchanges_of number notes))
+end_by sizes number commands notes =
+    end_of_run (session_after sizes (without_finished sizes number commands [] []) (exchanges_of number notes))
 
 -- how the sessions ended, the first of which has number n
 abbrev pub ends_by : (Command → Geometry) → ℕ → List SessionPlan → List Note → List EndOfSession

@@ -14,7 +14,7 @@ use Rattle.command_model.specs.Session.{SessionRun}
 use Rattle.command_model.specs.Runnable.{CanRun}
 use Rattle.session_steps.specs.declared.session.Session.{Session}
 use Rattle.session_steps.specs.Standing.{Standing}
-use Rattle.session_steps.specs.Mirrors.{GoesOn, IsPlaced, Shows, Mirrors}
+use Rattle.session_steps.specs.Mirrors.{IsUnderWay, IsPlaced, Shows, Mirrors}
 
 -- two scripts that ask for the same operations, whatever the replies, and have the same outcomes
 abbrev Same : Script → Script → Type 0
@@ -59,19 +59,19 @@ CanRun-prop g (MarkBad dev blocks block) = hlevel props
 CanRun-prop g (IsBad dev blocks block) = hlevel props
 CanRun-prop g (Stats dev blocks) = hlevel props
 
-GoesOn-prop : (sizes : Command → Geometry) (commands : List Command) (replies : List Reply) (script : Option Script)
-    → IsProp (GoesOn sizes commands replies script)
-GoesOn-prop sizes commands replies None = hlevel props
-GoesOn-prop sizes commands replies (Some (End outcome)) = hlevel props
-GoesOn-prop sizes [] replies (Some (Ask op go_on)) = hlevel props
-GoesOn-prop sizes (command ∷ commands) replies (Some (Ask op go_on)) = Script-set _ _
+IsUnderWay-prop : (sizes : Command → Geometry) (commands : List Command) (replies : List Reply) (script : Option Script)
+    → IsProp (IsUnderWay sizes commands replies script)
+IsUnderWay-prop sizes commands replies None = hlevel props
+IsUnderWay-prop sizes commands replies (Some (End outcome)) = hlevel props
+IsUnderWay-prop sizes [] replies (Some (Ask op go_on)) = hlevel props
+IsUnderWay-prop sizes (command ∷ commands) replies (Some (Ask op go_on)) = Script-set _ _
 
 IsPlaced-prop : (notes : ℕ) (last : Option ℕ) → IsProp (IsPlaced notes last)
 IsPlaced-prop notes None = hlevel props
 IsPlaced-prop notes (Some place) = hlevel props
 
 Shows-prop : (sizes : Command → Geometry) (commands : List Command) (st : Standing) (run : SessionRun) → IsProp (Shows sizes commands st run)
-Shows-prop sizes commands st run = hlevel (props, GoesOn-prop)
+Shows-prop sizes commands st run = hlevel (props, IsUnderWay-prop)
 
 -- that a session mirrors one of a course is a proposition
 pub Mirrors-prop : (sizes : Command → Geometry) (commands : List Command) (notes : List Note) (s : Session) (run : SessionRun)

@@ -12,7 +12,7 @@ use Rattle.command_model.specs.Runnable.{CanRun}
 use Rattle.tool_steps.specs.Steps.{is_over}
 use Rattle.tool_steps.proofs.Scripts.{asks_first, after_replies-append}
 use Rattle.session_steps.specs.Standing.{Standing, outcomes_by, commands_by, op_asked, put_down, begun, IsBetween, First}
-use Rattle.session_steps.specs.Mirrors.{GoesOn, CanAllRun, Shows}
+use Rattle.session_steps.specs.Mirrors.{IsUnderWay, CanAllRun, Shows}
 use Rattle.session_steps.proofs.Scripts.{none_finished, not_finished, one_finished}
 
 some_is : (x y : Command) → Some x ≡ Some y → x ≡ y
@@ -28,7 +28,7 @@ first_is P (suc n) (x ∷ xs) command h e = first_is P n xs command h e
 
 module _ (sizes : Command → Geometry) (commands : List Command) where
   -- between two commands there is no reply
-  no_reply : (left : List Command) (replies : List Reply) (script : Option Script) → IsBetween script → GoesOn sizes left replies script → replies ≡ []
+  no_reply : (left : List Command) (replies : List Reply) (script : Option Script) → IsBetween script → IsUnderWay sizes left replies script → replies ≡ []
   no_reply left replies None h g = g
   no_reply left replies (Some (End outcome)) h g = g
   no_reply left replies (Some (Ask op go_on)) h g = absurd h
@@ -70,7 +70,7 @@ module _ (sizes : Command → Geometry) (commands : List Command) where
     number = n;
     outcomes = o;
     left = l;
-    goes_on = subst (λ (cs : List Command). GoesOn sizes cs run.replies (Some (Ask op go_on))) (sym first)
+    goes_on = subst (λ (cs : List Command). IsUnderWay sizes cs run.replies (Some (Ask op go_on))) (sym first)
         (subst (λ (rs : List Reply). Ask op go_on ≡ after_replies rs (script_of (sizes command) command)) (sym r) (sym asks));
   }
 
@@ -139,7 +139,7 @@ module _ (sizes : Command → Geometry) (commands : List Command) where
       by_script command rest e (Ask next more) s = reply_goes_on number outcomes run reply command rest next more shows.number shows.outcomes
           (sym e ∙ shows.left) s
 
-      by_commands : (left : List Command) → run.commands ≡ left → GoesOn sizes left run.replies (Some (Ask op go_on))
+      by_commands : (left : List Command) → run.commands ≡ left → IsUnderWay sizes left run.replies (Some (Ask op go_on))
           → Shows sizes commands (at number outcomes (go_on reply)) (with_reply sizes reply run)
       by_commands [] e g = absurd g
       by_commands (command ∷ rest) e g =
@@ -154,7 +154,7 @@ module _ (sizes : Command → Geometry) (commands : List Command) where
       → next_op_of sizes run.commands run.replies ≡ Some op
   shows_op st run op shows e = by_script st.script run.commands e shows.goes_on
     where
-      by_script : (script : Option Script) (left : List Command) → op_asked script ≡ Some op → GoesOn sizes left run.replies script
+      by_script : (script : Option Script) (left : List Command) → op_asked script ≡ Some op → IsUnderWay sizes left run.replies script
           → next_op_of sizes left run.replies ≡ Some op
       by_script None left e g = cc
       by_script (Some (End outcome)) left e g = cc

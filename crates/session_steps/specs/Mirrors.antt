@@ -12,11 +12,11 @@ use Rattle.session_steps.specs.Standing.{Standing, standing, outcomes_by, comman
 
 -- the command that was begun last is the first of these and has had these replies; where it is over
 -- or none was begun, there is no reply
-abbrev pub GoesOn : (Command → Geometry) → List Command → List Reply → Option Script → Type 0
-GoesOn sizes commands replies None = replies ≡ []
-GoesOn sizes commands replies (Some (End outcome)) = replies ≡ []
-GoesOn sizes [] replies (Some (Ask op go_on)) = ⊥
-GoesOn sizes (command ∷ commands) replies (Some (Ask op go_on)) =
+abbrev pub IsUnderWay : (Command → Geometry) → List Command → List Reply → Option Script → Type 0
+IsUnderWay sizes commands replies None = replies ≡ []
+IsUnderWay sizes commands replies (Some (End outcome)) = replies ≡ []
+IsUnderWay sizes [] replies (Some (Ask op go_on)) = ⊥
+IsUnderWay sizes (command ∷ commands) replies (Some (Ask op go_on)) =
     Ask op go_on ≡ after_replies replies (script_of (sizes command) command)
 
 -- a session with these commands that stands so is where this session of a course is
@@ -25,7 +25,7 @@ pub record Shows (sizes : Command → Geometry) (commands : List Command) (st : 
     pub number : run.number ≡ st.number
     pub outcomes : run.outcomes ≡ outcomes_by st
     pub left : run.commands ≡ commands_by commands st
-    pub goes_on : GoesOn sizes run.commands run.replies st.script
+    pub goes_on : IsUnderWay sizes run.commands run.replies st.script
 
 -- the place of a last reply is among so many notes
 abbrev pub IsPlaced : ℕ → Option ℕ → Type 0

@@ -5,7 +5,7 @@ use Rattle.code_model.specs.Bits.{bit_of}
 use Rattle.code_model.specs.Code.{code_512, IsNearest, NoneNear}
 use Rattle.bch_solver.specs.Words.{code_over, word_of}
 use Rattle.bch_solver.proofs.BitsLemmas.{word_of-joined, bit_of-joined}
-use Rattle.bch_decode.specs.Answers.{step_word}
+use Rattle.bch_decode.specs.Answers.{step_and_parity}
 use Rattle.bch_decode.specs.declared.decoder.Decoded.TheVariants.{Corrected}
 use Rattle.bch_decode.proofs.decoder.decode.Goals as goal
 
@@ -16,7 +16,7 @@ same_some : {a b : ℕ} → Some a ≡ Some b → a ≡ b
 same_some e = cc
 
 -- the word that was copied in
-word_before : (t : ℕ) (bytes step parity : List ℕ) → length step ≡ 512 → bytes ≡ step ++ parity → word_of (code_over 13 0x201b t 512) bytes ≡ step_word t step parity
+word_before : (t : ℕ) (bytes step parity : List ℕ) → length step ≡ 512 → bytes ≡ step ++ parity → word_of (code_over 13 0x201b t 512) bytes ≡ step_and_parity t step parity
 word_before t bytes step parity len e = ap (word_of (code_over 13 0x201b t 512)) e ∙ word_of-joined 13 0x201b t 512 step parity len
 
 -- what is copied back of a buffer that begins with the decoded word

@@ -8,12 +8,12 @@ use Rattle.code_model.proofs.ByteLemmas.{length-bits_of}
 use Rattle.code_model.proofs.NearestLemmas.{near_code_words-equal, code_512-bch}
 use Rattle.bch_solver.specs.Words.{code_over, word_of}
 use Rattle.bch_solver.proofs.BitsLemmas.{word_of-joined, bit_of-joined}
-use Rattle.bch_decode.specs.Answers.{step_word}
+use Rattle.bch_decode.specs.Answers.{step_and_parity}
 use Rattle.bch_decode.specs.declared.decoder.Decoded.TheVariants.{Corrected}
 use Rattle.bch_quick.proofs.decoder.decode_quick.Goals as goal
 
 -- the word that was copied in
-word_before : (t : ℕ) (bytes step parity : List ℕ) → length step ≡ 512 → bytes ≡ step ++ parity → word_of (code_over 13 0x201b t 512) bytes ≡ step_word t step parity
+word_before : (t : ℕ) (bytes step parity : List ℕ) → length step ≡ 512 → bytes ≡ step ++ parity → word_of (code_over 13 0x201b t 512) bytes ≡ step_and_parity t step parity
 word_before t bytes step parity len e = ap (word_of (code_over 13 0x201b t 512)) e ∙ word_of-joined 13 0x201b t 512 step parity len
 
 -- what is copied back of a buffer that begins with the decoded word
@@ -36,8 +36,8 @@ returns-in-Ok-clause-decodes c =
     nearest_as c.args.t _ _ _ _ c.in-Ok.wrong before after c.in-Ok.ensures.nearest
 
 -- the bits of a word
-step_word-long : (t : ℕ) (step parity : List ℕ) → length step ≡ 512 → 13 * t ≤ 8 * length parity → length (step_word t step parity) ≡ 4096 + 13 * t
-step_word-long t step parity len room =
+step_and_parity-long : (t : ℕ) (step parity : List ℕ) → length step ≡ 512 → 13 * t ≤ 8 * length parity → length (step_and_parity t step parity) ≡ 4096 + 13 * t
+step_and_parity-long t step parity len room =
     let first = length-bits_of step in
     let all = length-bits_of parity in
     let last : length (take (13 * t) (bits_of parity)) ≡ 13 * t = length-take-le (13 * t) (bits_of parity) (omega arith) in
@@ -54,7 +54,7 @@ pub returns-in-Ok-clause-finds : goal.returns-in-Ok-clause-finds
 returns-in-Ok-clause-finds c = λ word n nearest.
     let t = c.args.t in
     let room = c.requires.room in
-    let long = step_word-long t c.args.step.now c.args.parity.now c.told-step (omega arith) in
+    let long = step_and_parity-long t c.args.step.now c.args.parity.now c.told-step (omega arith) in
     let only = nearest_only t _ _ _ _ _ c.requires.strength.1 long (returns-in-Ok-clause-decodes c) nearest in
     (ap Corrected only.0, only.1)
 

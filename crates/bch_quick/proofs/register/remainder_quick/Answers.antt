@@ -12,7 +12,7 @@ use Rattle.code_model.proofs.RootLemmas.{generator-degree}
 use Rattle.bch_register.proofs.RegisterLemmas.{remainder-joined}
 use Rattle.bch_register.proofs.WordLemmas.{number_from-word, number_from_take-lt}
 use Rattle.bch_solver.proofs.DecodeLemmas.{generator_has_degree}
-use Rattle.bch_decode.specs.Answers.{step_word}
+use Rattle.bch_decode.specs.Answers.{step_and_parity}
 use Rattle.bch_quick.proofs.register.remainder_quick.Goals as goal
 
 pub returns-clause-value : goal.returns-clause-value
@@ -37,4 +37,4 @@ pub returns-clause-small : goal.returns-clause-small
 returns-clause-small c =
     let degree = generator-degree 13 0x201b primitive_13 c.args.t in
     subst (λ (x : ℕ). x < 2 ^ (13 * c.args.t)) (sym (returns-clause-value c))
-    (remainder-lt (13 * c.args.t) (generator_of 13 0x201b c.args.t) (number_from 0 (step_word c.args.t c.args.step.now c.args.parity.now)) degree.0 degree.1)
+    (remainder-lt (13 * c.args.t) (generator_of 13 0x201b c.args.t) (number_from 0 (step_and_parity c.args.t c.args.step.now c.args.parity.now)) degree.0 degree.1)

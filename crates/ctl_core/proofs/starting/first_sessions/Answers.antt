@@ -4,7 +4,7 @@ use Rattle.std.specs.Prelude.{slice_get, option_map}
 use Rattle.nand_model.specs.declared.words.Command.{Command}
 use Rattle.tool_steps.specs.Boot.{session_number}
 use Rattle.session_steps.specs.declared.session.Session.{Session}
-use Rattle.ctl_core.specs.Sessions.{IsFresh}
+use Rattle.ctl_core.specs.Sessions.{HasNotBegun}
 use Rattle.ctl_core.proofs.FirstAndLast.{pushed_at, past_end, before_end}
 use Rattle.ctl_core.proofs.starting.first_sessions.Goals as goal
 
@@ -22,13 +22,13 @@ loop-number-preserved c =
   where
     by_place : (i : ℕ) (b : ℕ × List Command) (s : Session) → slice_get c.args.boot.now.sessions i ≡ Some b
         → session_number c.args.boot.now (length c.loop-number.sessions.items) ≡ Some c.in-Some.number
-        → (slice_get c.loop-number.sessions.items i ≡ Some s) ⊎ ((i ≡ length c.loop-number.sessions.items) × (c.new.result ≡ s)) → IsFresh b.0 s
+        → (slice_get c.loop-number.sessions.items i ≡ Some s) ⊎ ((i ≡ length c.loop-number.sessions.items) × (c.new.result ≡ s)) → HasNotBegun b.0 s
     by_place i b s at here (inl old) = c.loop-number.invariant.each i b s at old
     by_place i b s at here (inr (e, same)) =
         let number : session_number c.args.boot.now (length c.loop-number.sessions.items) ≡ Some b.0 =
         ap (option_map (λ (x : ℕ × List Command). x.0)) (ap (slice_get c.args.boot.now.sessions) (sym e) ∙ at) in
         let own : c.in-Some.number ≡ b.0 = cc (number, here) in
-        subst₂ (λ n t. IsFresh n t) own same c.new.ensures
+        subst₂ (λ n t. HasNotBegun n t) own same c.new.ensures
 
 pub returns : goal.returns
 returns c =

@@ -40,12 +40,16 @@ returns-clause-notes g c = c.self.invariant.stands.keeps.of_notes ∙ ap (λ (p 
 
 pub returns-clause-outcomes : goal.returns-clause-outcomes
 returns-clause-outcomes g c =
-    c.in_ok-outcomes.ensures ∙ last_outcomes (past_of c.self.inside.journal) c.self.inside.board c.self.invariant
+    let over : is_over (course_of g.F.Flash.fault_model g.F.Flash.state (past_of c.self.inside.journal)) ≡ true =
+    ap (λ (p : Past g.row.F.Denot). is_over (course_of g.F.Flash.fault_model g.F.Flash.state p)) c.self.view_is ∙ c.requires in
+    c.in_ok-outcomes.ensures ∙ last_outcomes (past_of c.self.inside.journal) c.self.inside.board c.self.invariant over
     ∙ ap (λ (p : Past g.row.F.Denot). map end_of_run (course_of g.F.Flash.fault_model g.F.Flash.state p).sessions) c.self.view_is
 
 pub returns-clause-ends : goal.returns-clause-ends
 returns-clause-ends g c =
-    c.in_ok-outcomes.ensures ∙ last_outcomes (past_of c.self.inside.journal) c.self.inside.board c.self.invariant
+    let over : is_over (course_of g.F.Flash.fault_model g.F.Flash.state (past_of c.self.inside.journal)) ≡ true =
+    ap (λ (p : Past g.row.F.Denot). is_over (course_of g.F.Flash.fault_model g.F.Flash.state p)) c.self.view_is ∙ c.requires in
+    c.in_ok-outcomes.ensures ∙ last_outcomes (past_of c.self.inside.journal) c.self.inside.board c.self.invariant over
     ∙ last_ends (past_of c.self.inside.journal) c.self.inside.board c.self.invariant
     ∙ ap (λ (p : Past g.row.F.Denot). ends_by_notes p.boot (starts_of g.F.Flash.state p) (course_of g.F.Flash.fault_model g.F.Flash.state p).notes)
     c.self.view_is
