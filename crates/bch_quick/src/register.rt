@@ -146,8 +146,9 @@ pub(crate) fn parity_number_quick(t: u32, body: &[u8]) -> U256
 }
 
 /// The remainder of the word of a step and its parity by the generator.
-pub(crate) fn remainder_quick(t: u32, step: &[u8; 512], parity: &[u8]) -> U256
+pub(crate) fn remainder_quick(t: u32, step: &[u8], parity: &[u8]) -> U256
     requires strength { (0 < t) × (t ≤ 16) }
+    requires whole { length step.now ≡ 512 }
     requires room { length parity.now ≡ (13 * t + 7) / 8 }
     ensures value { result ≡ remainder (13 * t) (generator_of 13 0x201b t)
         (number_from 0 (step_and_parity t step.now parity.now)) }

@@ -13,8 +13,9 @@ use gf2_poly::generator;
 use gf13_tables::TableField13;
 
 // Decodes a step in place by its parity, as `bch_decode::decode` does, by the same search.
-fn decode_searched(t: u32, step: &mut [u8; 512], parity: &mut [u8]) -> Decoded
+fn decode_searched(t: u32, step: &mut [u8], parity: &mut [u8]) -> Decoded
     requires strength { (0 < t) × (t ≤ 16) }
+    requires whole { length step.old ≡ 512 }
     requires room { length parity.old ≡ (13 * t + 7) / 8 }
     ensures decodes { Decodes (code_512 t) (step_and_parity t step.old parity.old)
         (answer_of result (step_and_parity t step.new parity.new)) }
@@ -38,8 +39,9 @@ fn decode_searched(t: u32, step: &mut [u8; 512], parity: &mut [u8]) -> Decoded
 
 // Whether no code word is near, by the locator of the wrong bits. True is sure. `degree` is a guess
 // at a root of the locator outside the word.
-fn is_word_far(t: u32, step: &[u8; 512], parity: &[u8], degree: u32) -> bool
+fn is_word_far(t: u32, step: &[u8], parity: &[u8], degree: u32) -> bool
     requires strength { (0 < t) × (t ≤ 16) }
+    requires whole { length step.now ≡ 512 }
     requires room { length parity.now ≡ (13 * t + 7) / 8 }
     ensures { IsTrue result → NoneNear (code_512 t) (step_and_parity t step.now parity.now) }
 {
@@ -49,13 +51,9 @@ fn is_word_far(t: u32, step: &[u8; 512], parity: &[u8], degree: u32) -> bool
 
 /// Decodes a step in place by its parity, as `bch_decode::decode` does, where no guess was right.
 /// `degree` is a guess at a root of the locator outside the word.
-pub(crate) fn decode_unguessed(
-    t: u32,
-    step: &mut [u8; 512],
-    parity: &mut [u8],
-    degree: u32,
-) -> Decoded
+pub(crate) fn decode_unguessed(t: u32, step: &mut [u8], parity: &mut [u8], degree: u32) -> Decoded
     requires strength { (0 < t) × (t ≤ 16) }
+    requires whole { length step.old ≡ 512 }
     requires room { length parity.old ≡ (13 * t + 7) / 8 }
     ensures decodes { Decodes (code_512 t) (step_and_parity t step.old parity.old)
         (answer_of result (step_and_parity t step.new parity.new)) }

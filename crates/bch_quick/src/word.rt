@@ -3,9 +3,10 @@ ghost use Rattle.std.specs.Prelude.{◌≡◌, ◌≢◌, ◌<◌, ◌≤◌, �
 ghost use Rattle.code_model.specs.Bits.{bit_of, bits_from};
 ghost use Rattle.code_model.specs.Code.{code_512, IsCodeWord, IsNearest};
 ghost use Rattle.code_model.specs.Word.{distance};
+ghost use Rattle.bch_decode.specs.Answers.{step_and_parity};
 ghost use Rattle.bch_solver.specs.Words.{word_of};
 
-use crate::encoder::put_parity_quick;
+use crate::encoder::parity_of_slice;
 use bch_guess::likely_places;
 
 // Whether two parities are the same but for the last bits.
@@ -25,6 +26,19 @@ fn is_same(own: &[u8], parity: &[u8], padding: u32) -> bool
     own[last] >> padding == parity[last] >> padding
 }
 
+/// Writes the parity of a step, and tells whether it is this one.
+pub(crate) fn has_parity(t: u32, step: &[u8], parity: &[u8], own: &mut [u8]) -> bool
+    requires strength { (0 < t) × (t ≤ 16) }
+    requires whole { length step.now ≡ 512 }
+    requires parity { length parity.now ≡ (13 * t + 7) / 8 }
+    requires room { length own.old ≡ (13 * t + 7) / 8 }
+    ensures { IsTrue result
+        → IsCodeWord (code_512 t) (step_and_parity t step.now parity.now) }
+{
+    parity_of_slice(t, step, own);
+    is_same(own, parity, 8 * parity.len() as u32 - 13 * t)
+}
+
 // Writes the parity of a word's step, and tells whether the word has it.
 fn is_code_word(t: u32, word: &[u8], own: &mut [u8]) -> bool
     requires strength { (0 < t) × (t ≤ 16) }
@@ -32,9 +46,7 @@ fn is_code_word(t: u32, word: &[u8], own: &mut [u8]) -> bool
     requires room { length own.old ≡ (13 * t + 7) / 8 }
     ensures { IsTrue result → IsCodeWord (code_512 t) (word_of (code_512 t) word.now) }
 {
-    let padding = 8 * own.len() as u32 - 13 * t;
-    put_parity_quick(t, &word[..512], own);
-    is_same(own, &word[512..], padding)
+    has_parity(t, &word[..512], &word[512..], own)
 }
 
 // Turns one bit over.
@@ -93,30 +105,27 @@ fn take_off(own: &mut [u8], parity: &[u8], padding: u32)
     own[last] = (own[last] >> padding) << padding;
 }
 
-/// Decodes a word in place where a guess of its wrong bits is right. Ok(n): the word is the nearest
-/// code word, in which n bits were wrong, and the padding is as received. Err: nothing is known,
-/// and the word is left as it may be; the number is the greatest degree of the guess, which may lie
-/// outside the word, or 0.
-pub(crate) fn decode_guessed(t: u32, word: &mut [u8]) -> Result<u32, u32>
+/// Decodes a word in place where a guess of its wrong bits is right, by the parity of its own step.
+/// Ok(n): the word is the nearest code word, in which n bits were wrong, and the padding is as
+/// received. Err: nothing is known, and the word is left as it may be; the number is the greatest
+/// degree of the guess, which may lie outside the word, or 0.
+pub(crate) fn decode_guessed(t: u32, word: &mut [u8], own: &mut [u8]) -> Result<u32, u32>
     requires strength { (0 < t) × (t ≤ 16) }
     requires whole { length word.old ≡ 512 + (13 * t + 7) / 8 }
+    requires room { length own.old ≡ (13 * t + 7) / 8 }
     ensures nearest { IfOk result (IsNearest (code_512 t)
         (word_of (code_512 t) word.old) (word_of (code_512 t) word.new)) }
     ensures padding { (k : ℕ) → 4096 + 13 * t ≤ k → bit_of word.new k ≡ bit_of word.old k }
 {
-    let len = word.len() - 512;
-    let mut own = [0u8; 26];
-    if is_code_word(t, word, &mut own[..len]) {
-        return Ok(0);
-    }
-    take_off(&mut own[..len], &word[512..], 8 * len as u32 - 13 * t);
-    match likely_places(t, 4096 + 13 * t as usize, &own[..len]) {
+    let padding = 8 * own.len() as u32 - 13 * t;
+    take_off(own, &word[512..], padding);
+    match likely_places(t, 4096 + 13 * t as usize, own) {
         None => Err(0),
         Some(found) => {
             if found.count > t as usize || found.count == 0 {
                 return Err(0);
             }
-            if is_put_right(t, word, &found.places[..found.count], &mut own[..len]) {
+            if is_put_right(t, word, &found.places[..found.count], own) {
                 Ok(found.count as u32)
             } else {
                 Err(u32::from(found.places[found.count - 1]))

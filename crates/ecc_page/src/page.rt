@@ -5,7 +5,7 @@ ghost use Rattle.nand_model.specs.Sizes.{numbers_from, parity_bytes, step_count}
 ghost use Rattle.ecc_page.specs.Steps.{parity_stored, reads_of};
 
 use crate::masking::mask_of_code;
-use crate::step::{decode_step, encode_step, step_at};
+use crate::step::{decode_step, encode_step};
 use nand_iface::PageCode;
 use nand_model::{Geometry, PageRead};
 
@@ -40,8 +40,8 @@ fn fill_parities(g: &Geometry, body: &[u8], parities: &mut [u8])
     let len = g.parity_len() as usize;
     let mask = mask_of_code(g.t);
     for s in 0..g.steps() as usize {
-        let step = step_at(body, s);
-        encode_step(g.t, mask, &step, &mut parities[s * len..(s + 1) * len]);
+        let step = &body[512 * s..512 * (s + 1)];
+        encode_step(g.t, mask, step, &mut parities[s * len..(s + 1) * len]);
     }
 }
 

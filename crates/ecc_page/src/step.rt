@@ -5,26 +5,17 @@ ghost use Rattle.ecc_page.specs.Steps.{parity_stored, read_of};
 
 use crate::masking::put_mask;
 use bch_decode::Decoded;
-use bch_quick::{decode_quick, parity_quick};
-
-// The s-th step of a body.
-pub(crate) fn step_at(body: &[u8], s: usize) -> [u8; 512]
-    requires { 512 * (s + 1) ≤ length body.now }
-    ensures { result ≡ slice_range body.now (512 * s) (512 * (s + 1)) }
-{
-    let mut step = [0u8; 512];
-    step.copy_from_slice(&body[512 * s..512 * (s + 1)]);
-    step
-}
+use bch_quick::{decode_in_slice, parity_of_slice};
 
 // Writes the stored parity of a step.
-pub(crate) fn encode_step(t: u32, mask: &[u8], step: &[u8; 512], out: &mut [u8])
+pub(crate) fn encode_step(t: u32, mask: &[u8], step: &[u8], out: &mut [u8])
     requires strength { (0 < t) × (t ≤ 16) }
+    requires whole { length step.now ≡ 512 }
     requires mask { mask.now ≡ mask_of (code_512 t) }
     requires room { length out.old ≡ parity_len (code_512 t) }
     ensures { out.new ≡ parity_stored t step.now }
 {
-    parity_quick(t, step, out);
+    parity_of_slice(t, step, out);
     put_mask(out, mask);
 }
 
@@ -40,12 +31,9 @@ pub(crate) fn decode_step(t: u32, mask: &[u8], step: &mut [u8], stored: &mut [u8
     ensures corrected { result ≡ (read_of t step.old stored.old).corrected }
     ensures few { IfSome result (λ n. n ≤ 16) }
 {
-    let mut bytes = [0u8; 512];
-    bytes.copy_from_slice(step);
     put_mask(stored, mask);
-    let decoded = decode_quick(t, &mut bytes, stored);
+    let decoded = decode_in_slice(t, step, stored);
     put_mask(stored, mask);
-    step.copy_from_slice(&bytes);
     match decoded {
         Decoded::Corrected(n) => Some(n),
         Decoded::Failed => None,

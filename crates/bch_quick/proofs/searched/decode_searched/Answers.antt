@@ -28,34 +28,34 @@ nearest_as t w w' c c' d ew ec h = subst (λ (v : List ℕ). IsNearest (code_512
 
 pub returns-in-None-clause-decodes : goal.returns-in-None-clause-decodes
 returns-in-None-clause-decodes c =
-    subst (NoneNear (code_512 c.args.t)) (word_before c.args.t _ c.args.step.now c.args.parity.now c.told-step c.joined-word.ensures) c.in-None.ensures.none
+    subst (NoneNear (code_512 c.args.t)) (word_before c.args.t _ c.args.step.now c.args.parity.now c.requires.whole c.joined-word.ensures) c.in-None.ensures.none
 
 pub returns-in-None-clause-finds : goal.returns-in-None-clause-finds
 returns-in-None-clause-finds c = λ word n nearest.
-    let before = word_before c.args.t _ c.args.step.now c.args.parity.now c.told-step c.joined-word.ensures in
+    let before = word_before c.args.t _ c.args.step.now c.args.parity.now c.requires.whole c.joined-word.ensures in
     absurd (not_some None refl (c.in-None.ensures.complete word n (subst (λ (w : List ℕ). IsNearest (code_512 c.args.t) w word n) (sym before) nearest)).0)
 
 -- the bytes of step and parity at the end
-written : (c : goal.After-slice_known-in-Some-1) → c.part.new.step ++ c.part.new.parity ≡ c.decode_word.new.word
+written : (c : goal.After-slice_known-in-Some-2-1) → c.part.new.step ++ c.part.new.parity ≡ c.decode_word.new.word
 written c =
     copied_back c.decode_word.new.word _ (c.part.new.step ++ c.part.new.parity) (512 + length c.args.parity.now)
-    (c.decode_word.auto.word ∙ ap length c.joined-word.ensures ∙ length-append c.args.step.now c.args.parity.now ∙ ap (λ n. n + length c.args.parity.now) c.told-step) c.part.ensures
+    (c.decode_word.auto.word ∙ ap length c.joined-word.ensures ∙ length-append c.args.step.now c.args.parity.now ∙ ap (λ n. n + length c.args.parity.now) c.requires.whole) c.part.ensures
 
 pub returns-in-Some-clause-decodes : goal.returns-in-Some-clause-decodes
 returns-in-Some-clause-decodes c =
-    let before = word_before c.args.t _ c.args.step.now c.args.parity.now c.told-step c.joined-word.ensures in
-    let after = word_before c.args.t c.decode_word.new.word c.part.new.step c.part.new.parity c.part.array_long (sym (written c)) in
+    let before = word_before c.args.t _ c.args.step.now c.args.parity.now c.requires.whole c.joined-word.ensures in
+    let after = word_before c.args.t c.decode_word.new.word c.part.new.step c.part.new.parity (c.part.auto.step ∙ c.requires.whole) (sym (written c)) in
     nearest_as c.args.t _ _ _ _ c.in-Some.wrong before after c.in-Some.ensures.corrected
 
 pub returns-in-Some-clause-finds : goal.returns-in-Some-clause-finds
 returns-in-Some-clause-finds c = λ word n nearest.
-    let before = word_before c.args.t _ c.args.step.now c.args.parity.now c.told-step c.joined-word.ensures in
-    let after = word_before c.args.t c.decode_word.new.word c.part.new.step c.part.new.parity c.part.array_long (sym (written c)) in
+    let before = word_before c.args.t _ c.args.step.now c.args.parity.now c.requires.whole c.joined-word.ensures in
+    let after = word_before c.args.t c.decode_word.new.word c.part.new.step c.part.new.parity (c.part.auto.step ∙ c.requires.whole) (sym (written c)) in
     let found = c.in-Some.ensures.complete word n (subst (λ (w : List ℕ). IsNearest (code_512 c.args.t) w word n) (sym before) nearest) in
     (ap Corrected (same_some found.0), sym after ∙ found.1)
 
 pub returns-in-Some-clause-padding : goal.returns-in-Some-clause-padding
 returns-in-Some-clause-padding c = λ k h.
     let same = c.in-Some.ensures.padding (8 * 512 + k) (omega arith) in
-    sym (bit_of-joined c.part.new.step c.part.new.parity 512 k c.part.array_long) ∙ ap (λ bytes. bit_of bytes (8 * 512 + k)) (written c) ∙ same
-    ∙ ap (λ bytes. bit_of bytes (8 * 512 + k)) c.joined-word.ensures ∙ bit_of-joined c.args.step.now c.args.parity.now 512 k c.told-step
+    sym (bit_of-joined c.part.new.step c.part.new.parity 512 k (c.part.auto.step ∙ c.requires.whole)) ∙ ap (λ bytes. bit_of bytes (8 * 512 + k)) (written c) ∙ same
+    ∙ ap (λ bytes. bit_of bytes (8 * 512 + k)) c.joined-word.ensures ∙ bit_of-joined c.args.step.now c.args.parity.now 512 k c.requires.whole

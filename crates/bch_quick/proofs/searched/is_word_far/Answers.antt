@@ -16,8 +16,8 @@ returns c = λ far.
     let bytes = step ++ parity in
     let w = step_and_parity t step parity in
     let len = c.requires.room in
-    let room : 8 * 512 + 13 * t ≤ 8 * length bytes = omega (arith, length-append step parity, c.told-step) in
-    let e : word_of (code_over 13 0x201b t 512) bytes ≡ w = word_of-joined 13 0x201b t 512 step parity c.told-step in
+    let room : 8 * 512 + 13 * t ≤ 8 * length bytes = omega (arith, length-append step parity, c.requires.whole) in
+    let e : word_of (code_over 13 0x201b t 512) bytes ≡ w = word_of-joined 13 0x201b t 512 step parity c.requires.whole in
     let bits = subst AreBits e (AreBits-word_of 13 0x201b primitive_13 t 512 bytes room) in
     let long = ap length (sym e) ∙ length-word_of 13 0x201b primitive_13 t 512 bytes room in
     none_near 13 0x201b primitive_13 t 512 w

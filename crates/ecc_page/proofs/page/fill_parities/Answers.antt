@@ -27,8 +27,7 @@ loop-s-preserved c =
     let high : (s + 1) * e ≤ length c.loop-s.parities = (let inside = parity-inside g s below in let l = c.loop-s.auto.parities in let r = c.requires.parities in omega arith) in
     let low : s * e ≤ (s + 1) * e = omega arith in
     let count : (s + 1) * e - s * e ≡ e = omega arith in
-    let new : c.encode_step.new.out ≡ parity_stored g.t (step_body g c.args.body.now s) = c.encode_step.ensures
-    ∙ ap (parity_stored g.t) c.step_at-step.ensures in
+    let new : c.encode_step.new.out ≡ parity_stored g.t (step_body g c.args.body.now s) = c.encode_step.ensures in
     let long : length c.encode_step.new.out ≡ (s + 1) * e - s * e = ap length new ∙ length-parity_stored g.t (step_body g c.args.body.now s) ∙ sym count in
     ap (λ n. take ((s + 1) * e) (put_mid (s * n) ((s + 1) * n - s * n) c.loop-s.parities c.encode_step.new.out)) c.parity_len-len.ensures
     ∙ part_done c.loop-s.parities c.encode_step.new.out (done s) (s * e) ((s + 1) * e) low high long c.loop-s.invariant

@@ -10,7 +10,8 @@ use Rattle.bch_solver.specs.Words.{code_over, word_of}
 use Rattle.bch_solver.proofs.BitsLemmas.{word_of-joined, bit_of-joined}
 use Rattle.bch_decode.specs.Answers.{step_and_parity}
 use Rattle.bch_decode.specs.declared.decoder.Decoded.TheVariants.{Corrected}
-use Rattle.bch_quick.proofs.decoder.decode_quick.Goals as goal
+use Rattle.bch_quick.proofs.Nearest.{step_and_parity-long, nearest_only}
+use Rattle.bch_quick.proofs.decoder.decode_wrong.Goals as goal
 
 -- the word that was copied in
 word_before : (t : ℕ) (bytes step parity : List ℕ) → length step ≡ 512 → bytes ≡ step ++ parity → word_of (code_over 13 0x201b t 512) bytes ≡ step_and_parity t step parity
@@ -24,42 +25,27 @@ nearest_as : (t : ℕ) (w w' c c' : List ℕ) (d : ℕ) → w ≡ w' → c ≡ c
 nearest_as t w w' c c' d ew ec h = subst (λ (v : List ℕ). IsNearest (code_512 t) w' v d) ec (subst (λ (v : List ℕ). IsNearest (code_512 t) v c d) ew h)
 
 -- the bytes of step and parity at the end
-written : (c : goal.After-slice_known-in-Ok-1) → c.part.new.step ++ c.part.new.parity ≡ c.decode_guessed.new.word
+written : (c : goal.After-slice_known-in-Ok-2-1) → c.part.new.step ++ c.part.new.parity ≡ c.decode_guessed.new.word
 written c =
     copied_back c.decode_guessed.new.word _ (c.part.new.step ++ c.part.new.parity) (512 + length c.args.parity.now)
-    (c.decode_guessed.auto.word ∙ ap length c.joined-word.ensures ∙ length-append c.args.step.now c.args.parity.now ∙ ap (λ n. n + length c.args.parity.now) c.told-step) c.part.ensures
+    (c.decode_guessed.auto.word ∙ ap length c.joined-word.ensures ∙ length-append c.args.step.now c.args.parity.now ∙ ap (λ n. n + length c.args.parity.now) c.requires.whole) c.part.ensures
 
 pub returns-in-Ok-clause-decodes : goal.returns-in-Ok-clause-decodes
 returns-in-Ok-clause-decodes c =
-    let before = word_before c.args.t _ c.args.step.now c.args.parity.now c.told-step c.joined-word.ensures in
-    let after = word_before c.args.t c.decode_guessed.new.word c.part.new.step c.part.new.parity c.part.array_long (sym (written c)) in
+    let before = word_before c.args.t _ c.args.step.now c.args.parity.now c.requires.whole c.joined-word.ensures in
+    let after = word_before c.args.t c.decode_guessed.new.word c.part.new.step c.part.new.parity (c.part.auto.step ∙ c.requires.whole) (sym (written c)) in
     nearest_as c.args.t _ _ _ _ c.in-Ok.wrong before after c.in-Ok.ensures.nearest
-
--- the bits of a word
-step_and_parity-long : (t : ℕ) (step parity : List ℕ) → length step ≡ 512 → 13 * t ≤ 8 * length parity → length (step_and_parity t step parity) ≡ 4096 + 13 * t
-step_and_parity-long t step parity len room =
-    let first = length-bits_of step in
-    let all = length-bits_of parity in
-    let last : length (take (13 * t) (bits_of parity)) ≡ 13 * t = length-take-le (13 * t) (bits_of parity) (omega arith) in
-    length-append (bits_of step) (take (13 * t) (bits_of parity)) ∙ omega arith
-
--- a nearest code word is the only one
-nearest_only : (t : ℕ) (w c v : List ℕ) (d n : ℕ) → t ≤ 16 → length w ≡ 4096 + 13 * t → IsNearest (code_512 t) w c d → IsNearest (code_512 t) w v n → (d ≡ n) × (c ≡ v)
-nearest_only t w c v d n few long x y =
-    let same : c ≡ v = near_code_words-equal (code_512 t) (code_512-bch t few) w c v long x.word y.word
-    (let h = x.near in let k = x.apart in omega arith) (let h = y.near in let k = y.apart in omega arith) in
-    (sym x.apart ∙ ap (distance w) same ∙ y.apart, same)
 
 pub returns-in-Ok-clause-finds : goal.returns-in-Ok-clause-finds
 returns-in-Ok-clause-finds c = λ word n nearest.
     let t = c.args.t in
     let room = c.requires.room in
-    let long = step_and_parity-long t c.args.step.now c.args.parity.now c.told-step (omega arith) in
+    let long = step_and_parity-long t c.args.step.now c.args.parity.now c.requires.whole (omega arith) in
     let only = nearest_only t _ _ _ _ _ c.requires.strength.1 long (returns-in-Ok-clause-decodes c) nearest in
     (ap Corrected only.0, only.1)
 
 pub returns-in-Ok-clause-padding : goal.returns-in-Ok-clause-padding
 returns-in-Ok-clause-padding c = λ k h.
     let same = c.in-Ok.ensures.padding (8 * 512 + k) (omega arith) in
-    sym (bit_of-joined c.part.new.step c.part.new.parity 512 k c.part.array_long) ∙ ap (λ bytes. bit_of bytes (8 * 512 + k)) (written c) ∙ same
-    ∙ ap (λ bytes. bit_of bytes (8 * 512 + k)) c.joined-word.ensures ∙ bit_of-joined c.args.step.now c.args.parity.now 512 k c.told-step
+    sym (bit_of-joined c.part.new.step c.part.new.parity 512 k (c.part.auto.step ∙ c.requires.whole)) ∙ ap (λ bytes. bit_of bytes (8 * 512 + k)) (written c) ∙ same
+    ∙ ap (λ bytes. bit_of bytes (8 * 512 + k)) c.joined-word.ensures ∙ bit_of-joined c.args.step.now c.args.parity.now 512 k c.requires.whole
