@@ -91,9 +91,9 @@ AreTrueHistories plan courses =
     (c : ℕ) (chips : List ChipPlan) (own : List (Course SimFaults)) →
     slice_get plan.controllers c ≡ Some chips → slice_get courses c ≡ Some own → IsTrueHistory plan c chips own
 
--- (Not proved yet.) The third part: after any cut, rescanning shows bad what was acknowledged, and
--- nothing whose marking had not begun; and at each moment of each boot one whole copy of a table
--- stays, and two whole copies hold the table in memory.
+-- (Not proved yet of plans.) The third part: after any cut, rescanning shows bad what was
+-- acknowledged, and nothing whose marking had not begun; and at each moment of each boot one whole
+-- copy of a table stays, and two whole copies hold the table in memory.
 pub record KeepsMarks (plan : PlanData) (c : ℕ) (chips : List ChipPlan) (own : List (Course SimFaults)) : Type 0 where
   pub marks : (k : ℕ) (chip : ChipPlan) → slice_get chips k ≡ Some chip
       → MarksSurvive (devices_of plan c chips) k chip.geometry chip.bad own
@@ -105,7 +105,7 @@ pub record KeepsMarks (plan : PlanData) (c : ℕ) (chips : List ChipPlan) (own :
       → WholeCopiesHoldTheTable sim_faults k chip.geometry chip.bad (take n own) boot
       (starts_at (new_chips chips) own n)
 
--- (Not proved yet.) The same of each controller.
+-- (Not proved yet of plans.) The same of each controller.
 abbrev pub KeepMarks : PlanData → Courses → Type 0
 KeepMarks plan courses =
     (c : ℕ) (chips : List ChipPlan) (own : List (Course SimFaults)) →

@@ -227,7 +227,7 @@ pub record IsFairAndQuietNow {W : Type 0} (k : ℕ) (past : List (Course W)) (co
   pub so_far : IsFairAndQuiet k (past ++ course ∷ [])
   pub now : IsTrue (is_quiet c.chip.geometry c.chip.pages)
 
--- (Not proved yet.) In a boot that comes after these courses of a run of new chips: once an attach
+-- In a boot that comes after these courses of a run of new chips: once an attach
 -- would use a copy of a chip with tables, at each later moment the copies agree, a block of its
 -- last four that is not being changed holds a copy that an attach would find, and the newest copy
 -- that it would find has every acknowledged mark. The first moment of a boot is the last one of the
@@ -244,7 +244,7 @@ OneCopyStays {W} model k g factory_bad past boot starts =
     ∷ [])
     (block_in_change boot.partitions (course_after model boot starts (attaches + more) (turns ++ later)) now)
 
--- (Not proved yet.) In such a boot: while a chip with tables is attached, nothing is pending on it
+-- In such a boot: while a chip with tables is attached, nothing is pending on it
 -- and its whole copies are two, both places hold the table in memory.
 abbrev pub WholeCopiesHoldTheTable : {W : Type 0} → FaultModel W → ℕ → Geometry → List ℕ → List (Course W) → Boot
     → List (ChipState W) → Type 0

@@ -1,5 +1,5 @@
--- Marks that outlive cuts, said of one chip by its own notes and of any done bits: a cut of a course
--- has a tear of a plan, a chip's own trace may be cut with any bits done.
+-- Marks that outlive cuts, said of one chip by its own notes and of any done bits: a cut of a
+-- course has a tear of a plan, a chip's own trace may be cut with any bits done.
 use Rattle.std.specs.Prelude.{◌≡◌, true, ℕ, List, [], ◌∷◌, ◌++◌, length, map, IsTrue, Some, ⊤, All}
 use Rattle.nand_model.specs.Chip.{ChipState, FaultModel, sim_faults, new_chip, after_trace}
 use Rattle.nand_model.specs.Partitions.{Partitions}
@@ -13,7 +13,8 @@ use Rattle.nand_model.specs.declared.words.Op.{Op}
 use Rattle.nand_model.specs.declared.words.Op.TheVariants.{Write}
 use Rattle.nand_model.specs.declared.words.Weak.{Weak}
 
--- a write has a body of one page: a longer or shorter one could shift a byte of parity onto the marker
+-- a write has a body of one page: a longer or shorter one could shift a byte of parity onto the
+-- marker
 abbrev pub WritesAPage : Geometry → Op → Type 0
 WritesAPage g (Write dev page body free) = length body ≡ g.page
 WritesAPage g _ = ⊤
@@ -23,9 +24,9 @@ abbrev pub AllWritePages : Geometry → List ChipBoot → Type 0
 AllWritePages g life =
     All (λ (b : ChipBoot). All (λ (operation : OperationTrace). WritesAPage g operation.op) b.operations) life
 
--- as far as the attaches of a chip were quiet and its torn events fair: each attach that came to its
--- end shows the marks of the boots before it. The notes are those of the chip alone, a list for each
--- boot: among them an answer is that of the operation which began last
+-- as far as the attaches of a chip were quiet and its torn events fair: each attach that came to
+-- its end shows the marks of the boots before it. The notes are those of the chip alone, a list for
+-- each boot: among them an answer is that of the operation which began last
 abbrev pub LifeShowsMarks : {W : Type 0} → FaultModel W → Partitions → ℕ → Geometry → List ℕ → ChipState W
     → List ChipBoot
     → List (List Note) → (before : List (List Note)) → Type 0
@@ -37,7 +38,7 @@ LifeShowsMarks model partitions k g factory_bad s (b ∷ bs) (notes ∷ more) be
     LifeShowsMarks model partitions k g factory_bad (after_trace model s (trace_of b)) bs more (before ++ notes ∷ []))
 LifeShowsMarks model partitions k g factory_bad s _ _ before = ⊤
 
--- (Not proved yet.) The marks outlive cuts in every life of a new chip, whatever the done bits of
+-- The marks outlive cuts in every life of a new chip, whatever the done bits of
 -- each cut, by the notes that are of this chip.
 abbrev pub MarksOutliveCuts : Partitions → ℕ → Geometry → List ℕ → List Weak → Type 0
 MarksOutliveCuts partitions k g factory_bad weak =
