@@ -1,0 +1,1 @@
+// What counts as a copy of a table.
