@@ -1,6 +1,7 @@
 // The header of a table's page: four bytes of pattern, then the version.
-ghost use Rattle.std.specs.Prelude.{◌≡◌, ◌≤◌, ◌+◌, [], ◌∷◌, ◌++◌, length};
-ghost use Rattle.nand_model.specs.Table.{header_at, pattern, table_at, which_of};
+ghost use Rattle.std.specs.Prelude.{◌≡◌, ◌≤◌, ◌+◌, ◌/◌, [], ◌∷◌, ◌++◌, length, slice_index, slice_range};
+ghost use Rattle.nand_model.specs.Sizes.{raw_len};
+ghost use Rattle.nand_model.specs.Table.{header_at, kind_in, pattern, table_at, which_of};
 
 use nand_model::{Geometry, Which};
 
@@ -24,7 +25,7 @@ pub(crate) fn put_header(which: Which, version: u8, out: &mut [u8])
 }
 
 // The copy whose pattern these four bytes are.
-pub(crate) fn which_of(bytes: &[u8]) -> Option<Which>
+fn which_of(bytes: &[u8]) -> Option<Which>
     ensures { result ≡ which_of bytes.now }
 {
     if bytes == &pattern(Which::Primary)[..] {
@@ -37,16 +38,44 @@ pub(crate) fn which_of(bytes: &[u8]) -> Option<Which>
 }
 
 // Where the header stands in a page.
-pub(crate) fn header_at(g: &Geometry) -> usize
+fn header_at(g: &Geometry) -> usize
     ensures place { result ≡ header_at g.now }
-    ensures within { result + 5 ≤ g.now.page + g.now.spare }
+    ensures within { result + 5 ≤ raw_len g.now }
 {
     if g.bbt == 1 { g.page as usize + 8 } else { 0 }
 }
 
-// Where the states stand in a page.
-pub(crate) fn table_at(g: &Geometry) -> usize
-    ensures { result ≡ table_at g.now }
+// The copy that the header of a page names.
+pub(crate) fn kind_in(g: &Geometry, image: &[u8]) -> Option<Which>
+    requires { length image.now ≡ raw_len g.now }
+    ensures { result ≡ kind_in g.now image.now }
+{
+    let start = header_at(g);
+    which_of(&image[start..start + 4])
+}
+
+// The version in the header of a page.
+pub(crate) fn version_in(g: &Geometry, image: &[u8]) -> u8
+    requires { length image.now ≡ raw_len g.now }
+    ensures { result ≡ slice_index image.now (header_at g.now + 4) }
+{
+    image[header_at(g) + 4]
+}
+
+// Where the bytes of the table stand in a page.
+fn table_at(g: &Geometry) -> usize
+    ensures place { result ≡ table_at g.now }
+    ensures within { result + g.now.blocks / 4 ≤ g.now.page }
 {
     if g.bbt == 1 { 0 } else { 5 }
+}
+
+// The bytes of the table in a page.
+pub(crate) fn table_in<'a>(g: &Geometry, image: &'a [u8]) -> &'a [u8]
+    requires { length image.now ≡ raw_len g.now }
+    ensures bytes { result.now ≡ slice_range image.now (table_at g.now) (table_at g.now + g.now.blocks / 4) }
+    ensures len { length result.now ≡ g.now.blocks / 4 }
+{
+    let start = table_at(g);
+    &image[start..start + (g.blocks / 4) as usize]
 }

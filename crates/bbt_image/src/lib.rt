@@ -9,7 +9,7 @@ mod image;
 mod states;
 mod versions;
 
-//pub use copies::take;
+pub use copies::take;
 pub use errors::NoCopy;
 pub use image::{put, put_encoded};
 pub use nand_model::{Choice, Which};
