@@ -1,32 +1,13 @@
 -- The page that has the first step of another one alone.
-use Rattle.std.proofs.Common.{◌≡◌, ℕ, suc, ◌+◌, ◌-◌, ◌*◌, ◌/◌, ◌<◌, ◌≤◌, ◌⊎◌, inl, inr, List, length, replicate, refl, sym, ap, ap₂, ◌∙◌, arith}
+use Rattle.std.proofs.Common.{◌≡◌, ℕ, ◌+◌, ◌*◌, ◌≤◌, List, length, replicate, sym, ap, ap₂, ◌∙◌, arith}
 use Rattle.std.specs.Prelude.{slice_range}
 use Rattle.std.proofs.Math.Nat.{mul-le-mul_right}
 use Rattle.std.proofs.lemmas.List.{length-replicate}
-use Rattle.nand_model.specs.Page.{step_body, stored_parity}
 use Rattle.nand_model.specs.Sizes.{parity_bytes, parity_start, raw_len, step_count}
 use Rattle.nand_model.specs.declared.geometry.Geometry.{Geometry}
-use Rattle.nand_model.proofs.Bounds.{bounds}
 use Rattle.bbt_image.specs.FirstStep.{HasFirstStepAlone}
+use Rattle.bbt_image.proofs.Pages.{first_parity, page-low, page-steps, parities-end}
 use Rattle.bbt_image.proofs.Parts.{overlaid, part_there, part_before, part_behind, overlaid-long, part_of_same}
-
-whole_steps : (page spare : ℕ) → ((page ≡ 2048) × (spare ≡ 64)) ⊎ (((page ≡ 4096) × (spare ≡ 128)) ⊎ ((page ≡ 4096) × (spare ≡ 224)))
-    → (page ≡ 512 * (page / 512)) × (2048 ≤ page)
-whole_steps page spare (inl e) = let p = e.0 in (omega arith, omega arith)
-whole_steps page spare (inr (inl e)) = let p = e.0 in (omega arith, omega arith)
-whole_steps page spare (inr (inr e)) = let p = e.0 in (omega arith, omega arith)
-
-parities_end : (g : Geometry) → parity_start g + step_count g * parity_bytes g ≡ g.spare
-parities_end g = let room = (bounds g).room in omega arith
-
--- the first parity is within the page
-pub first_parity : (g : Geometry) → g.page + parity_start g + parity_bytes g ≤ raw_len g
-first_parity g =
-    let end = parities_end g in
-    let whole = whole_steps g.page g.spare (bounds g).pages in
-    let some : 1 ≤ step_count g = omega (arith, whole.0, whole.1) in
-    let one = mul-le-mul_right (parity_bytes g) some in
-    omega arith
 
 -- a page of 0xFF with the first step and its parity of another page
 pub alone_has : (g : Geometry) (image erased alone : List ℕ) (start end : ℕ) → length image ≡ raw_len g → erased ≡ replicate (raw_len g) 0xff
@@ -37,10 +18,9 @@ alone_has g image erased alone start end long empty first last made =
     let e = parity_bytes g in
     let p = g.page + parity_start g in
     let steps = step_count g in
-    let whole = whole_steps g.page g.spare (bounds g).pages in
-    let whole_page = whole.0 in
-    let low = whole.1 in
-    let rest = parities_end g in
+    let whole_page = page-steps g in
+    let low = page-low g in
+    let rest = parities-end g in
     let inside = first_parity g in
     let with_body = overlaid erased image 0 512 in
     let erased_long : length erased ≡ length image = ap length empty ∙ length-replicate (raw_len g) 0xff ∙ sym long in

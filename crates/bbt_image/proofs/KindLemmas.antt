@@ -1,16 +1,16 @@
 -- The copy in a page, by the place of its header.
-use Rattle.std.proofs.Common.{◌≡◌, ◌≢◌, ◌↔◌, ◌+◌, ◌/◌, ℕ, Bool, true, false, List, Option, Some, None, Ok, Err, Result, refl, sym, ap, ◌∙◌}
+use Rattle.std.proofs.Common.{◌≡◌, ◌≢◌, ◌+◌, ◌/◌, ℕ, Bool, true, false, List, Option, Some, None, Ok, Err, refl, ap, ap₂, ◌∙◌}
 use Rattle.std.specs.Prelude.{◌==◌, ◌&&◌, is_some, is_none, slice_index, slice_range}
 use Rattle.std.proofs.lemmas.Bool.{false≢true}
 use Rattle.std.proofs.lemmas.Bool.Decides.{eqb_tells}
-use Rattle.std.proofs.Common.{◌⊎◌, inl, inr}
+use Rattle.std.proofs.Common.{inl, inr}
 use Rattle.nand_model.specs.Page.{Decoding, decoded, step_read}
-use Rattle.nand_model.specs.Table.{Copy, copy_if, copy_in, copy_of_kind, copy_under, has_no_pattern, header_at, kind_in, states_in, table_at}
+use Rattle.nand_model.specs.Table.{copy_if, copy_in, copy_of_kind, copy_under, has_no_pattern, header_at, kind_in, states_in, table_at}
 use Rattle.nand_model.specs.declared.geometry.Geometry.{Geometry}
 use Rattle.nand_model.specs.declared.words.Which.{Which}
 use Rattle.bbt_image.specs.declared.errors.NoCopy.{NoCopy}
 use Rattle.bbt_image.specs.declared.errors.NoCopy.TheVariants.{NoPattern, Unreadable}
-use Rattle.bbt_image.specs.Taking.{HasNoPattern, TellsKind}
+use Rattle.bbt_image.specs.Taking.{HasNoPattern, IsUnreadable, TellsKind}
 
 pub eqb_same : (a b : ℕ) → a ≡ b → (a == b) ≡ true
 eqb_same a b e = elim (eqb_tells a b) [ inl h ↦ h.0 | inr h ↦ absurd (h.1 e) ]
@@ -39,33 +39,27 @@ none_in_body : (g : Geometry) (cells : List ℕ) → g.bbt ≢ 1
     → has_no_pattern (g.bbt == 1) g cells ≡ (is_some (step_read g cells 0).corrected && is_none (kind_in g (decoded g cells).image))
 none_in_body g cells e = ap (λ (t : Bool). has_no_pattern t g cells) (eqb_other g.bbt 1 e)
 
--- the header stands in the spare: a pattern, and a step that failed
+-- a pattern, and a step that failed
 pub spare_failed : (g : Geometry) (cells : List ℕ) (which : Which) → g.bbt ≡ 1 → kind_in g cells ≡ Some which → (decoded g cells).failed ≢ 0
-    → TellsKind g cells (Err Unreadable)
-spare_failed g cells which e kind failed =
-    (in_spare g cells e ∙ ap (copy_under g cells) kind ∙ copy_failed g (decoded g cells) which failed,
-    none_in_spare g cells e ∙ ap (λ (k : Option Which). is_none k) kind)
+    → IsUnreadable g cells
+spare_failed g cells which e kind failed = (none_in_spare g cells e ∙ ap (λ (k : Option Which). is_none k) kind, failed)
 
--- the header stands in the body: a pattern, and a step that failed
+-- whether there is no pattern, by the first step and by the header
+first_and_kind : (g : Geometry) (cells : List ℕ) (first : Bool) (kind : Option Which) → g.bbt ≢ 1
+    → is_some (step_read g cells 0).corrected ≡ first → kind_in g (decoded g cells).image ≡ kind
+    → has_no_pattern (g.bbt == 1) g cells ≡ (first && is_none kind)
+first_and_kind g cells first kind e ef ek = none_in_body g cells e ∙ ap₂ (λ (t : Bool) (k : Option Which). t && is_none k) ef ek
+
+-- a pattern, and a step that failed
 pub body_failed : (g : Geometry) (cells : List ℕ) (which : Which) → g.bbt ≢ 1 → kind_in g (decoded g cells).image ≡ Some which → (decoded g cells).failed ≢ 0
-    → TellsKind g cells (Err Unreadable)
+    → IsUnreadable g cells
 body_failed g cells which e kind failed =
-    (in_body g cells e ∙ ap (copy_of_kind g (decoded g cells)) kind ∙ copy_failed g (decoded g cells) which failed,
-    none_in_body g cells e ∙ ap (λ (k : Option Which). is_some (step_read g cells 0).corrected && is_none k) kind ∙ and_false (is_some (step_read g cells 0).corrected))
+    (first_and_kind g cells (is_some (step_read g cells 0).corrected) (Some which) e refl kind ∙ and_false (is_some (step_read g cells 0).corrected), failed)
 
 -- no pattern in a first step that can be decoded
 pub body_none : (g : Geometry) (cells : List ℕ) → g.bbt ≢ 1 → kind_in g (decoded g cells).image ≡ None → is_some (step_read g cells 0).corrected ≡ true
-    → TellsKind g cells (Err NoPattern)
-body_none g cells e kind first =
-    (in_body g cells e ∙ ap (copy_of_kind g (decoded g cells)) kind,
-    none_in_body g cells e ∙ ap (λ (k : Option Which). is_some (step_read g cells 0).corrected && is_none k) kind ∙ ap (λ (t : Bool). t && true) first)
-
--- no pattern, and a first step that failed
-pub body_unreadable : (g : Geometry) (cells : List ℕ) → g.bbt ≢ 1 → kind_in g (decoded g cells).image ≡ None → is_some (step_read g cells 0).corrected ≡ false
-    → TellsKind g cells (Err Unreadable)
-body_unreadable g cells e kind first =
-    (in_body g cells e ∙ ap (copy_of_kind g (decoded g cells)) kind,
-    none_in_body g cells e ∙ ap (λ (k : Option Which). is_some (step_read g cells 0).corrected && is_none k) kind ∙ ap (λ (t : Bool). t && true) first)
+    → HasNoPattern g cells
+body_none g cells e kind first = first_and_kind g cells true None e first kind
 
 kind_none : (k : Option Which) → is_none k ≡ true → k ≡ None
 kind_none None h = refl
@@ -82,6 +76,24 @@ no_pattern_none false g cells h =
     ap (copy_of_kind g (decoded g cells))
     (kind_none (kind_in g (decoded g cells).image) (second (is_some (step_read g cells 0).corrected) (is_none (kind_in g (decoded g cells).image)) h))
 
+-- nor does a page of which a step failed
+kind_failed : (g : Geometry) (d : Decoding) (kind : Option Which) → d.failed ≢ 0 → copy_of_kind g d kind ≡ None
+kind_failed g d None h = refl
+kind_failed g d (Some which) h = copy_failed g d which h
+
+under_failed : (g : Geometry) (cells : List ℕ) (kind : Option Which) → (decoded g cells).failed ≢ 0 → copy_under g cells kind ≡ None
+under_failed g cells None h = refl
+under_failed g cells (Some which) h = copy_failed g (decoded g cells) which h
+
+failed_none : (t : Bool) (g : Geometry) (cells : List ℕ) → (decoded g cells).failed ≢ 0 → copy_if t g cells ≡ None
+failed_none true g cells h = under_failed g cells (kind_in g cells) h
+failed_none false g cells h = kind_failed g (decoded g cells) (kind_in g (decoded g cells).image) h
+
+-- where a page is refused it holds no copy
+pub refused_none : (g : Geometry) (cells : List ℕ) (why : NoCopy) → TellsKind g cells (Err why) → copy_in g cells ≡ None
+refused_none g cells NoPattern h = no_pattern_none (g.bbt == 1) g cells h
+refused_none g cells Unreadable h = failed_none (g.bbt == 1) g cells h.1
+
 -- a page of a kind, of which no step failed, holds a copy
 copy_whole : (g : Geometry) (d : Decoding) (which : Which) → d.failed ≡ 0
     → copy_of_kind g d (Some which)
@@ -94,3 +106,7 @@ copy_has_pattern g cells which tells none =
     let held = tells.0 ∙ copy_whole g (decoded g cells) which tells.1 in
     let gone : copy_in g cells ≡ None = no_pattern_none (g.bbt == 1) g cells none in
     cc
+
+-- nor can a step of it have failed
+pub copy_readable : (g : Geometry) (cells : List ℕ) (which : Which) → TellsKind g cells (Ok which) → IsUnreadable g cells → ⊥
+copy_readable g cells which tells bad = bad.1 tells.1

@@ -1,8 +1,8 @@
 -- The bytes of a table one by one.
 use Rattle.std.proofs.Common.{◌≡◌, ℕ, zero, suc, ◌+◌, ◌-◌, ◌*◌, ◌/◌, ◌<◌, ◌≤◌, List, [], ◌∷◌, ◌++◌, length, take, drop, map, get_or, refl, sym, ap, ap₂, ◌∙◌, arith}
 use Rattle.std.specs.Prelude.{slice_index, slice_range}
-use Rattle.std.proofs.lemmas.List.{length-append, length-take-le, length-drop, take_at, take_more, take_more_set, take_all}
-use Rattle.nand_model.specs.Table.{entries_of, packed_bytes, state_read, states_in, table_bytes}
+use Rattle.std.proofs.lemmas.List.{length-append, length-take-le, length-drop, take_at, take_more, take_more_set}
+use Rattle.nand_model.specs.Table.{entries_of, state_read, states_in, table_bytes}
 
 pub length-table_bytes : (states : List ℕ) → length (table_bytes states) ≡ length states / 4
 length-table_bytes (a ∷ b ∷ c ∷ d ∷ states) = let rest = length-table_bytes states in omega arith

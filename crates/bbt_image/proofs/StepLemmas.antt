@@ -1,23 +1,26 @@
 -- The first step of a page by itself: steps that are erased can be decoded.
-use Rattle.std.proofs.Common.{◌≡◌, ℕ, zero, suc, ◌+◌, ◌-◌, ◌*◌, ◌/◌, ◌<◌, ◌≤◌, ◌⊎◌, inl, inr, Bool, true, false, cond, List, [], ◌∷◌, ◌++◌, Option, Some, None, length, take, drop, map, replicate, refl, sym, ap, ap₂, ◌∙◌, subst, arith}
-use Rattle.std.specs.Prelude.{◌==◌, count_by, is_none, is_some, slice_range}
+use Rattle.std.proofs.Common.{◌≡◌, ℕ, zero, suc, ◌+◌, ◌-◌, ◌*◌, ◌<◌, ◌≤◌, Bool, true, false, cond, List, ◌++◌, Option, Some, None, take, map, replicate, refl, sym, ap, ap₂, ◌∙◌, subst, arith}
+use Rattle.std.specs.Prelude.{◌==◌, count_by, is_none, is_some}
 use Rattle.std.proofs.lemmas.List.Sums.{sum_by-cons}
 use Rattle.code_model.specs.Bits.{bits_of}
 use Rattle.code_model.specs.Code.{code_512, IsCodeWord, IsNearest, masked, nearest, parity_len, parity_of}
-use Rattle.code_model.specs.Word.{distance}
 use Rattle.code_model.proofs.DistanceLemmas.{distance-same}
 use Rattle.code_model.proofs.NearestLemmas.{code_512-bch, decodes-nearest}
 use Rattle.code_model.proofs.ParityLemmas.{length-parity_of, masked-erased, masked-masked, parity-completes}
 use Rattle.std.proofs.lemmas.List.{length-replicate}
 use Rattle.nand_model.specs.Page.{StepRead, decoded, read_as, received_word, step_body, step_read, stored_parity}
-use Rattle.nand_model.specs.Sizes.{code_of, numbers_from, parity_bytes, step_count}
+use Rattle.nand_model.specs.Sizes.{numbers_from, step_count}
 use Rattle.nand_model.specs.declared.geometry.Geometry.{Geometry}
 use Rattle.nand_model.proofs.Bounds.{bounds}
 use Rattle.bbt_image.specs.FirstStep.{HasFirstStepAlone}
+use Rattle.bbt_image.proofs.Pages.{step_count-some}
 
 -- what is read of a body and its stored parity
 abbrev read_of : ℕ → List ℕ → List ℕ → StepRead
 read_of t body stored = read_as (code_512 t) body stored (nearest (code_512 t) (received_word (code_512 t) body stored))
+
+none : (t : ℕ) → 0 ≤ t
+none t = omega arith
 
 -- an erased step is a code word, and is read as it is
 erased_corrected : (t : ℕ) → t ≤ 16 → (read_of t (replicate 512 0xff) (replicate (parity_len (code_512 t)) 0xff)).corrected ≡ Some 0
@@ -31,8 +34,7 @@ erased_corrected t small =
     let whole : IsCodeWord code word =
     subst (λ (p : List ℕ). IsCodeWord code (bits_of body ++ take (13 * t) (bits_of p))) (sym parity)
     (parity-completes code (code_512-bch t small) body (length-replicate {A = ℕ} 512 0xff)) in
-    let none : 0 ≤ t = omega arith in
-    let near : IsNearest code word word 0 = record { word = whole; apart = distance-same word; near = none } in
+    let near : IsNearest code word word 0 = record { word = whole; apart = distance-same word; near = none t } in
     let answer : Some (word, 0) ≡ nearest code word = decodes-nearest code (code_512-bch t small) word (Some (word, 0)) whole.bits whole.long near in
     ap (λ (o : Option (List ℕ × ℕ)). (read_as code body stored o).corrected) (sym answer)
 
@@ -55,14 +57,6 @@ failed_parts : (f : ℕ → StepRead) (n later : ℕ) → n ≡ suc later
 failed_parts f n later e =
     ap (λ k. count_by (λ (r : StepRead). is_none r.corrected) (map f (numbers_from 0 k))) e
     ∙ sum_by-cons (λ (r : StepRead). cond (is_none r.corrected) 1 0) (f 0) (map f (numbers_from 1 later))
-
-some_steps : (page spare : ℕ) → ((page ≡ 2048) × (spare ≡ 64)) ⊎ (((page ≡ 4096) × (spare ≡ 128)) ⊎ ((page ≡ 4096) × (spare ≡ 224))) → 0 < page / 512
-some_steps page spare (inl e) = let p = e.0 in omega arith
-some_steps page spare (inr (inl e)) = let p = e.0 in omega arith
-some_steps page spare (inr (inr e)) = let p = e.0 in omega arith
-
-pub step_count-some : (g : Geometry) → 0 < step_count g
-step_count-some g = some_steps g.page g.spare (bounds g).pages
 
 readable : (o : Option ℕ) (rest : ℕ) → cond (is_none o) 1 0 + rest ≡ 0 → is_some o ≡ true
 readable (Some n) rest e = refl

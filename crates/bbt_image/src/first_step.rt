@@ -1,4 +1,5 @@
-// The first step of a page by itself: a page's code tells how many steps of a page fail, and not which.
+// The first step of a page by itself: a page's code tells how many steps of a page fail, and not
+// which.
 ghost use Rattle.std.specs.Prelude.{◌≡◌, ◌≤◌, ℕ, List, ◌++◌, length, take, drop, slice_range, is_some};
 ghost use Rattle.nand_model.specs.Page.{step_read};
 ghost use Rattle.nand_model.specs.Sizes.{raw_len};
@@ -21,7 +22,8 @@ pub(crate) fn put_first_step(g: &Geometry, image: &[u8], alone: &mut [u8])
     copy_part(image, alone, start, end);
 }
 
-// Copies the bytes from `start` up to but not including `end` of a page to the same place of another one.
+// Copies the bytes from `start` up to but not including `end` of a page to the same place of another
+// one.
 fn copy_part(from: &[u8], to: &mut [u8], start: usize, end: usize)
     requires order { start ≤ end }
     requires within { end ≤ length from.now }

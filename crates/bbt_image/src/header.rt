@@ -73,7 +73,8 @@ fn table_at(g: &Geometry) -> usize
 // The bytes of the table in a page.
 pub(crate) fn table_in<'a>(g: &Geometry, image: &'a [u8]) -> &'a [u8]
     requires { length image.now ≡ raw_len g.now }
-    ensures bytes { result.now ≡ slice_range image.now (table_at g.now) (table_at g.now + g.now.blocks / 4) }
+    ensures bytes { result.now
+        ≡ slice_range image.now (table_at g.now) (table_at g.now + g.now.blocks / 4) }
     ensures len { length result.now ≡ g.now.blocks / 4 }
 {
     let start = table_at(g);

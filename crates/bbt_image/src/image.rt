@@ -1,5 +1,5 @@
 // What is written for a table.
-ghost use Rattle.std.specs.Prelude.{◌≡◌, ◌≤◌, ◌<◌, ◌+◌, ◌-◌, ◌/◌, [], ◌∷◌, ◌++◌, length, replicate, true};
+ghost use Rattle.std.specs.Prelude.{◌≡◌, ◌≤◌, ◌+◌, ◌/◌, [], ◌∷◌, ◌++◌, length, replicate, true};
 ghost use Rattle.nand_model.specs.Sizes.{raw_len};
 ghost use Rattle.nand_model.specs.Table.{has_tables, padded, pattern, table_bytes, table_layout, table_page};
 
@@ -9,9 +9,11 @@ use bbt_ram::BlockTable;
 use nand_iface::PageCode;
 use nand_model::{Geometry, Which};
 
-/// Writes the page of a table before its parities: the states, the pattern of this copy and its version in their places, and 0xFF in all other bytes.
+/// Writes the page of a table before its parities: the states, the pattern of this copy and its
+/// version in their places, and 0xFF in all other bytes.
 ///
-/// The header stands in the spare (`bbt` 1) or at the head of the body (`bbt` 2). Reserved blocks are written as good ones. The page has `raw_len` bytes. It takes no memory.
+/// The header stands in the spare (`bbt` 1) or at the head of the body (`bbt` 2). Reserved blocks
+/// are written as good ones. The page has `raw_len` bytes. No memory is taken.
 pub fn put(g: &Geometry, which: Which, version: u8, table: &BlockTable, image: &mut [u8])
     requires tables { has_tables g.now ≡ true }
     requires whole { length image.old ≡ raw_len g.now }
@@ -28,7 +30,7 @@ pub fn put(g: &Geometry, which: Which, version: u8, table: &BlockTable, image: &
     }
 }
 
-/// Writes the whole page of a table, with its parities.
+/// Writes the page of a table with its parities, as it is programmed. No memory is taken.
 pub fn put_encoded<C: PageCode>(
     g: &Geometry,
     code: &C,
@@ -49,7 +51,8 @@ pub fn put_encoded<C: PageCode>(
 // Writes a header into bytes 8 to 12 of the spare, and 0xFF into all others.
 fn put_spare_header(which: Which, version: u8, spare: &mut [u8])
     requires { 13 ≤ length spare.old }
-    ensures { spare.new ≡ padded (length spare.old) (replicate 8 0xff ++ pattern which ++ version ∷ []) }
+    ensures { spare.new
+        ≡ padded (length spare.old) (replicate 8 0xff ++ pattern which ++ version ∷ []) }
 {
     spare.fill(0xff);
     put_header(which, version, &mut spare[8..13]);
@@ -58,7 +61,8 @@ fn put_spare_header(which: Which, version: u8, spare: &mut [u8])
 // Writes a header, the states behind it, and 0xFF behind these.
 fn put_body(which: Which, version: u8, table: &BlockTable, body: &mut [u8])
     requires { length table.now / 4 + 5 ≤ length body.old }
-    ensures { body.new ≡ padded (length body.old) (pattern which ++ (version ∷ []) ++ table_bytes table.now) }
+    ensures { body.new
+        ≡ padded (length body.old) (pattern which ++ (version ∷ []) ++ table_bytes table.now) }
 {
     let (header, states) = body.split_at_mut(5);
     put_header(which, version, header);

@@ -1,4 +1,5 @@
-//! The pages of bad-block tables on flash: what is written, what counts as a copy, and which of two copies is used (nand_bbt).
+//! The pages of bad-block tables on flash: what is written, what counts as a copy, and which of two
+//! copies is used (nand_bbt).
 #![tactic(auto)]
 
 mod copies;
@@ -7,6 +8,8 @@ mod first_step;
 mod header;
 mod image;
 mod states;
+#[cfg(test)]
+mod tests;
 mod versions;
 
 pub use copies::take;

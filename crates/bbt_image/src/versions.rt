@@ -4,10 +4,12 @@ ghost use Rattle.chip_paths.specs.Copies.{choice_of, is_newer};
 
 use nand_model::Choice;
 
-/// Tells which copy of a table is used, by the versions of the copies that were found, and whether the other one is written again.
+/// Tells which copy of a table is used, by the versions of the copies that were found, and whether
+/// the other one is written again.
 ///
-/// It is the newer one, the primary where both are equal: the difference of the versions counts as a signed 8-bit number (nand_bbt). The other copy is written again
-/// unless it has the same version. `Neither` comes exactly where no copy was found. It takes no memory.
+/// It is the newer one, the primary where both are equal: the difference of the versions counts as
+/// a signed 8-bit number (nand_bbt). The other copy is written again unless it has the same
+/// version. `Neither` comes exactly where no copy was found. No memory is taken.
 pub fn choose(primary: Option<u8>, mirror: Option<u8>) -> Choice
     ensures { result ≡ choice_of primary mirror }
 {

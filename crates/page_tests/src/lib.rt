@@ -1,6 +1,8 @@
-//! Tests of the code of a page and of the operations of one page event together, at a simulated
-//! chip.
+//! Tests of the code of a page, of the operations of one page event and of the pages of tables
+//! together, at a simulated chip.
 #![tactic(auto)]
 
+#[cfg(test)]
+mod tables;
 #[cfg(test)]
 mod tests;

@@ -1,6 +1,6 @@
-use Rattle.std.proofs.Common.{◌≡◌, ◌≢◌, true, false, Some, None, length, sym, ap, ◌∙◌}
+use Rattle.std.proofs.Common.{◌≡◌, true, sym, ap, ◌∙◌}
 use Rattle.std.specs.Prelude.{is_some}
-use Rattle.nand_model.specs.Page.{decoded, step_read}
+use Rattle.nand_model.specs.Page.{step_read}
 use Rattle.nand_model.specs.Table.{kind_in}
 use Rattle.bbt_image.proofs.KindLemmas.{body_failed, body_none}
 use Rattle.bbt_image.proofs.StepLemmas.{first_readable}

@@ -1,5 +1,6 @@
-use Rattle.std.proofs.Common.{◌+◌, length, replicate, ap, ap₂, ◌∙◌, arith}
-use Rattle.bbt_image.proofs.Alone.{alone_has, first_parity}
+use Rattle.std.proofs.Common.{◌+◌, replicate, ap, ◌∙◌, arith}
+use Rattle.bbt_image.proofs.Alone.{alone_has}
+use Rattle.bbt_image.proofs.Pages.{first_parity}
 use Rattle.bbt_image.proofs.Parts.{overlaid}
 use Rattle.bbt_image.proofs.first_step.put_first_step.Goals as goal
 

@@ -1,4 +1,4 @@
-use Rattle.std.proofs.Common.{◌≡◌, ◌+◌, ◌/◌, ◌≤◌, ◌++◌, ◌∷◌, [], length, replicate, ap, ap₂, sym, ◌∙◌, arith}
+use Rattle.std.proofs.Common.{◌≡◌, ◌++◌, ◌∷◌, [], length, replicate, ap, ap₂, sym, ◌∙◌, arith}
 use Rattle.nand_model.specs.Table.{padded, pattern, table_bytes}
 use Rattle.bbt_image.proofs.Pages.{body-long, layout_in_body}
 use Rattle.bbt_image.proofs.image.put.Goals as goal

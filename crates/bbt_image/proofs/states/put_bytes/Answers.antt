@@ -1,4 +1,4 @@
-use Rattle.std.proofs.Common.{length, sym, ◌∙◌, arith}
+use Rattle.std.proofs.Common.{sym, ◌∙◌, arith}
 use Rattle.std.proofs.lemmas.List.{take_all}
 use Rattle.nand_model.specs.Table.{table_bytes}
 use Rattle.bbt_image.proofs.StateBytes.{byte_more, length-table_bytes}
