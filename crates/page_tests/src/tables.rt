@@ -64,23 +64,23 @@ fn table_pages_with_parities(rt: HostRuntime) -> Result<(), Fail> {
             Which::Primary,
             1u8,
             2056usize,
-            *b"Bbt0\x01",
-            [0x1eu8, 0x57, 0xef, 0x7e, 0xf1, 0x03, 0x7f],
+            b"Bbt0\x01".as_slice(),
+            &[0x1eu8, 0x57, 0xef, 0x7e, 0xf1, 0x03, 0x7f][..],
         ),
         (
             2,
             Which::Mirror,
             128,
             0,
-            *b"1tbB\x80",
-            [0xb7, 0x63, 0x7c, 0x17, 0x02, 0xc5, 0xdf],
+            b"1tbB\x80".as_slice(),
+            &[0xb7, 0x63, 0x7c, 0x17, 0x02, 0xc5, 0xdf],
         ),
     ] {
         let g = Geometry::new(2048, 64, 64, 16, 4, bbt, 0)?;
         let mut image = [0u8; 2112];
         put_page(&g, Some((which, version)), &table, &mut image);
-        assert!(rt; image.get(header_at..header_at + 5) == Some(&header[..]));
-        assert!(rt; image.get(2084..2091) == Some(&parity[..]));
+        assert!(rt; image.get(header_at..header_at + 5) == Some(header));
+        assert!(rt; image.get(2084..2091) == Some(parity));
         assert!(rt; image.get(2091..2112) == Some(&[0xff; 21][..]));
     }
     Ok(())
