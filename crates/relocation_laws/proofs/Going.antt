@@ -3,8 +3,8 @@ use Rattle.std.proofs.Common.{◌≡◌, ◌≢◌, ◌⊎◌, inl, inr, ℕ, ze
 use Rattle.nand_model.specs.Sizes.{first_page}
 use Rattle.nand_model.specs.Table.{table_page, calls_bad}
 use Rattle.nand_model.specs.Chip.{ProgramEvent, EraseEvent}
-use Rattle.nand_model.specs.Path.{Answer, Good, Failed, Path, Then, either, is_good}
-use Rattle.chip_paths.specs.Writing.{place_of, marked, Writing, other_of, with_whole, count_if, after_good, after_event, moved, next_place, written_by, writing_step, writing_within, writing_path, most_events, with_retired, writing_after}
+use Rattle.nand_model.specs.Path.{Answer, Good, Failed, Path, Then, is_good}
+use Rattle.chip_paths.specs.Writing.{place_of, marked, Writing, other_of, with_whole, count_if, after_good, after_event, moved, next_place, written_by, writing_step, writing_within, writing_path, most_events, with_retired, event_once, writing_after}
 use Rattle.nand_model.specs.declared.geometry.Geometry.{Geometry}
 use Rattle.nand_model.specs.declared.words.Which.{Which}
 use Rattle.relocation_laws.specs.Shelves.{Held, Shelf, with_held, IsAside, TableLaws, IsBeneath, Rests, image_of, Pending, Keeps}
@@ -143,7 +143,7 @@ module _ {A : Type 0} (g : Geometry) (TB Fails : ℕ → Type 0) (Form Good_ : L
             (beneath-self TB Form Good_ Fresh w.table here img (p.places.inside which) p.writable.byte p.writable.form refl)
 
     one-step : (b : Bool) → w.erased ≡ b → Along (fresh_of b here) h
-        (either b (λ u. Then (ProgramEvent (first_page g here) (table_page g which w.version w.table)) rest) (λ u. Then (EraseEvent here) rest))
+        (Then (event_once b g w which) rest)
     one-step true e = program-step e
     one-step false e = erase-step e
 
