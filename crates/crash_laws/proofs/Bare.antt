@@ -20,8 +20,8 @@ use Rattle.nand_model.specs.declared.words.Op.TheVariants.{Read, Write, RawRead,
 use Rattle.nand_model.specs.declared.words.Reply.{Reply}
 use Rattle.nand_model.specs.declared.words.Reply.TheVariants.{Done, OutOfRange, BadBlock, MarkerByte, ProgramFailed, EraseFailed, MarkerFailed, Reserved, Copies, State, Counts}
 use Rattle.page_laws.specs.Keeping.{KeepsMarker, IsFairEvent}
-use Rattle.crash_laws.proofs.Markers0.{block_marked, BlockMark, block_flipped, block_erased, block_programmed, block_marked as marker_programmed, marked_keeps}
-use Rattle.relocation_laws.specs.Life.{block_in, NowAcked, NowBegun, FitsOp}
+use Rattle.crash_laws.proofs.Markers0.{BlockMark, block_flipped, block_erased, block_programmed, block_marked as marker_programmed, marked_keeps}
+use Rattle.relocation_laws.specs.Life.{block_in, block_marked, NowAcked, NowBegun, FitsOp}
 use Rattle.relocation_laws.specs.Keeping.{pages_after}
 use Rattle.relocation_laws.proofs.DataEvents.{with_page-apart}
 use Rattle.relocation_laws.proofs.Operations.{by-test as by_test, image-marked as image_marked}

@@ -15,8 +15,7 @@ use Rattle.nand_model.specs.declared.words.Reply.{Reply}
 use Rattle.run_model.specs.History.{LastChips, last_after, note_chip, is_chip, notes_of_chip_from}
 use Rattle.command_model.specs.Session.{Asked, Replied, exchange_in, exchanges_of, Alternate}
 use Rattle.run_model.specs.Marking.{is_mark_of, is_block_of, answer_in, marks_in}
-use Rattle.crash_laws.proofs.Markers0.{block_marked}
-use Rattle.relocation_laws.specs.Life.{block_in, FitsOp}
+use Rattle.relocation_laws.specs.Life.{block_in, block_marked, FitsOp}
 
 -- ---- the notes of a chip among all notes
 -- a session's notes go on rightly: after an answer, or after a question

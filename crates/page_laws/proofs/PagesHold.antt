@@ -5,7 +5,7 @@ use Rattle.std.proofs.lemmas.List.{length-replicate, take-replicate, get_or-repl
 use Rattle.std.proofs.lemmas.List.Elements.{All-replicate}
 use Rattle.nand_model.specs.Sizes.{parity_start, raw_len}
 use Rattle.nand_model.specs.Page.{decoded, marker_byte}
-use Rattle.nand_model.specs.Chip.{PageState, blank_page, good_program, flipped}
+use Rattle.nand_model.specs.Chip.{PageState, blank_page, flipped}
 use Rattle.nand_model.specs.Table.{copy_if, copy_under, copy_of_kind, which_of, table_page, read_again}
 use Rattle.nand_model.specs.Quiet.{has_no_flip_in}
 use Rattle.nand_model.proofs.Bounds.{bounds}
