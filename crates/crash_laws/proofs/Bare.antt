@@ -21,7 +21,7 @@ use Rattle.nand_model.specs.declared.words.Reply.{Reply}
 use Rattle.nand_model.specs.declared.words.Reply.TheVariants.{Done, OutOfRange, BadBlock, MarkerByte, ProgramFailed, EraseFailed, MarkerFailed, Reserved, Copies, State, Counts}
 use Rattle.page_laws.specs.Keeping.{KeepsMarker, IsFairEvent}
 use Rattle.crash_laws.proofs.Markers0.{BlockMark, block_flipped, block_erased, block_programmed, block_marked as marker_programmed, marked_keeps}
-use Rattle.relocation_laws.specs.Life.{block_in, block_marked, NowAcked, NowBegun, FitsOp}
+use Rattle.relocation_laws.specs.Life.{block_in, block_marked, NowAcked, NowBegun}
 use Rattle.relocation_laws.specs.Keeping.{pages_after}
 use Rattle.relocation_laws.proofs.DataEvents.{with_page-apart}
 use Rattle.relocation_laws.proofs.Operations.{by-test as by_test, image-marked as image_marked}
@@ -29,6 +29,7 @@ use Rattle.page_laws.proofs.Pages.{with_block-other, with_page-other, with_page-
 use Rattle.relocation_laws.proofs.Safety.{Safety, Safe, turned, closed-turned}
 use Rattle.relocation_laws.proofs.Standing.{flip-at as flip_at}
 use Rattle.std.proofs.lemmas.Nat.{le_or_r}
+use Rattle.run_model.specs.Survival.{WritesAPage}
 
 module _ {W : Type 0} (model : FaultModel W) where
   erased_pages : (s : ChipState W) (block : ℕ) (f : Option DoneBits) → (counted model f (erase_block model s block f)).pages ≡ pages_after s.geometry s.pages (EraseEvent block) f
@@ -432,7 +433,7 @@ module _ {W : Type 0} (model : FaultModel W) (g : Geometry) (sized : 0 < g.pages
         refused partitions A B op (after_read g k dev (decoded g (cells_of a))).known (after_read g k dev (decoded g (cells_of a))).reply
         (nothing_marked op none (after_read g k dev (decoded g (cells_of a))).reply) t (record { alive = i.alive; sticky = i.sticky; told = i.told; long = i.long })
 
-    pub op-safe-bare : (op : Op) → FitsOp g op → SafeOp op (operation_path g partitions k op)
+    pub op-safe-bare : (op : Op) → WritesAPage g op → SafeOp op (operation_path g partitions k op)
     op-safe-bare (Read dev page) fits = on (part_of partitions dev)
       where
         on : (part : Option Part) → SafeOp (Read dev page) (operation_by g k part (Read dev page))

@@ -18,7 +18,7 @@ use Rattle.nand_model.specs.declared.words.Op.{Op}
 use Rattle.nand_model.specs.declared.words.Reply.{Reply}
 use Rattle.page_laws.specs.Keeping.{KeepsMarker, IsFairEvent, IsQuietEvent, EachStep, IsIn}
 use Rattle.crash_laws.specs.Life.{IsFairAndQuietAttach, TableFails}
-use Rattle.relocation_laws.specs.Life.{NowAcked, NowBegun, FitsOp}
+use Rattle.relocation_laws.specs.Life.{NowAcked, NowBegun}
 use Rattle.relocation_laws.specs.Tables.{Shows}
 use Rattle.crash_laws.proofs.Bare.{AliveBare, RemembersBare, bare_fewer, remembers_bare_fewer, bare_flipped, bare_law, op-safe-bare}
 use Rattle.crash_laws.proofs.Chain.{Kind}
@@ -27,6 +27,7 @@ use Rattle.page_laws.proofs.Quiet.{quiet_marker, numbers_small}
 use Rattle.relocation_laws.proofs.Reading.{in-middle as in_middle}
 use Rattle.relocation_laws.proofs.Safety.{Safety, Safe, SafeAfter, goes_on, was_cut, safe-trace, safe-moment, safe-result, turned, closed-turned}
 use Rattle.relocation_laws.proofs.Standing.{flip-at as flip_at}
+use Rattle.run_model.specs.Survival.{WritesAPage}
 
 pub shows_more : (g : Geometry) (F A B B1 : ℕ → Type 0) (table : List ℕ) → ((b : ℕ) → B b → B1 b) → Shows g F A B table → Shows g F A B1 table
 shows_more g F A B B1 table more h = record { factory = h.factory; acked = h.acked; no_other = λ b small e. on b (h.no_other b small e) }
@@ -199,7 +200,7 @@ module _ {W : Type 0} (model : FaultModel W) (g : Geometry) (sized : 0 < g.pages
   begun_or B op reply s trace b (inl x) = inl x
   begun_or B op reply s trace b (inr n) = inr (inl n)
 
-  pub unanswered : (A B : ℕ → Type 0) (k : Known) (s : ChipState W) (op : Op) (trace : List ChipEvent) → RemembersBare g F A B k s → FitsOp g op
+  pub unanswered : (A B : ℕ → Type 0) (k : Known) (s : ChipState W) (op : Op) (trace : List ChipEvent) → RemembersBare g F A B k s → WritesAPage g op
       → GoesAlong model (next_event (operation_path g partitions k op)) s [] trace → EachStep model (IsFairEvent model) s trace
       → AliveBare g F A (λ b. B b ⊎ NowBegun partitions op None b) (after_trace model s trace)
   unanswered A B k s op trace h fits along fair =
@@ -212,7 +213,7 @@ module _ {W : Type 0} (model : FaultModel W) (g : Geometry) (sized : 0 < g.pages
       on (goes_on u safe) = safe-moment law (after_answers (answers_of model s trace) (operation_path g partitions k op)) (after_trace model s trace) safe
       on (was_cut u m) = m
 
-  pub answered : (A B : ℕ → Type 0) (k after : Known) (s : ChipState W) (op : Op) (trace : List ChipEvent) (reply : Reply) → RemembersBare g F A B k s → FitsOp g op
+  pub answered : (A B : ℕ → Type 0) (k after : Known) (s : ChipState W) (op : Op) (trace : List ChipEvent) (reply : Reply) → RemembersBare g F A B k s → WritesAPage g op
       → GoesAlong model (next_event (operation_path g partitions k op)) s [] trace → is_uncut trace ≡ true
       → result_of (after_answers (answers_of model s trace) (operation_path g partitions k op)) ≡ Some (record { reply = reply; known = after }) → EachStep model (IsFairEvent model) s trace
       → RemembersBare g F (λ b. A b ⊎ NowAcked partitions op (Some reply) b) (λ b. B b ⊎ NowBegun partitions op (Some reply) b) after (after_trace model s trace)

@@ -150,7 +150,7 @@ more_any test past notes h = on (or_cases (list_any test past) (test notes || fa
     on (inl e) = inl e
     on (inr e) = inr (last (test notes) e)
 
-any_more : (test : List Note → Bool) (past : List (List Note)) (notes : List Note) → (list_any test past ≡ true) ⊎ (test notes ≡ true) → list_any test (past ++ notes ∷ []) ≡ true
+pub any_more : (test : List Note → Bool) (past : List (List Note)) (notes : List Note) → (list_any test past ≡ true) ⊎ (test notes ≡ true) → list_any test (past ++ notes ∷ []) ≡ true
 any_more test past notes (inl e) = list_any-append test past (notes ∷ []) ∙ or_left (list_any test past) (test notes || false) e
 any_more test past notes (inr e) = list_any-append test past (notes ∷ []) ∙ or_right (list_any test past) (test notes || false) (or_left (test notes) false e)
 
@@ -232,58 +232,54 @@ module _ {W : Type 0} (model : FaultModel W) (partitions : Partitions) (k : ℕ)
           (inr (or_right (list_any begins (marks_in partitions k d before)) (failed_in_writing g k d before)
           (failed_of_chip g k d partitions (λ session. None) before (ap (failed_in_writing g k d) n.before_is ∙ trace_failed g k d model s boot.life.attach f))))
 
-  -- a chip lives through a boot that was fair and quiet
+  -- A chip lives through a boot that was fair and quiet, by its own notes; all notes may stand for them where they tell the same marks
+  module _ (past : List (List Note)) (s : ChipState W) (b : ChipBoot) (notes all : List Note) (h : IsChipHistory model partitions k s b.attach b.operations notes) (own : Own partitions k g notes)
+      (same_marks : (d : ℕ) → marks_in partitions k d notes ≡ marks_in partitions k d all) (failed : (d : ℕ) → failed_in_writing g k d notes ≡ true → failed_in_writing g k d all ≡ true)
+      (alive : kind.Lives (Acked partitions k past) (Begun g partitions k past) s) where
+    same : s.geometry ≡ g
+    same = kind.sized (Acked partitions k past) (Begun g partitions k past) s alive
+
+    acked : (d : ℕ) → Acked partitions k (past ++ all ∷ []) d → Acked partitions k past d ⊎ AckedIn partitions b.operations d
+    acked d e = on (more_any (marking_acknowledged partitions k d) past all e)
+      where
+        on : (list_any (marking_acknowledged partitions k d) past ≡ true) ⊎ (marking_acknowledged partitions k d all ≡ true) → Acked partitions k past d ⊎ AckedIn partitions b.operations d
+        on (inl e) = inl e
+        on (inr e) = inr (acked_in model partitions k d b.operations (ap (list_any is_acknowledgement) (sym (marks model partitions k g s b notes same h own d) ∙ same_marks d) ∙ e))
+
+    by_mark : (d : ℕ) → list_any begins (marks_in partitions k d notes) ≡ true → marking_began g partitions k d all ≡ true
+    by_mark d e = or_left (list_any begins (marks_in partitions k d all)) (failed_in_writing g k d all) (ap (list_any begins) (sym (same_marks d)) ∙ e)
+
+    by_failure : (d : ℕ) → failed_in_writing g k d notes ≡ true → marking_began g partitions k d all ≡ true
+    by_failure d e = or_right (list_any begins (marks_in partitions k d all)) (failed_in_writing g k d all) (failed d e)
+
+    begun_more : (d : ℕ) → BegunBy model g F partitions kind (Begun g partitions k past) s b d → Begun g partitions k (past ++ all ∷ []) d
+    begun_more d (inl (inl e)) = any_more (marking_began g partitions k d) past all (inl e)
+    begun_more d (inl (inr f)) = any_more (marking_began g partitions k d) past all (inr (by_failure d (attach_failed model partitions k g s b notes same h own d f)))
+    begun_more d (inr x) = any_more (marking_began g partitions k d) past all (inr (on (begun model partitions k g s b notes same h own d x)))
+      where
+        on : (list_any begins (marks_in partitions k d notes) ≡ true) ⊎ (failed_in_writing g k d notes ≡ true) → marking_began g partitions k d all ≡ true
+        on (inl e) = by_mark d e
+        on (inr e) = by_failure d e
+
+    pub boot_through : is_fair k notes ≡ true → was_quiet model s (events_in b.attach) ≡ true
+        → kind.Lives (Acked partitions k (past ++ all ∷ [])) (Begun g partitions k (past ++ all ∷ [])) (after_trace model s (trace_of b))
+    boot_through fair quiet =
+        kind.fewer (λ d. Acked partitions k past d ⊎ AckedIn partitions b.operations d) (BegunBy model g F partitions kind (Begun g partitions k past) s b)
+        (Acked partitions k (past ++ all ∷ [])) (Begun g partitions k (past ++ all ∷ [])) (after_trace model s (trace_of b)) acked begun_more
+        (boot_lives model g F partitions kind (Acked partitions k past) (Begun g partitions k past) s b end (follow model partitions k g s b notes same h own) (fair_operations model partitions k g s b notes same h own fair))
+      where
+        end : AttachEnd model g F partitions kind (Acked partitions k past) (Begun g partitions k past) s (after_trace model s (events_in b.attach)) (events_in b.attach)
+        end = attach_end model g F partitions kind (Acked partitions k past) (Begun g partitions k past) s (events_in b.attach) alive h.along
+            (attach_granted model k s b.attach (fair_attach model partitions k g s b notes same h own fair) quiet)
+
+  -- and so through such a boot of a course
   lives_through : (past : List (List Note)) (s : ChipState W) (course : Course W) (boot : BootOf model partitions k s course) → kind.Lives (Acked partitions k past) (Begun g partitions k past) s
       → WritesFill g (notes_of_chip partitions k course.notes) → is_fair k course.notes ≡ true → quiet_at k course ≡ true
       → kind.Lives (Acked partitions k (past ++ course.notes ∷ [])) (Begun g partitions k (past ++ course.notes ∷ [])) (after_trace model s (trace_of boot.life))
   lives_through past s course boot alive fill fair quiet =
-      kind.fewer (λ d. Acked partitions k past d ⊎ AckedIn partitions boot.life.operations d) (BegunBy model g F partitions kind (Begun g partitions k past) s boot.life)
-      (Acked partitions k (past ++ course.notes ∷ [])) (Begun g partitions k (past ++ course.notes ∷ [])) (after_trace model s (trace_of boot.life)) acked begun_more r
-    where
-      same : s.geometry ≡ g
-      same = kind.sized (Acked partitions k past) (Begun g partitions k past) s alive
-
-      own : Own partitions k g (notes_of_chip partitions k course.notes)
-      own = own_notes partitions k g (λ session. None) course.notes fill
-
-      chip_is_fair : is_fair k (notes_of_chip partitions k course.notes) ≡ true
-      chip_is_fair = chip_fair partitions (λ session. None) k course.notes fair
-
-      end : AttachEnd model g F partitions kind (Acked partitions k past) (Begun g partitions k past) s (after_trace model s (events_in boot.life.attach)) (events_in boot.life.attach)
-      end = attach_end model g F partitions kind (Acked partitions k past) (Begun g partitions k past) s (events_in boot.life.attach) alive boot.history.along
-          (attach_granted model k s boot.life.attach (fair_attach model partitions k g s boot.life (notes_of_chip partitions k course.notes) same boot.history own chip_is_fair) (sym boot.quiet ∙ quiet_run k course boot.run boot.at quiet))
-
-      r : kind.Lives (λ d. Acked partitions k past d ⊎ AckedIn partitions boot.life.operations d) (BegunBy model g F partitions kind (Begun g partitions k past) s boot.life) (after_trace model s (trace_of boot.life))
-      r = boot_lives model g F partitions kind (Acked partitions k past) (Begun g partitions k past) s boot.life end
-          (follow model partitions k g s boot.life (notes_of_chip partitions k course.notes) same boot.history own)
-          (fair_operations model partitions k g s boot.life (notes_of_chip partitions k course.notes) same boot.history own chip_is_fair)
-
-      acked : (d : ℕ) → Acked partitions k (past ++ course.notes ∷ []) d → Acked partitions k past d ⊎ AckedIn partitions boot.life.operations d
-      acked d h = on (more_any (marking_acknowledged partitions k d) past course.notes h)
-        where
-          on : (list_any (marking_acknowledged partitions k d) past ≡ true) ⊎ (marking_acknowledged partitions k d course.notes ≡ true) → Acked partitions k past d ⊎ AckedIn partitions boot.life.operations d
-          on (inl e) = inl e
-          on (inr e) =
-              inr (acked_in model partitions k d boot.life.operations
-              (ap (list_any is_acknowledgement) (sym (marks model partitions k g s boot.life (notes_of_chip partitions k course.notes) same boot.history own d) ∙ chip_marks partitions k d course.notes boot.pairs) ∙ e))
-
-      by_mark : (d : ℕ) → list_any begins (marks_in partitions k d (notes_of_chip partitions k course.notes)) ≡ true → marking_began g partitions k d course.notes ≡ true
-      by_mark d e =
-          or_left (list_any begins (marks_in partitions k d course.notes)) (failed_in_writing g k d course.notes)
-          (ap (list_any begins) (sym (chip_marks partitions k d course.notes boot.pairs)) ∙ e)
-
-      by_failure : (d : ℕ) → failed_in_writing g k d (notes_of_chip partitions k course.notes) ≡ true → marking_began g partitions k d course.notes ≡ true
-      by_failure d e = or_right (list_any begins (marks_in partitions k d course.notes)) (failed_in_writing g k d course.notes) (failed_of_chip g k d partitions (λ session. None) course.notes e)
-
-      begun_more : (d : ℕ) → BegunBy model g F partitions kind (Begun g partitions k past) s boot.life d → Begun g partitions k (past ++ course.notes ∷ []) d
-      begun_more d (inl (inl e)) = any_more (marking_began g partitions k d) past course.notes (inl e)
-      begun_more d (inl (inr f)) =
-          any_more (marking_began g partitions k d) past course.notes (inr (by_failure d (attach_failed model partitions k g s boot.life (notes_of_chip partitions k course.notes) same boot.history own d f)))
-      begun_more d (inr x) = any_more (marking_began g partitions k d) past course.notes (inr (on (begun model partitions k g s boot.life (notes_of_chip partitions k course.notes) same boot.history own d x)))
-        where
-          on : (list_any begins (marks_in partitions k d (notes_of_chip partitions k course.notes)) ≡ true) ⊎ (failed_in_writing g k d (notes_of_chip partitions k course.notes) ≡ true) → marking_began g partitions k d course.notes ≡ true
-          on (inl e) = by_mark d e
-          on (inr e) = by_failure d e
+      boot_through past s boot.life (notes_of_chip partitions k course.notes) course.notes boot.history (own_notes partitions k g (λ session. None) course.notes fill)
+      (λ d. chip_marks partitions k d course.notes boot.pairs) (λ d e. failed_of_chip g k d partitions (λ session. None) course.notes e) alive
+      (chip_fair partitions (λ session. None) k course.notes fair) (sym boot.quiet ∙ quiet_run k course boot.run boot.at quiet)
 
   -- each attach note of a quiet attach shows the marks of the boots before it
   abbrev SurvivesFrom : List (List Note) → List (Course W) → Type 0

@@ -15,8 +15,9 @@ use Rattle.run_model.specs.History.{OperationTrace, ChipBoot, Turned, turned_eve
 use Rattle.run_laws.proofs.Traces.{events-append, after-append}
 use Rattle.page_laws.specs.Keeping.{IsFairEvent, EachStep}
 use Rattle.relocation_laws.specs.Tables.{Shows}
-use Rattle.relocation_laws.specs.Life.{NowAcked, NowBegun, FitsOp}
-use Rattle.crash_laws.specs.Life.{AckedIn, BegunIn, TableFails, AreFair, IsFairAndQuietAttach, AreOperations, FollowAttach, IsLife, MarksOutlive}
+use Rattle.relocation_laws.specs.Life.{NowAcked, NowBegun}
+use Rattle.crash_laws.specs.Life.{AckedIn, BegunIn, TableFails, AreFair, IsFairAndQuietAttach, AreOperations, FollowAttach}
+use Rattle.run_model.specs.Survival.{WritesAPage}
 
 -- the traces of operations
 abbrev pub traces_in : List OperationTrace → List (ℕ × ChipEvent)
@@ -30,10 +31,10 @@ pub record Kind {W : Type 0} (model : FaultModel W) (g : Geometry) (F : ℕ → 
   pub flip : (A B : ℕ → Type 0) (s : ChipState W) (page bit : ℕ) → Lives A B s → Lives A B (happens model s (Flipped page bit))
   pub fewer : (A B A1 B1 : ℕ → Type 0) (s : ChipState W) → ((b : ℕ) → A1 b → A b) → ((b : ℕ) → B b → B1 b) → Lives A B s → Lives A1 B1 s
   pub lives : (A B : ℕ → Type 0) (k : Known) (s : ChipState W) → Knows A B k s → Lives A B s
-  pub unanswered : (A B : ℕ → Type 0) (k : Known) (s : ChipState W) (op : Op) (trace : List ChipEvent) → Knows A B k s → FitsOp g op
+  pub unanswered : (A B : ℕ → Type 0) (k : Known) (s : ChipState W) (op : Op) (trace : List ChipEvent) → Knows A B k s → WritesAPage g op
       → GoesAlong model (next_event (operation_path g partitions k op)) s [] trace → EachStep model (IsFairEvent model) s trace
       → Lives A (λ b. B b ⊎ (NowBegun partitions op None b ⊎ TableFails model g s trace b)) (after_trace model s trace)
-  pub answered : (A B : ℕ → Type 0) (k after : Known) (s : ChipState W) (op : Op) (trace : List ChipEvent) (reply : Reply) → Knows A B k s → FitsOp g op
+  pub answered : (A B : ℕ → Type 0) (k after : Known) (s : ChipState W) (op : Op) (trace : List ChipEvent) (reply : Reply) → Knows A B k s → WritesAPage g op
       → GoesAlong model (next_event (operation_path g partitions k op)) s [] trace → is_uncut trace ≡ true
       → result_of (after_answers (answers_of model s trace) (operation_path g partitions k op)) ≡ Some (record { reply = reply; known = after }) → EachStep model (IsFairEvent model) s trace
       → Knows (λ b. A b ⊎ NowAcked partitions op (Some reply) b) (λ b. B b ⊎ (NowBegun partitions op (Some reply) b ⊎ TableFails model g s trace b)) after (after_trace model s trace)
@@ -116,8 +117,8 @@ module _ {W : Type 0} (model : FaultModel W) (g : Geometry) (F : ℕ → Type 0)
       geometry : s.geometry ≡ g
       geometry = kind.sized A B s (kind.lives A B k s h)
 
-      fits : FitsOp g o.op
-      fits = subst (λ q. FitsOp q o.op) geometry all.0
+      fits : WritesAPage g o.op
+      fits = subst (λ q. WritesAPage q o.op) geometry all.0
 
       on : (reply : Option Reply) → IsOperationTrace model partitions s k o.op (events_in o.trace) reply → (is_none reply ≡ true → later ≡ [])
           → (kind.Knows (λ b. A b ⊎ NowAcked partitions o.op reply b) (λ b. B b ⊎ (NowBegun partitions o.op reply b ⊎ TableFails model g s (events_in o.trace) b))
@@ -193,12 +194,3 @@ module _ {W : Type 0} (model : FaultModel W) (g : Geometry) (F : ℕ → Type 0)
       worked None none shown =
           subst (λ os. kind.Lives (λ d. A d ⊎ AckedIn partitions os d) (λ d. B1 d ⊎ BegunIn model partitions g s1 os d) (after_trace model s1 (events_in (traces_in os)))) (sym none) (no_more A B1 s1 end.lives)
       worked (Some a) all shown = operations_live A B1 (known_at_first a) s1 b.operations (shown a refl).1 all fair
-
-  -- a chip lives through all boots, and each attach shows the marks
-  pub boots_hold : (A B : ℕ → Type 0) (s : ChipState W) (boots : List ChipBoot) → kind.Lives A B s → IsLife model partitions s boots → MarksOutlive model partitions g F A B s boots
-  boots_hold A B s [] alive life = tt
-  boots_hold A B s (b ∷ bs) alive life = λ granted.
-      let end = attach_end A B s (events_in b.attach) alive life.0 granted in (
-        (λ a e. (end.shown a e).0),
-        λ fair. boots_hold (λ d. A d ⊎ AckedIn partitions b.operations d) (BegunBy B s b) (after_trace model s (trace_of b)) bs (boot_lives A B s b end life.1 fair) life.2,
-      )

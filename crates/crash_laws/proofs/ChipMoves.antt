@@ -15,13 +15,14 @@ use Rattle.nand_model.specs.declared.words.Op.{Op}
 use Rattle.page_laws.specs.Keeping.{IsFairEvent}
 use Rattle.relocation_laws.specs.Keeping.{BlockFails}
 use Rattle.relocation_laws.specs.Tables.{IsTableBlock, Shows}
-use Rattle.relocation_laws.specs.Life.{block_marked, FitsOp}
+use Rattle.relocation_laws.specs.Life.{block_marked}
 use Rattle.relocation_laws.proofs.AttachSafe.{attach_law, attach-safe}
 use Rattle.relocation_laws.proofs.Goes.{Setting, Holding, holding-flipped}
 use Rattle.relocation_laws.proofs.Lives.{Lives, Remembers, OpEnds, Then_, Granted, lives-fewer, remembers-fewer, op-safe}
 use Rattle.relocation_laws.proofs.MarkerTables.{AreFactoryBad}
 use Rattle.relocation_laws.proofs.Operations.{plain_law, route}
 use Rattle.relocation_laws.proofs.Safety.{Safety, Safe, safe-flipped, safe-moment, safe-result, AtEvent, at-event, answers-joined}
+use Rattle.run_model.specs.Survival.{WritesAPage}
 
 -- whether an attach would use a copy of the chip: once it is so, it stays so
 abbrev pub Used : Type 0
@@ -81,7 +82,7 @@ module _ {W : Type 0} (model : FaultModel W) (g : Geometry) (c : Setting g) (eno
   any-alive y B s h = lives-fewer model g c enough F factory one two in_one in_two apart (Once g y) B (Once g y) AnyBlock (λ b a. a) (λ b z. tt) s h
 
   -- each operation is safe
-  any-op-safe : (y : Used) (known : Known) (s : ChipState W) → MemoryOn y known s → (op : Op) → FitsOp g op → Safe (OpLaw y) (operation_path g partitions known op) s
+  any-op-safe : (y : Used) (known : Known) (s : ChipState W) → MemoryOn y known s → (op : Op) → WritesAPage g op → Safe (OpLaw y) (operation_path g partitions known op) s
   any-op-safe y known s r op fits = on (route model g c enough F factory one two in_one in_two apart (Once g y) AnyBlock known s r (part_of partitions (device_of op)) op fits)
     where
       Then1 : ℕ → ℕ → Type 0
@@ -253,7 +254,7 @@ module _ {W : Type 0} (model : FaultModel W) (g : Geometry) (c : Setting g) (eno
       )
 
   -- ---- an operation begins, and is answered
-  pub begin_on : (y : Used) (r : ChipRun W) (session : ℕ) (op : Op) (known : Option Known) → r.known ≡ known → r.pending ≡ None → FitsOp g op → Stands false y r.chip r.attach_answers known None
+  pub begin_on : (y : Used) (r : ChipRun W) (session : ℕ) (op : Op) (known : Option Known) → r.known ≡ known → r.pending ≡ None → WritesAPage g op → Stands false y r.chip r.attach_answers known None
       → StandsAt false y (with_pending r session op)
   begin_on y r session op None k p fits h = subst (λ o. Stands false y r.chip r.attach_answers o (Some (record { session = session; op = op; answers = [] }))) (sym k) h
   begin_on y r session op (Some known) k p fits h =

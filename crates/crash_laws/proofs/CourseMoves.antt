@@ -25,13 +25,13 @@ use Rattle.run_laws.proofs.Courses.{due_rest, same_next, rest_of, rest}
 use Rattle.run_laws.proofs.Places.{change_here, change_elsewhere}
 use Rattle.page_laws.specs.Keeping.{IsFairEvent}
 use Rattle.crash_laws.specs.Marked.{WritesFill}
-use Rattle.relocation_laws.specs.Life.{FitsOp}
 use Rattle.relocation_laws.proofs.MarkerTables.{AreFactoryBad}
 use Rattle.crash_laws.proofs.ChipMoves.{Used, Later, Stands, StandsAt, flips_on, advance_on, cut_on, begin_on as begins_on, answer_on, darkened}
 use Rattle.crash_laws.proofs.Fairness.{fair_parts, event_fair}
 use Rattle.relocation_laws.specs.Tables.{IsTableBlock}
 use Rattle.relocation_laws.proofs.Goes.{Setting}
 use Rattle.nand_model.specs.Path.{answer_to}
+use Rattle.run_model.specs.Survival.{WritesAPage}
 
 pub fill_front : (g : Geometry) (xs ys : List Note) → WritesFill g (xs ++ ys) → WritesFill g xs
 fill_front g [] ys h = tt
@@ -280,7 +280,7 @@ module _ {W : Type 0} (model : FaultModel W) (g : Geometry) (c : Setting g) (eno
       none None e = refl
       none (Some p) e = absurd (false≢true (sym e))
 
-      fits : j ≡ k → WritesFill g (notes_of_chip_from boot.partitions (lasts boot.partitions (λ s. None) course.notes) k (Began session op ∷ [])) → FitsOp g op
+      fits : j ≡ k → WritesFill g (notes_of_chip_from boot.partitions (lasts boot.partitions (λ s. None) course.notes) k (Began session op ∷ [])) → WritesAPage g op
       fits same h = (subst (λ t. WritesFill g ((if t then Began session op ∷ [] else []) ++ [])) (ap (λ o. is_chip o k) on_chip ∙ eq-eqb j k same) h).0
 
       by : (t : Bool) → is_some r.pending ≡ t → Moves course (if t then course else began course session j op)

@@ -18,7 +18,7 @@ use Rattle.run_model.specs.History.{LastChips, last_after, is_chip, notes_of_chi
 use Rattle.run_model.specs.Marking.{is_mark_of, answer_in, marks_in, begins, is_acknowledgement, failed_in_writing}
 use Rattle.run_model.specs.Run.{is_fair}
 use Rattle.run_laws.proofs.Traces.{geometry_after}
-use Rattle.relocation_laws.specs.Life.{NowBegun, FitsOp}
+use Rattle.relocation_laws.specs.Life.{NowBegun}
 use Rattle.crash_laws.specs.Marked.{WritesFill}
 use Rattle.crash_laws.specs.Life.{AckedIn, BegunIn, TableFails, AreFair, AreOperations}
 use Rattle.crash_laws.proofs.Failures.{or_left, or_right, or_cases, failed_before, failed_after, trace_failed}
@@ -26,6 +26,7 @@ use Rattle.crash_laws.proofs.Fairness.{fair_parts, trace_fair}
 use Rattle.crash_laws.proofs.MarkNotes.{Own, mark_named, named_mark}
 use Rattle.nand_model.specs.declared.words.Event.{Event}
 use Rattle.nand_model.specs.declared.words.Fairness.{Fairness}
+use Rattle.run_model.specs.Survival.{WritesAPage}
 
 -- whether a note is of an attach
 abbrev pub is_attach : Note → Bool
@@ -163,7 +164,7 @@ module _ {W : Type 0} (model : FaultModel W) (partitions : Partitions) (k : ℕ)
 
   -- ---- operations
   -- the notes of an operation and of what follows
-  op_notes : (s : ChipState W) (o : OperationTrace) (rest : List Note)
+  pub op_notes : (s : ChipState W) (o : OperationTrace) (rest : List Note)
       → notes_of_operation model k s o ++ rest ≡ Began o.session o.op ∷ (notes_of_trace model k s o.trace ++ (answer_note o.session o.reply ++ rest))
   op_notes s o rest = ap (λ xs. Began o.session o.op ∷ xs) (append_assoc (notes_of_trace model k s o.trace) (answer_note o.session o.reply) rest)
 
@@ -263,7 +264,7 @@ module _ {W : Type 0} (model : FaultModel W) (partitions : Partitions) (k : ℕ)
       → AreOperations model partitions s known operations
   ops_are g s known [] notes same h own = tt
   ops_are g s known (o ∷ later) notes same (is_trace, last, (rest, are, all)) own = (
-    subst (λ q. FitsOp q o.op) (sym same) here.1,
+    subst (λ q. WritesAPage q o.op) (sym same) here.1,
     is_trace,
     last,
     ops_are g (after_trace model s (events_in o.trace)) (known_then known (result_of (after_answers (answers_of model s (events_in o.trace)) (operation_path s.geometry partitions known o.op)))) later rest

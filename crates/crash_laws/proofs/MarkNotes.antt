@@ -15,7 +15,8 @@ use Rattle.nand_model.specs.declared.words.Reply.{Reply}
 use Rattle.run_model.specs.History.{LastChips, last_after, note_chip, is_chip, notes_of_chip_from}
 use Rattle.command_model.specs.Session.{Asked, Replied, exchange_in, exchanges_of, Alternate}
 use Rattle.run_model.specs.Marking.{is_mark_of, is_block_of, answer_in, marks_in}
-use Rattle.relocation_laws.specs.Life.{block_in, block_marked, FitsOp}
+use Rattle.relocation_laws.specs.Life.{block_in, block_marked}
+use Rattle.run_model.specs.Survival.{WritesAPage}
 
 -- ---- the notes of a chip among all notes
 -- a session's notes go on rightly: after an answer, or after a question
@@ -166,7 +167,7 @@ module _ (partitions : Partitions) (k : ℕ) where
   -- each operation begun in these notes is on the chip, and fills its page
   abbrev pub Own : Geometry → List Note → Type 0
   Own g [] = ⊤
-  Own g (Began s op ∷ notes) = (chip_of partitions (device_of op) ≡ Some k) × FitsOp g op × Own g notes
+  Own g (Began s op ∷ notes) = (chip_of partitions (device_of op) ≡ Some k) × WritesAPage g op × Own g notes
   Own g (_ ∷ notes) = Own g notes
 
   -- ---- the operations of a chip's life

@@ -11,7 +11,7 @@ use Rattle.nand_model.specs.declared.words.Op.{Op}
 use Rattle.nand_model.specs.declared.words.Reply.{Reply}
 use Rattle.page_laws.specs.Keeping.{IsFairEvent, EachStep}
 use Rattle.relocation_laws.specs.Tables.{IsTableBlock, Shows}
-use Rattle.relocation_laws.specs.Life.{TableBlockFails, outcome_if, known_then, attach_outcome, NowAcked, NowBegun, FitsOp}
+use Rattle.relocation_laws.specs.Life.{TableBlockFails, outcome_if, known_then, attach_outcome, NowAcked, NowBegun}
 use Rattle.relocation_laws.proofs.Goes.{Setting, holding-flipped}
 use Rattle.relocation_laws.proofs.MarkerTables.{AreFactoryBad}
 use Rattle.relocation_laws.proofs.Lives.{Lives, Remembers, lives-fewer, remembers-fewer, AttachEnd, attach-end}
@@ -19,6 +19,7 @@ use Rattle.relocation_laws.proofs.Chain.{after-op}
 use Rattle.crash_laws.specs.Life.{IsFairAndQuietAttach, TableFails}
 use Rattle.crash_laws.proofs.BareLives.{shows_more}
 use Rattle.crash_laws.proofs.Chain.{Kind}
+use Rattle.run_model.specs.Survival.{WritesAPage}
 
 module _ {W : Type 0} (model : FaultModel W) (g : Geometry) (c : Setting g) (enough : 4 ≤ g.blocks) (F : ℕ → Type 0) (factory : AreFactoryBad g c.is_good F)
     (p q : ℕ) (in_p : IsTableBlock g c.is_good p) (in_q : IsTableBlock g c.is_good q) (apart : p ≢ q) (partitions : Partitions) where
@@ -37,7 +38,7 @@ module _ {W : Type 0} (model : FaultModel W) (g : Geometry) (c : Setting g) (eno
   failed B s trace b (inl x) = inl x
   failed B s trace b (inr f) = inr (c.tables, f)
 
-  pub unanswered : (A B : ℕ → Type 0) (k : Known) (s : ChipState W) (op : Op) (trace : List ChipEvent) → Memory A B k s → FitsOp g op
+  pub unanswered : (A B : ℕ → Type 0) (k : Known) (s : ChipState W) (op : Op) (trace : List ChipEvent) → Memory A B k s → WritesAPage g op
       → GoesAlong model (next_event (operation_path g partitions k op)) s [] trace → EachStep model (IsFairEvent model) s trace
       → Alive_ A (λ b. B b ⊎ (NowBegun partitions op None b ⊎ TableFails model g s trace b)) (after_trace model s trace)
   unanswered A B k s op trace h fits along fair =
@@ -45,7 +46,7 @@ module _ {W : Type 0} (model : FaultModel W) (g : Geometry) (c : Setting g) (eno
       (λ b. B b ⊎ (NowBegun partitions op None b ⊎ TableFails model g s trace b)) (λ b a. inl a) (λ b x. tabled B (NowBegun partitions op None) s trace b x) (after_trace model s trace)
       (after-op model g c enough F factory p q in_p in_q apart partitions A B k s op trace None h fits fair along)
 
-  pub answered : (A B : ℕ → Type 0) (k after : Known) (s : ChipState W) (op : Op) (trace : List ChipEvent) (reply : Reply) → Memory A B k s → FitsOp g op
+  pub answered : (A B : ℕ → Type 0) (k after : Known) (s : ChipState W) (op : Op) (trace : List ChipEvent) (reply : Reply) → Memory A B k s → WritesAPage g op
       → GoesAlong model (next_event (operation_path g partitions k op)) s [] trace → is_uncut trace ≡ true
       → result_of (after_answers (answers_of model s trace) (operation_path g partitions k op)) ≡ Some (record { reply = reply; known = after }) → EachStep model (IsFairEvent model) s trace
       → Memory (λ b. A b ⊎ NowAcked partitions op (Some reply) b) (λ b. B b ⊎ (NowBegun partitions op (Some reply) b ⊎ TableFails model g s trace b)) after (after_trace model s trace)

@@ -10,8 +10,9 @@ use Rattle.chip_paths.specs.Operation.{Known, operation_path}
 use Rattle.nand_model.specs.declared.geometry.Geometry.{Geometry}
 use Rattle.run_model.specs.History.{OperationTrace, ChipBoot, IsOperationTrace, events_in, known_then, attach_outcome, trace_of}
 use Rattle.page_laws.specs.Keeping.{IsFairEvent, IsQuietEvent, EachStep}
-use Rattle.relocation_laws.specs.Life.{TableBlockFails, NowAcked, NowBegun, FitsOp}
+use Rattle.relocation_laws.specs.Life.{TableBlockFails, NowAcked, NowBegun}
 use Rattle.relocation_laws.specs.Tables.{Shows}
+use Rattle.run_model.specs.Survival.{WritesAPage}
 
 -- the block's marking was acknowledged by these operations
 abbrev pub AckedIn : Partitions → List OperationTrace → ℕ → Type 0
@@ -42,7 +43,7 @@ module _ {W : Type 0} (model : FaultModel W) where
     abbrev pub AreOperations : ChipState W → Known → List OperationTrace → Type 0
     AreOperations s known [] = ⊤
     AreOperations s known (o ∷ later) =
-        FitsOp s.geometry o.op
+        WritesAPage s.geometry o.op
         × IsOperationTrace model partitions s known o.op (events_in o.trace) o.reply
         × (is_none o.reply ≡ true → later ≡ [])
         × AreOperations (after_trace model s (events_in o.trace))
@@ -52,22 +53,3 @@ module _ {W : Type 0} (model : FaultModel W) where
     abbrev pub FollowAttach : Option Attaching → ChipState W → List OperationTrace → Type 0
     FollowAttach None s operations = operations ≡ []
     FollowAttach (Some a) s operations = AreOperations s (known_at_first a) operations
-
-    -- boots, each from the state in which the one before it left the chip
-    abbrev pub IsLife : ChipState W → List ChipBoot → Type 0
-    IsLife s [] = ⊤
-    IsLife s (b ∷ bs) =
-        GoesAlong model (next_event (attach_path s.geometry)) s [] (events_in b.attach)
-        × FollowAttach (attach_outcome model s (events_in b.attach)) (after_trace model s (events_in b.attach)) b.operations
-        × IsLife (after_trace model s (trace_of b)) bs
-
-    -- Each attach shows what it should, where it and the attaches before it were quiet and no torn event so far was foul.
-    -- A and B are the blocks whose marking was acknowledged, and has begun, before
-    abbrev pub MarksOutlive : Geometry → (ℕ → Type 0) → (ℕ → Type 0) → (ℕ → Type 0) → ChipState W → List ChipBoot → Type 0
-    MarksOutlive g F A B s [] = ⊤
-    MarksOutlive g F A B s (b ∷ bs) =
-        IsFairAndQuietAttach s (events_in b.attach) →
-        ((a : Attaching) → attach_outcome model s (events_in b.attach) ≡ Some a → Shows g F A (λ d. B d ⊎ TableFails g s (events_in b.attach) d) a.table)
-        × (AreFair (after_trace model s (events_in b.attach)) b.operations →
-        MarksOutlive g F (λ d. A d ⊎ AckedIn partitions b.operations d)
-        (λ d. (B d ⊎ TableFails g s (events_in b.attach) d) ⊎ BegunIn g (after_trace model s (events_in b.attach)) b.operations d) (after_trace model s (trace_of b)) bs)

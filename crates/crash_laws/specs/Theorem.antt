@@ -10,18 +10,7 @@ use Rattle.command_model.specs.Boot.{Boot}
 use Rattle.run_model.specs.Course.{Course, course_after, end_states}
 use Rattle.run_model.specs.History.{ChipBoot, notes_of_chip}
 use Rattle.run_model.specs.Run.{AreBoots, HasTableBlocks, MarksSurvive, IsFairAndQuietNow, CopiesAgree, WholeCopiesHoldTheTable}
-use Rattle.page_laws.specs.Keeping.{IsIn}
 use Rattle.crash_laws.specs.Marked.{WritesFill}
-use Rattle.crash_laws.specs.Life.{IsLife, MarksOutlive}
-
--- Over all boots of a new chip, of whose last four blocks at most two are factory-bad where it has tables, each attach shows bad the factory-bad blocks and those whose
--- marking was acknowledged, and none beyond the factory-bad ones and those whose marking had begun or that failed in a writing: as long as no torn event was foul and each attach was quiet.
-abbrev pub MarksOutliveCuts : Type 0
-MarksOutliveCuts =
-    (g : Geometry) (bad : List ℕ) (weak : List Weak) (partitions : Partitions) (boots : List ChipBoot) →
-    HasTableBlocks g bad →
-    IsLife sim_faults partitions (new_chip g bad weak) boots →
-    MarksOutlive sim_faults partitions g (IsIn bad) (λ b. ⊥) (λ b. ⊥) (new_chip g bad weak) boots
 
 -- In every run of boots of one controller whose chip k was new: the marks of chip k survive, where each written body fills its page.
 abbrev pub MarksSurviveRuns : Type 0

@@ -17,7 +17,7 @@ use Rattle.relocation_laws.specs.Shelves.{HoldsBoth}
 use Rattle.relocation_laws.specs.Tables.{IsTable, IsTableBlock, Shows}
 use Rattle.page_laws.specs.Keeping.{IsFairEvent, EachStep}
 use Rattle.run_model.specs.Marking.{begins}
-use Rattle.relocation_laws.specs.Life.{block_marked, NowAcked, NowBegun, FitsOp, OpTrace, BootLife, flip_events_of, known_then, TableBlockFails, AckedIn, BegunIn, attach_outcome, IsOpTrace, AreOperations, FollowAttach, after_operations, after_boot, IsLife, AreFair, MarksOutlive}
+use Rattle.relocation_laws.specs.Life.{block_marked, NowAcked, NowBegun, OpTrace, BootLife, flip_events_of, known_then, TableBlockFails, AckedIn, BegunIn, attach_outcome, IsOpTrace, AreOperations, FollowAttach, after_operations, after_boot, IsLife, AreFair, MarksOutlive}
 use Rattle.relocation_laws.proofs.Lives.{dec-done, Lives, holding-as, lives-fewer, remembers-fewer, both-as, Remembers, AttachEnd, attach-end, OpEnds, unanswered, answered}
 use Rattle.relocation_laws.proofs.Operations.{plain_law, route}
 use Rattle.nand_model.specs.declared.words.Op.{Op}
@@ -25,6 +25,7 @@ use Rattle.relocation_laws.proofs.Goes.{Setting, Holding, holding-flipped}
 use Rattle.relocation_laws.proofs.MarkerTables.{AreFactoryBad}
 use Rattle.relocation_laws.proofs.Safety.{Safety, Safe, SafeAfter, goes_on, was_cut, safe-trace, safe-moment, safe-result}
 use Rattle.relocation_laws.proofs.Starting.{both-rest}
+use Rattle.run_model.specs.Survival.{WritesAPage}
 
 module _ {W : Type 0} (model : FaultModel W) (g : Geometry) (c : Setting g) (enough : 4 ≤ g.blocks) (F : ℕ → Type 0) (factory : AreFactoryBad g c.is_good F)
     (p q : ℕ) (in_p : IsTableBlock g c.is_good p) (in_q : IsTableBlock g c.is_good q) (apart : p ≢ q) where
@@ -237,7 +238,7 @@ module _ {W : Type 0} (model : FaultModel W) (g : Geometry) (c : Setting g) (eno
     after-as A B k s op trace None h = h
     after-as A B k s op trace (Some reply) h = h
 
-    pub after-op : (A B : ℕ → Type 0) (k : Known) (s : ChipState W) (op : Op) (trace : List ChipEvent) (reply : Option Reply) → Memory A B k s → FitsOp g op → EachStep model (IsFairEvent model) s trace
+    pub after-op : (A B : ℕ → Type 0) (k : Known) (s : ChipState W) (op : Op) (trace : List ChipEvent) (reply : Option Reply) → Memory A B k s → WritesAPage g op → EachStep model (IsFairEvent model) s trace
         → IsOpTrace model g partitions s k op trace reply → AfterOp A B k s op trace reply
     after-op A B k s op trace reply r fits fair is_trace = after-as A B k s op trace reply (on (route model g c enough F factory p q in_p in_q apart A B k s r (part_of partitions (device_of op)) op fits))
       where

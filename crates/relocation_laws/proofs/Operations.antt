@@ -17,12 +17,13 @@ use Rattle.nand_model.specs.declared.words.Reply.{Reply}
 use Rattle.nand_model.specs.declared.words.Reply.TheVariants.{OutOfRange, BadBlock, MarkerByte, ProgramFailed, EraseFailed, State, Counts}
 use Rattle.page_laws.specs.Keeping.{IsIn}
 use Rattle.relocation_laws.specs.Tables.{IsTableBlock, Shows}
-use Rattle.relocation_laws.specs.Life.{block_of, FitsOp}
+use Rattle.relocation_laws.specs.Life.{block_of}
 use Rattle.relocation_laws.proofs.DataEvents.{IsSafe, data-safe}
 use Rattle.relocation_laws.proofs.Goes.{Setting, Holding, holding-turned}
 use Rattle.relocation_laws.proofs.Lives.{Lives, Remembers}
 use Rattle.relocation_laws.proofs.MarkerTables.{AreFactoryBad}
 use Rattle.relocation_laws.proofs.Safety.{Safety, Safe}
+use Rattle.run_model.specs.Survival.{WritesAPage}
 
 -- a path by a test
 pub by-test : {A : Type 0} (R : Path A → Type 0) (t : Bool) (x y : Unit {0} → Path A) → (t ≡ true → R (x tt)) → (t ≡ false → R (y tt)) → R (either t x y)
@@ -116,7 +117,7 @@ module _ {W : Type 0} (model : FaultModel W) (g : Geometry) (c : Setting g) (eno
   mark-route part dev block false e =
       inr (ap (λ x. if x then Some (part.start + block) else None) e, subst (λ x. Plain (either x (λ u. mark_block g k (part.start + block)) (λ u. answer k OutOfRange))) (sym e) (replied OutOfRange))
 
-  pub route : (part : Option Part) (op : Op) → FitsOp g op → Route part op
+  pub route : (part : Option Part) (op : Op) → WritesAPage g op → Route part op
   route None (Read dev page) fits = inr (refl, replied OutOfRange)
   route None (Write dev page body free) fits = inr (refl, replied OutOfRange)
   route None (RawRead dev page) fits = inr (refl, replied OutOfRange)

@@ -10,13 +10,14 @@ use Rattle.nand_model.specs.Partitions.{Partitions, part_of, device_of}
 use Rattle.chip_paths.specs.Operation.{Known, Finished, operation_path}
 use Rattle.nand_model.specs.declared.words.Part.{Part}
 use Rattle.nand_model.specs.declared.words.Op.{Op}
-use Rattle.nand_model.specs.declared.words.Op.TheVariants.{Write, Mark}
+use Rattle.nand_model.specs.declared.words.Op.TheVariants.{Mark}
 use Rattle.nand_model.specs.declared.geometry.Geometry.{Geometry}
 use Rattle.nand_model.specs.declared.words.Reply.{Reply}
 use Rattle.nand_model.specs.declared.words.Reply.TheVariants.{Done}
 pub use Rattle.run_model.specs.Marking.{begins}
 use Rattle.page_laws.specs.Keeping.{IsFairEvent, IsQuietEvent, EachStep, IsIn}
 use Rattle.relocation_laws.specs.Tables.{Shows}
+use Rattle.run_model.specs.Survival.{WritesAPage}
 
 -- a marking has begun with this reply
 abbrev pub is_begun : Reply → Bool
@@ -33,11 +34,6 @@ block_of part _ = None
 
 abbrev pub block_marked : Partitions → Op → Option ℕ
 block_marked partitions op = block_of (part_of partitions (device_of op)) op
-
--- a written body fills its page
-abbrev pub FitsOp : Geometry → Op → Type 0
-FitsOp g (Write dev page body free) = length body ≡ g.page
-FitsOp g _ = ⊤
 
 -- an operation: its trace, and its reply, if it came
 pub record OpTrace : Type 0 where
@@ -109,7 +105,7 @@ module _ {W : Type 0} (model : FaultModel W) (g : Geometry) where
     abbrev pub AreOperations : ChipState W → Known → List OpTrace → Type 0
     AreOperations s k [] = ⊤
     AreOperations s k (o ∷ later) =
-        FitsOp g o.op × IsOpTrace s k o.op o.trace o.reply × (is_none o.reply ≡ true → later ≡ [])
+        WritesAPage g o.op × IsOpTrace s k o.op o.trace o.reply × (is_none o.reply ≡ true → later ≡ [])
         × AreOperations (after_trace model s o.trace) (known_then k (result_of (after_answers (answers_of model s o.trace) (operation_path g partitions k o.op)))) later
 
     abbrev pub FollowAttach : Option Attaching → ChipState W → List OpTrace → Type 0
