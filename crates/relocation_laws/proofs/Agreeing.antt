@@ -182,7 +182,7 @@ module _ (g : Geometry) (c : Setting g) (enough : 4 ≤ g.blocks) (Good : List �
       on (Some k) e = absurd (false≢true (sym h ∙ (j.beneath b k e).inside.1))
 
   -- the copies of a chip that may rest and is quiet agree
-  pub copies-agree : {W : Type 0} (s : ChipState W) → Alive g c Good Fresh s → is_quiet g s.pages ≡ true → CopiesAgree s
+  pub copies-agree : {W : Type 0} (s : ChipState W) → Alive g c Good Fresh None s → is_quiet g s.pages ≡ true → CopiesAgree s
   copies-agree s a quiet = record { two = all.two; covers = all.covers; disowned = all.disowned; own = all.own }
     where
       seen-at : (b : ℕ) → IsIn (table_blocks g) b → SeenPage g c.is_good a.holds b (s.pages (first_page g b)).cells

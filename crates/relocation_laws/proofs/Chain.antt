@@ -1,4 +1,4 @@
--- The chain of boots of one chip with tables.
+-- What becomes of each operation of a chip with tables, by its trace and its reply.
 use Rattle.std.proofs.Common.{◌≡◌, ◌≢◌, ◌⊎◌, ◌<◌, ◌≤◌, ℕ, true, false, ◌==◌, nat_le, List, [], ◌∷◌, refl, ap, sym, ◌∙◌, Option, Some, None, inl, inr, subst}
 use Rattle.std.specs.Prelude.{is_none, ⊤}
 use Rattle.std.proofs.lemmas.Bool.{false≢true}
@@ -8,7 +8,7 @@ use Rattle.chip_paths.specs.Attach.{Attaching}
 use Rattle.chip_paths.specs.ChipRun.{known_at_first}
 use Rattle.nand_model.specs.Partitions.{Partitions, part_of, device_of}
 use Rattle.chip_paths.specs.Operation.{Known, Finished, operation_path, entry_of, mark_block}
-use Rattle.nand_model.specs.Path.{Path, answers_of, GoesAlong, is_uncut, after_answers, next_event, result_of}
+use Rattle.nand_model.specs.Path.{Path, answers_of, GoesAlong, is_uncut, after_answers, next_event, first_event, result_of}
 use Rattle.nand_model.specs.declared.geometry.Geometry.{Geometry}
 use Rattle.nand_model.specs.declared.words.Reply.{Reply}
 use Rattle.nand_model.specs.declared.words.Reply.TheVariants.{Done}
@@ -17,11 +17,12 @@ use Rattle.relocation_laws.specs.Shelves.{HoldsBoth}
 use Rattle.relocation_laws.specs.Tables.{IsTable, IsTableBlock, Shows}
 use Rattle.page_laws.specs.Keeping.{IsFairEvent, EachStep}
 use Rattle.run_model.specs.Marking.{begins}
-use Rattle.relocation_laws.specs.Life.{block_marked, NowAcked, NowBegun, OpTrace, BootLife, flip_events_of, known_then, TableBlockFails, AckedIn, BegunIn, attach_outcome, IsOpTrace, AreOperations, FollowAttach, after_operations, after_boot, IsLife, AreFair, MarksOutlive}
+use Rattle.run_model.specs.History.{known_then}
+use Rattle.relocation_laws.specs.Life.{block_marked, NowAcked, NowBegun, TableBlockFails}
 use Rattle.relocation_laws.proofs.Lives.{dec-done, Lives, holding-as, lives-fewer, remembers-fewer, both-as, Remembers, AttachEnd, attach-end, OpEnds, unanswered, answered}
-use Rattle.relocation_laws.proofs.Operations.{plain_law, route}
+use Rattle.relocation_laws.proofs.Operations.{plain_alive, route-alive}
 use Rattle.nand_model.specs.declared.words.Op.{Op}
-use Rattle.relocation_laws.proofs.Goes.{Setting, Holding, holding-flipped}
+use Rattle.relocation_laws.proofs.Goes.{Setting, Holding, resting}
 use Rattle.relocation_laws.proofs.MarkerTables.{AreFactoryBad}
 use Rattle.relocation_laws.proofs.Safety.{Safety, Safe, SafeAfter, goes_on, was_cut, safe-trace, safe-moment, safe-result}
 use Rattle.relocation_laws.proofs.Starting.{both-rest}
@@ -118,18 +119,15 @@ module _ {W : Type 0} (model : FaultModel W) (g : Geometry) (c : Setting g) (eno
       more b (inr (inl u)) = inr (inl (u.0, refl))
       more b (inr (inr u)) = inr (inr u)
 
-  abbrev LivesOn : Partitions → (ℕ → Type 0) → (ℕ → Type 0) → ChipState W → List OpTrace → Type 0
-  LivesOn partitions A B s ops = Alive_ (λ b. A b ⊎ AckedIn partitions ops b) (λ b. B b ⊎ BegunIn model g partitions s ops b) (after_operations model g partitions s ops)
-
   each-granted : (s : ChipState W) (trace : List ChipEvent) → EachStep model (λ t e. ⊤) s trace
   each-granted s [] = tt
   each-granted s (e ∷ trace) = (tt, each-granted (happens model s e) trace)
 
   -- an operation that leaves the tables alone
   module _ (A B : ℕ → Type 0) (k : Known) (s : ChipState W) (trace : List ChipEvent) (r : Memory A B k s) (path : Path Finished)
-      (safe : Safe (plain_law model g c enough F factory p q in_p in_q apart A B k s r) path s) (along : GoesAlong model (next_event path) s [] trace) where
+      (safe : Safe (plain_alive model g c enough F factory p q in_p in_q apart A B k s r) path s) (along : GoesAlong model (next_event path) s [] trace) where
     abbrev the_law : Safety W Finished
-    the_law = plain_law model g c enough F factory p q in_p in_q apart A B k s r
+    the_law = plain_alive model g c enough F factory p q in_p in_q apart A B k s r
 
     after-plain : SafeAfter the_law path s [] trace
     after-plain = safe-trace the_law path trace s [] along (each-granted s trace) safe
@@ -138,7 +136,9 @@ module _ {W : Type 0} (model : FaultModel W) (g : Geometry) (c : Setting g) (eno
     plain-lives = on after-plain
       where
         on : SafeAfter the_law path s [] trace → Alive_ A B (after_trace model s trace)
-        on (goes_on u z) = safe-moment the_law (after_answers (answers_of model s trace) path) (after_trace model s trace) z
+        on (goes_on u z) =
+            resting g c (Shows g F A B) (None_ A) (first_event (after_answers (answers_of model s trace) path)) (after_trace model s trace)
+            (safe-moment the_law (after_answers (answers_of model s trace) path) (after_trace model s trace) z)
         on (was_cut u m) = m
 
     plain-remembers : (f : Finished) → is_uncut trace ≡ true → result_of (after_answers (answers_of model s trace) path) ≡ Some f → Memory A B f.known (after_trace model s trace)
@@ -155,29 +155,6 @@ module _ {W : Type 0} (model : FaultModel W) (g : Geometry) (c : Setting g) (eno
 
     abbrev pub BegunBy : (ℕ → Type 0) → ChipState W → Op → List ChipEvent → Option Reply → ℕ → Type 0
     BegunBy B s op trace reply b = B b ⊎ (NowBegun partitions op reply b ⊎ TableBlockFails model g s trace b)
-
-    no-more : (A B : ℕ → Type 0) (s : ChipState W) → Alive_ A B s → LivesOn partitions A B s []
-    no-more A B s z = lives-fewer model g c enough F factory p q in_p in_q apart A B (λ b. A b ⊎ ⊥) (λ b. B b ⊎ ⊥) fewer (λ b u. inl u) s z
-      where
-        fewer : (b : ℕ) → A b ⊎ ⊥ → A b
-        fewer b (inl a) = a
-        fewer b (inr x) = absurd x
-
-    regroup : (A B : ℕ → Type 0) (s : ChipState W) (o : OpTrace) (later : List OpTrace)
-        → LivesOn partitions (AckedBy A o.op o.reply) (BegunBy B s o.op o.trace o.reply) (after_trace model s o.trace) later → LivesOn partitions A B s (o ∷ later)
-    regroup A B s o later z =
-        lives-fewer model g c enough F factory p q in_p in_q apart (λ b. AckedBy A o.op o.reply b ⊎ AckedIn partitions later b) (λ b. BegunBy B s o.op o.trace o.reply b ⊎ BegunIn model g partitions (after_trace model s o.trace) later b)
-        (λ b. A b ⊎ AckedIn partitions (o ∷ later) b) (λ b. B b ⊎ BegunIn model g partitions s (o ∷ later) b) fewer more (after_operations model g partitions s (o ∷ later)) z
-      where
-        fewer : (b : ℕ) → A b ⊎ (NowAcked partitions o.op o.reply b ⊎ AckedIn partitions later b) → AckedBy A o.op o.reply b ⊎ AckedIn partitions later b
-        fewer b (inl a) = inl (inl a)
-        fewer b (inr (inl a)) = inl (inr a)
-        fewer b (inr (inr a)) = inr a
-
-        more : (b : ℕ) → BegunBy B s o.op o.trace o.reply b ⊎ BegunIn model g partitions (after_trace model s o.trace) later b → B b ⊎ BegunIn model g partitions s (o ∷ later) b
-        more b (inl (inl u)) = inl u
-        more b (inl (inr u)) = inr (inl u)
-        more b (inr u) = inr (inr u)
 
     -- the mark of this block is this operation
     module _ (A B : ℕ → Type 0) (s : ChipState W) (op : Op) (trace : List ChipEvent) (reply : Option Reply) (block : ℕ) (is : block_marked partitions op ≡ Some block) where
@@ -200,7 +177,7 @@ module _ {W : Type 0} (model : FaultModel W) (g : Geometry) (c : Setting g) (eno
     AfterOp A B k s op trace (Some reply) =
         Memory (AckedBy A op (Some reply)) (BegunBy B s op trace (Some reply)) (known_then k (result_of (after_answers (answers_of model s trace) (operation_path g partitions k op)))) (after_trace model s trace)
 
-    abbrev IsTrace : ChipState W → Path Finished → List ChipEvent → Option Reply → Type 0
+    abbrev pub IsTrace : ChipState W → Path Finished → List ChipEvent → Option Reply → Type 0
     IsTrace s path trace None = GoesAlong model (next_event path) s [] trace
     IsTrace s path trace (Some reply) =
         (after : Known) × GoesAlong model (next_event path) s [] trace × (is_uncut trace ≡ true) × (result_of (after_answers (answers_of model s trace) path) ≡ Some (record { reply = reply; known = after }))
@@ -222,7 +199,7 @@ module _ {W : Type 0} (model : FaultModel W) (g : Geometry) (c : Setting g) (eno
         (after-answer A B k after s (after_trace model s trace) block trace r reply (answered model g c enough F factory p q in_p in_q apart A B k s block trace r reply after along uncut over fair)))
 
     after-other : (A B : ℕ → Type 0) (k : Known) (s : ChipState W) (op : Op) (trace : List ChipEvent) (reply : Option Reply) (r : Memory A B k s) (path : Path Finished) → block_marked partitions op ≡ None
-        → Safe (plain_law model g c enough F factory p q in_p in_q apart A B k s r) path s → IsTrace s path trace reply → AfterPath A B k s op trace reply path
+        → Safe (plain_alive model g c enough F factory p q in_p in_q apart A B k s r) path s → IsTrace s path trace reply → AfterPath A B k s op trace reply path
     after-other A B k s op trace None r path none safe along =
         lives-fewer model g c enough F factory p q in_p in_q apart A B (AckedBy A op None) (BegunBy B s op trace None) (acked-none A op None none) (λ b u. inl u) (after_trace model s trace) (plain-lives A B k s trace r path safe along)
     after-other A B k s op trace (Some reply) r path none safe (after, along, uncut, over) =
@@ -230,61 +207,17 @@ module _ {W : Type 0} (model : FaultModel W) (g : Geometry) (c : Setting g) (eno
         (remembers-fewer model g c enough F factory p q in_p in_q apart A B (AckedBy A op (Some reply)) (BegunBy B s op trace (Some reply)) (acked-none A op (Some reply) none) (λ b u. inl u) after (after_trace model s trace)
         (plain-remembers A B k s trace r path safe along (record { reply = reply; known = after }) uncut over))
 
-    trace-of-path : (k : Known) (s : ChipState W) (op : Op) (trace : List ChipEvent) (reply : Option Reply) → IsOpTrace model g partitions s k op trace reply → IsTrace s (operation_path g partitions k op) trace reply
-    trace-of-path k s op trace None h = h
-    trace-of-path k s op trace (Some reply) h = h
-
     after-as : (A B : ℕ → Type 0) (k : Known) (s : ChipState W) (op : Op) (trace : List ChipEvent) (reply : Option Reply) → AfterPath A B k s op trace reply (operation_path g partitions k op) → AfterOp A B k s op trace reply
     after-as A B k s op trace None h = h
     after-as A B k s op trace (Some reply) h = h
 
     pub after-op : (A B : ℕ → Type 0) (k : Known) (s : ChipState W) (op : Op) (trace : List ChipEvent) (reply : Option Reply) → Memory A B k s → WritesAPage g op → EachStep model (IsFairEvent model) s trace
-        → IsOpTrace model g partitions s k op trace reply → AfterOp A B k s op trace reply
-    after-op A B k s op trace reply r fits fair is_trace = after-as A B k s op trace reply (on (route model g c enough F factory p q in_p in_q apart A B k s r (part_of partitions (device_of op)) op fits))
+        → IsTrace s (operation_path g partitions k op) trace reply → AfterOp A B k s op trace reply
+    after-op A B k s op trace reply r fits fair is_trace = after-as A B k s op trace reply (on (route-alive model g c enough F factory p q in_p in_q apart A B k s r (part_of partitions (device_of op)) op fits))
       where
-        h : IsTrace s (operation_path g partitions k op) trace reply
-        h = trace-of-path k s op trace reply is_trace
-
         on : ((b : ℕ) × (block_marked partitions op ≡ Some b) × (operation_path g partitions k op ≡ mark_block g k b))
-            ⊎ ((block_marked partitions op ≡ None) × ((t : ChipState W) → Holding g c (Shows g F A B) (None_ A) r.holds None t → Safe (plain_law model g c enough F factory p q in_p in_q apart A B k s r) (operation_path g partitions k op) t))
+            ⊎ ((block_marked partitions op ≡ None) × ((t : ChipState W) → Holding g c (Shows g F A B) (None_ A) r.holds None t → Safe (plain_alive model g c enough F factory p q in_p in_q apart A B k s r) (operation_path g partitions k op) t))
             → AfterPath A B k s op trace reply (operation_path g partitions k op)
         on (inl (b, is, same)) =
-            subst (λ x. AfterPath A B k s op trace reply x) (sym same) (after-mark A B k s op trace reply r fair b is (subst (λ x. IsTrace s x trace reply) same h))
-        on (inr (none, plain)) = after-other A B k s op trace reply r (operation_path g partitions k op) none (plain s r.holding) h
-
-    -- a chip lives through its operations
-    operations-live : (ops : List OpTrace) (A B : ℕ → Type 0) (k : Known) (s : ChipState W) → Memory A B k s → AreOperations model g partitions s k ops → AreFair model g partitions s ops → LivesOn partitions A B s ops
-    operations-live [] A B k s r are fair = no-more A B s (record { holds = r.holds; holding = r.holding; rests = r.rests })
-    operations-live (o ∷ later) A B k s r are fair =
-        regroup A B s o later (on o.reply (after-op A B k s o.op o.trace o.reply r are.0 fair.0 are.1) are.2 (λ A1 B1 r1. operations-live later A1 B1 (known_then k (result_of (after_answers (answers_of model s o.trace) (operation_path g partitions k o.op)))) (after_trace model s o.trace) r1 are.3 fair.1))
-      where
-        on : (reply : Option Reply) → AfterOp A B k s o.op o.trace reply → (is_none reply ≡ true → later ≡ [])
-            → ((A1 B1 : ℕ → Type 0) → Memory A1 B1 (known_then k (result_of (after_answers (answers_of model s o.trace) (operation_path g partitions k o.op)))) (after_trace model s o.trace) → LivesOn partitions A1 B1 (after_trace model s o.trace) later)
-            → LivesOn partitions (AckedBy A o.op reply) (BegunBy B s o.op o.trace reply) (after_trace model s o.trace) later
-        on None z last rest =
-            subst (λ os. LivesOn partitions (AckedBy A o.op None) (BegunBy B s o.op o.trace None) (after_trace model s o.trace) os) (sym (last refl)) (no-more (AckedBy A o.op None) (BegunBy B s o.op o.trace None) (after_trace model s o.trace) z)
-        on (Some reply) z last rest = rest (AckedBy A o.op (Some reply)) (BegunBy B s o.op o.trace (Some reply)) z
-
-    flips-live : (A B : ℕ → Type 0) (flips : List (ℕ × ℕ)) (s : ChipState W) → Alive_ A B s → Alive_ A B (after_trace model s (flip_events_of flips))
-    flips-live A B [] s z = z
-    flips-live A B (f ∷ flips) s z =
-        flips-live A B flips (happens model s (Flipped f.0 f.1)) (record { holds = z.holds; holding = holding-flipped g c (Shows g F A B) (None_ A) model z.holds None s f.0 f.1 z.holding; rests = z.rests })
-
-    -- a chip lives through all boots, and each attach shows what it should
-    pub boots-hold : (boots : List BootLife) (A B : ℕ → Type 0) (s : ChipState W) → Alive_ A B s → IsLife model g partitions s boots → MarksOutlive model g partitions F A B s boots
-    boots-hold [] A B s alive life = tt
-    boots-hold (b ∷ bs) A B s alive life = λ granted.
-        let end = attach-end model g c enough F factory p q in_p in_q apart A B s b.attach alive life.0 granted in (
-          (λ a e. (end.shown a e).0),
-          λ fair.
-              boots-hold bs (λ d. A d ⊎ AckedIn partitions b.operations d) (λ d. (B d ⊎ TableBlockFails model g s b.attach d) ⊎ BegunIn model g partitions (after_trace model s b.attach) b.operations d) (after_boot model g partitions s b)
-              (flips-live (λ d. A d ⊎ AckedIn partitions b.operations d) (λ d. (B d ⊎ TableBlockFails model g s b.attach d) ⊎ BegunIn model g partitions (after_trace model s b.attach) b.operations d) b.flips (after_operations model g partitions (after_trace model s b.attach) b.operations)
-              (worked (attach_outcome model g s b.attach) end life.1 fair)) life.2,
-        )
-      where
-        worked : (o : Option Attaching) → AttachEnd model g c enough F factory p q in_p in_q apart A (λ d. B d ⊎ TableBlockFails model g s b.attach d) (after_trace model s b.attach) o
-            → FollowAttach model g partitions o (after_trace model s b.attach) b.operations → AreFair model g partitions (after_trace model s b.attach) b.operations
-            → LivesOn partitions A (λ d. B d ⊎ TableBlockFails model g s b.attach d) (after_trace model s b.attach) b.operations
-        worked None end follow fair =
-            subst (λ ms. LivesOn partitions A (λ d. B d ⊎ TableBlockFails model g s b.attach d) (after_trace model s b.attach) ms) (sym follow) (no-more A (λ d. B d ⊎ TableBlockFails model g s b.attach d) (after_trace model s b.attach) end.lives)
-        worked (Some a) end follow fair = operations-live b.operations A (λ d. B d ⊎ TableBlockFails model g s b.attach d) (known_at_first a) (after_trace model s b.attach) (end.shown a refl).1 follow fair
+            subst (λ x. AfterPath A B k s op trace reply x) (sym same) (after-mark A B k s op trace reply r fair b is (subst (λ x. IsTrace s x trace reply) same is_trace))
+        on (inr (none, plain)) = after-other A B k s op trace reply r (operation_path g partitions k op) none (plain s r.holding) is_trace

@@ -2,6 +2,8 @@
 use Rattle.std.proofs.Common.{◌≡◌, ◌≢◌, ◌⊎◌, ◌<◌, ℕ, ◌/◌, Bool, true, false, ◌==◌, List, refl, ap, sym, ◌∙◌, arith, Option, Some, None, inl, inr, subst, slice_index}
 use Rattle.std.specs.Prelude.{⊤}
 use Rattle.std.proofs.lemmas.Bool.Decides.{nat_tests}
+use Rattle.std.proofs.lemmas.Option.{none-some, same_Some}
+use Rattle.run_model.specs.Run.{block_changed}
 use Rattle.nand_model.specs.Sizes.{first_page}
 use Rattle.nand_model.specs.Chip.{PageState, ChipState, FaultModel, ProgramCall, EraseCall, ChipEvent, Complete, PowerCut, DoneBits, PageEvent, ReadEvent, EraseEvent, ProgramEvent, happens, failure_of, with_page, torn_erase, torn_program, good_program, blank_page}
 use Rattle.nand_model.specs.Table.{table_blocks}
@@ -13,7 +15,7 @@ use Rattle.relocation_laws.specs.Keeping.{pages_after}
 use Rattle.page_laws.proofs.Pages.{with_block-other, with_block-same, with_page-same, block_of_first, same_or_not}
 use Rattle.page_laws.proofs.Markers.{torn_erase_marker, torn_program_marker, good_program_marker}
 use Rattle.relocation_laws.proofs.MarkSafe.{erased_pages, erased_geometry, programmed_pages, programmed_geometry}
-use Rattle.relocation_laws.proofs.Goes.{Setting, AtRest, Holding, Alive, holding-turned}
+use Rattle.relocation_laws.proofs.Goes.{Setting, Holding, holding-turned}
 use Rattle.relocation_laws.proofs.Safety.{Safety, turned, Safe}
 use Rattle.relocation_laws.proofs.Standing.{Stands}
 
@@ -102,9 +104,10 @@ module _ (g : Geometry) (c : Setting g) where
         markers = λ empty b small out. marker_stays e safe pages torn b small (h.markers empty b small out);
       }
 
-module _ {W A : Type 0} (model : FaultModel W) (g : Geometry) (c : Setting g) (Good_ : List ℕ → Type 0) (Fresh : Type 0) (granted : ChipState W → ChipEvent → Type 0) (result : A → ChipState W → Type 0) where
+module _ {W A : Type 0} (model : FaultModel W) (g : Geometry) (c : Setting g) (Good_ : List ℕ → Type 0) (Fresh : Type 0) (granted : ChipState W → ChipEvent → Type 0)
+    (moment : Path A → ChipState W → Type 0) (ended : ChipState W → Type 0) (result : A → ChipState W → Type 0) where
   abbrev data_law : Safety W A
-  data_law = record { model = model; granted = granted; moment = Alive g c Good_ Fresh; result = result }
+  data_law = record { model = model; granted = granted; moment = moment; ended = ended; result = result }
 
   abbrev Here : Shelf → ChipState W → Type 0
   Here holds s = Holding g c Good_ Fresh holds None s
@@ -121,10 +124,10 @@ module _ {W A : Type 0} (model : FaultModel W) (g : Geometry) (c : Setting g) (G
   whole-after holds s (ReadEvent page) safe h = h
   whole-after holds s (EraseEvent b) safe h =
       after holds s (happens model s (Complete (EraseEvent b))) (EraseEvent b) (failure_of model s (EraseCall b)) safe
-      (erased_geometry model g c Good_ Fresh granted result s b (failure_of model s (EraseCall b))) (erased_pages model g c Good_ Fresh granted result s b (failure_of model s (EraseCall b))) h
+      (erased_geometry model g c Good_ Fresh granted moment ended result s b (failure_of model s (EraseCall b))) (erased_pages model g c Good_ Fresh granted moment ended result s b (failure_of model s (EraseCall b))) h
   whole-after holds s (ProgramEvent page image) safe h =
       after holds s (happens model s (Complete (ProgramEvent page image))) (ProgramEvent page image) (failure_of model s (ProgramCall page)) safe
-      (programmed_geometry model g c Good_ Fresh granted result s page image (failure_of model s (ProgramCall page))) (programmed_pages model g c Good_ Fresh granted result s page image (failure_of model s (ProgramCall page))) h
+      (programmed_geometry model g c Good_ Fresh granted moment ended result s page image (failure_of model s (ProgramCall page))) (programmed_pages model g c Good_ Fresh granted moment ended result s page image (failure_of model s (ProgramCall page))) h
 
   cut-after : (holds : Shelf) (s : ChipState W) (e : PageEvent) (done : DoneBits) → IsSafe g c.is_good e → Here holds s → Here holds (happens model s (PowerCut e done))
   cut-after holds s (ReadEvent page) done safe h = h
@@ -132,11 +135,17 @@ module _ {W A : Type 0} (model : FaultModel W) (g : Geometry) (c : Setting g) (G
   cut-after holds s (ProgramEvent page image) done safe h = after holds s (happens model s (PowerCut (ProgramEvent page image) done)) (ProgramEvent page image) (Some done) safe refl refl h
 
   -- such an event is safe where what follows is
-  pub data-safe : (holds : Shelf) → AtRest g c Good_ Fresh holds → (e : PageEvent) (rest : Answer → Path A) (s : ChipState W) → IsSafe g c.is_good e → Here holds s
+  pub data-safe : (holds : Shelf) (e : PageEvent) (rest : Answer → Path A) (s : ChipState W) → IsSafe g c.is_good e → ((t : ChipState W) → Here holds t → moment (Then e rest) t) → ((t : ChipState W) → Here holds t → ended t) → Here holds s
       → ((t : ChipState W) (answer : Answer) → Here holds t → Safe data_law (rest answer) t) → Safe data_law (Then e rest) s
-  data-safe holds rests e rest s safe h later = λ flips.
+  data-safe holds e rest s safe before after_cut h later = λ flips.
       let now = holding-turned g c Good_ Fresh model holds None s flips h in (
-        record { holds = holds; holding = now; rests = rests },
-        λ done grant. record { holds = holds; holding = cut-after holds (turned model s flips) e done safe now; rests = rests },
+        before (turned model s flips) now,
+        λ done grant. after_cut (happens model (turned model s flips) (PowerCut e done)) (cut-after holds (turned model s flips) e done safe now),
         λ grant. later (happens model (turned model s flips) (Complete e)) (answer_to model (turned model s flips) e) (whole-after holds (turned model s flips) e safe now),
       )
+
+-- such an event changes no table block
+pub safe-outside : (g : Geometry) (is_good : ℕ → Bool) (e : PageEvent) → IsSafe g is_good e → (b : ℕ) → block_changed g (Some e) ≡ Some b → IsIn (table_blocks g) b → ⊥
+safe-outside g is_good (ReadEvent page) safe b e = absurd (none-some b e)
+safe-outside g is_good (EraseEvent x) safe b e = subst (λ y. IsIn (table_blocks g) y → ⊥) (same_Some x b e) safe.0
+safe-outside g is_good (ProgramEvent page image) safe b e = subst (λ y. IsIn (table_blocks g) y → ⊥) (same_Some (page / g.pages_per_block) b e) safe.0

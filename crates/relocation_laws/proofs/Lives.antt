@@ -3,12 +3,12 @@ use Rattle.std.proofs.Common.{◌≡◌, ◌≢◌, ◌⊎◌, ◌<◌, ◌≤�
 use Rattle.std.proofs.lemmas.Bool.{false≢true, eqb-true, leb-true}
 use Rattle.std.proofs.lemmas.Bool.Decides.{eqb_tells}
 use Rattle.std.proofs.lemmas.Option.{none-some}
-use Rattle.nand_model.specs.Chip.{ChipState, FaultModel, ChipEvent, Complete, PowerCut, Flipped, ReadEvent, EraseEvent, ProgramEvent, happens, after_trace}
+use Rattle.nand_model.specs.Chip.{ChipState, FaultModel, ChipEvent, PageEvent, Complete, PowerCut, Flipped, ReadEvent, EraseEvent, ProgramEvent, happens, after_trace}
 use Rattle.nand_model.specs.Table.{written_code, state_read, table_blocks, calls_bad}
 use Rattle.chip_paths.specs.Attach.{Attaching, attach_path}
 use Rattle.chip_paths.specs.ChipRun.{known_at_first}
 use Rattle.chip_paths.specs.Operation.{Known, Finished, answer, entry_of, mark_path, mark_block}
-use Rattle.nand_model.specs.Path.{Path, Over, Then, answers_of, GoesAlong, is_uncut, after_answers, next_event, result_of, either}
+use Rattle.nand_model.specs.Path.{Path, Over, Then, answers_of, GoesAlong, is_uncut, after_answers, next_event, first_event, result_of, either}
 use Rattle.nand_model.specs.declared.geometry.Geometry.{Geometry}
 use Rattle.nand_model.specs.declared.words.Reply.{Reply}
 use Rattle.nand_model.specs.declared.words.Reply.TheVariants.{Done, Reserved, Copies}
@@ -17,9 +17,10 @@ use Rattle.relocation_laws.specs.Shelves.{Held, Shelf, IsOlder, Newest, HoldsBot
 use Rattle.page_laws.specs.Keeping.{IsIn, IsFairEvent, IsQuietEvent, EachStep}
 use Rattle.relocation_laws.specs.Tables.{as_written, IsTable, IsTableBlock, Shows}
 use Rattle.relocation_laws.specs.Keeping.{BlockFails}
-use Rattle.relocation_laws.specs.Life.{is_begun, outcome_if, FailsIn, TableBlockFails, attach_outcome}
-use Rattle.relocation_laws.proofs.AttachSafe.{attach_law, attach-safe}
-use Rattle.relocation_laws.proofs.Goes.{Setting, AtRest, Holding, Alive, Comes, holding-turned}
+use Rattle.run_model.specs.History.{outcome_if}
+use Rattle.relocation_laws.specs.Life.{is_begun, FailsIn, TableBlockFails}
+use Rattle.relocation_laws.proofs.AttachSafe.{alive_law, attach-alive}
+use Rattle.relocation_laws.proofs.Goes.{Setting, AtRest, Holding, Alive, Comes, holding-turned, resting, alive-still}
 use Rattle.relocation_laws.proofs.MarkSafe.{mark-safe, laws}
 use Rattle.relocation_laws.proofs.Marking.{IsMarked, both-shows, shows-fewer}
 use Rattle.relocation_laws.proofs.MarkerTables.{AreFactoryBad}
@@ -110,10 +111,10 @@ each-fails model g P s (PowerCut e done ∷ trace) h = (tt, each-fails model g P
 each-fails model g P s (Flipped page bit ∷ trace) h = (tt, each-fails model g P (happens model s (Flipped page bit)) trace h)
 
 -- a safe path stays safe for a weaker result
-weaker : {W A : Type 0} (model : FaultModel W) (granted : ChipState W → ChipEvent → Type 0) (moment : ChipState W → Type 0) (R S : A → ChipState W → Type 0) → ((a : A) (s : ChipState W) → R a s → S a s)
-    → (path : Path A) (s : ChipState W) → Safe (record { model = model; granted = granted; moment = moment; result = R }) path s → Safe (record { model = model; granted = granted; moment = moment; result = S }) path s
-weaker model granted moment R S f (Over a) s h = λ flips. ((h flips).0, f a _ (h flips).1)
-weaker model granted moment R S f (Then e rest) s h = λ flips. ((h flips).0, (h flips).1, λ grant. weaker model granted moment R S f (rest _) _ ((h flips).2 grant))
+weaker : {W A : Type 0} (model : FaultModel W) (granted : ChipState W → ChipEvent → Type 0) (moment : Path A → ChipState W → Type 0) (ended : ChipState W → Type 0) (R S : A → ChipState W → Type 0) → ((a : A) (s : ChipState W) → R a s → S a s)
+    → (path : Path A) (s : ChipState W) → Safe (record { model = model; granted = granted; moment = moment; ended = ended; result = R }) path s → Safe (record { model = model; granted = granted; moment = moment; ended = ended; result = S }) path s
+weaker model granted moment ended R S f (Over a) s h = λ flips. ((h flips).0, f a _ (h flips).1)
+weaker model granted moment ended R S f (Then e rest) s h = λ flips. ((h flips).0, (h flips).1, λ grant. weaker model granted moment ended R S f (rest _) _ ((h flips).2 grant))
 
 module _ {W : Type 0} (model : FaultModel W) (g : Geometry) (c : Setting g) (enough : 4 ≤ g.blocks) (F : ℕ → Type 0) (factory : AreFactoryBad g c.is_good F)
     (p q : ℕ) (in_p : IsTableBlock g c.is_good p) (in_q : IsTableBlock g c.is_good q) (apart : p ≢ q) where
@@ -126,7 +127,11 @@ module _ {W : Type 0} (model : FaultModel W) (g : Geometry) (c : Setting g) (eno
 
   -- the chip is alive, with tables that show these blocks
   abbrev pub Lives : (A B : ℕ → Type 0) → ChipState W → Type 0
-  Lives A B s = Alive g c (Shows g F A B) (None_ A) s
+  Lives A B s = Alive g c (Shows g F A B) (None_ A) None s
+
+  -- and before its next event, if one comes, another block holds a copy that is found
+  abbrev pub LivesBefore : (A B : ℕ → Type 0) → Option PageEvent → ChipState W → Type 0
+  LivesBefore A B next s = Alive g c (Shows g F A B) (None_ A) next s
 
   newest-fewer : (Good Good1 : List ℕ → Type 0) → ((t : List ℕ) → Good t → Good1 t) → (h : Shelf) → Newest TB (IsTable g) Good h → Newest TB (IsTable g) Good1 h
   newest-fewer Good Good1 f h j =
@@ -157,8 +162,12 @@ module _ {W : Type 0} (model : FaultModel W) (g : Geometry) (c : Setting g) (eno
   pub holding-as : (A B A1 B1 : ℕ → Type 0) (h : Shelf) (s : ChipState W) → Holding g c (Shows g F A B) (None_ A) h None s → Holding g c (Shows g F A1 B1) (None_ A1) h None s
   holding-as A B A1 B1 h s z = record { geometry = z.geometry; stands = z.stands; is_fresh = z.is_fresh }
 
+  pub lives-before-fewer : (A B A1 B1 : ℕ → Type 0) → ((b : ℕ) → A1 b → A b) → ((b : ℕ) → B b → B1 b) → (next : Option PageEvent) (s : ChipState W) → LivesBefore A B next s → LivesBefore A1 B1 next s
+  lives-before-fewer A B A1 B1 fewer more next s z =
+      record { holds = z.holds; holding = holding-as A B A1 B1 z.holds s z.holding; rests = rests-fewer A B A1 B1 fewer more z.holds z.rests; aside = z.aside }
+
   pub lives-fewer : (A B A1 B1 : ℕ → Type 0) → ((b : ℕ) → A1 b → A b) → ((b : ℕ) → B b → B1 b) → (s : ChipState W) → Lives A B s → Lives A1 B1 s
-  lives-fewer A B A1 B1 fewer more s z = record { holds = z.holds; holding = holding-as A B A1 B1 z.holds s z.holding; rests = rests-fewer A B A1 B1 fewer more z.holds z.rests }
+  lives-fewer A B A1 B1 fewer more s z = lives-before-fewer A B A1 B1 fewer more None s z
 
   -- what is known of the chip: two whole copies hold the table in memory
   pub record Remembers (A B : ℕ → Type 0) (k : Known) (s : ChipState W) : Type 0 where
@@ -183,6 +192,10 @@ module _ {W : Type 0} (model : FaultModel W) (g : Geometry) (c : Setting g) (eno
         shows = shows-fewer g enough c.is_good F A B A1 B1 k.table fewer more z.shows;
       }
 
+  -- what an attach along this trace came to
+  abbrev pub attach_end_of : ChipState W → List ChipEvent → Option Attaching
+  attach_end_of s trace = outcome_if (is_uncut trace) (result_of (after_answers (answers_of model s trace) (attach_path g)))
+
   -- what became of an attach
   pub record AttachEnd (A B : ℕ → Type 0) (t : ChipState W) (outcome : Option Attaching) : Type 0 where
     pub lives : Lives A B t
@@ -197,8 +210,8 @@ module _ {W : Type 0} (model : FaultModel W) (g : Geometry) (c : Setting g) (eno
   cut-has-none false r a e f = none-some a f
 
   pub attach-end : (A B : ℕ → Type 0) (s : ChipState W) (trace : List ChipEvent) → Lives A B s → GoesAlong model (next_event (attach_path g)) s [] trace
-      → EachStep model (λ s e. IsFairEvent model s e × IsQuietEvent s e) s trace → AttachEnd A (λ d. B d ⊎ TableBlockFails model g s trace d) (after_trace model s trace) (attach_outcome model g s trace)
-  attach-end A B s trace alive along granted = on (safe-trace the_law (attach_path g) trace s [] along grants (attach-safe model g c enough F factory p q in_p in_q apart A B1 Fails (λ b f. inr f) s (lives-fewer A B A B1 (λ b a. a) (λ b z. inl z) s alive)))
+      → EachStep model (λ s e. IsFairEvent model s e × IsQuietEvent s e) s trace → AttachEnd A (λ d. B d ⊎ TableBlockFails model g s trace d) (after_trace model s trace) (attach_end_of s trace)
+  attach-end A B s trace alive along granted = on (safe-trace the_law (attach_path g) trace s [] along grants (attach-alive model g c enough F factory p q in_p in_q apart A B1 Fails (λ b f. inr f) s (lives-fewer A B A B1 (λ b a. a) (λ b z. inl z) s alive)))
     where
       Fails : ℕ → Type 0
       Fails b = TableBlockFails model g s trace b
@@ -207,7 +220,7 @@ module _ {W : Type 0} (model : FaultModel W) (g : Geometry) (c : Setting g) (eno
       B1 b = B b ⊎ TableBlockFails model g s trace b
 
       the_law : Safety W Attaching
-      the_law = attach_law model g c enough F factory p q in_p in_q apart A B1 Fails (λ b f. inr f)
+      the_law = alive_law model g c enough F factory p q in_p in_q apart A B1 Fails (λ b f. inr f)
 
       grants : EachStep model the_law.granted s trace
       grants = each-map model (λ s e. (IsFairEvent model s e × IsQuietEvent s e) × BlockFails model Fails g s e) the_law.granted s trace (λ s e z. (z.0.0, z.0.1, z.1))
@@ -216,10 +229,11 @@ module _ {W : Type 0} (model : FaultModel W) (g : Geometry) (c : Setting g) (eno
       told : (a : Attaching) (t : ChipState W) → the_law.result a t → Shows g F A B1 a.table × Remembers A B1 (known_at_first a) t
       told a t r = (r.ends.shows, record { holds = r.holds; holding = r.holding; rests = r.ends.rests; both = r.ends.both; form = r.ends.form; shows = r.ends.shows })
 
-      on : SafeAfter the_law (attach_path g) s [] trace → AttachEnd A B1 (after_trace model s trace) (attach_outcome model g s trace)
+      on : SafeAfter the_law (attach_path g) s [] trace → AttachEnd A B1 (after_trace model s trace) (attach_end_of s trace)
       on (was_cut u m) = record { lives = m; shown = λ a e. absurd (cut-has-none (is_uncut trace) _ a u e) }
       on (goes_on u safe) = record {
-        lives = safe-moment the_law (after_answers (answers_of model s trace) (attach_path g)) (after_trace model s trace) safe;
+        lives = resting g c (Shows g F A B1) (None_ A) (first_event (after_answers (answers_of model s trace) (attach_path g))) (after_trace model s trace)
+            (safe-moment the_law (after_answers (answers_of model s trace) (attach_path g)) (after_trace model s trace) safe);
         shown = λ a e. told a (after_trace model s trace) (safe-result the_law (after_answers (answers_of model s trace) (attach_path g)) (after_trace model s trace) a (sym (uncut-has (is_uncut trace) _ u) ∙ e) safe);
       }
 
@@ -241,7 +255,7 @@ module _ {W : Type 0} (model : FaultModel W) (g : Geometry) (c : Setting g) (eno
     Granted t e = IsFairEvent model t e × BlockFails model Fails_ g t e
 
     abbrev pub op_law : Safety W Finished
-    op_law = record { model = model; granted = Granted; moment = Lives A Then_; result = OpEnds }
+    op_law = record { model = model; granted = Granted; moment = λ path t. LivesBefore A Then_ (first_event path) t; ended = Lives A Then_; result = OpEnds }
 
     remembers-then : Remembers A Then_ k s
     remembers-then = remembers-fewer A B A Then_ (λ b a. a) (λ b z. inl z) k s r
@@ -252,7 +266,7 @@ module _ {W : Type 0} (model : FaultModel W) (g : Geometry) (c : Setting g) (eno
     over-safe : (reply : Reply) → (Proceeds → is_begun reply ≡ true) → (reply ≡ Done → (2 ≤ k.copies) × (block < g.blocks → calls_bad k.table block ≡ true)) → Safe op_law (answer k reply) s
     over-safe reply counts done = λ flips.
         let z = remembers-turned s flips remembers-then in
-        (record { holds = z.holds; holding = z.holding; rests = z.rests }, record { remembers = z; counts = counts; done = done })
+        (alive-still g c (Shows g F A Then_) (None_ A) z.holds (turned model s flips) z.holding z.rests, record { remembers = z; counts = counts; done = done })
 
     two-copies : nat_le 2 k.copies ≡ true → 2 ≤ k.copies
     two-copies e = leb-true 2 k.copies e
@@ -266,7 +280,7 @@ module _ {W : Type 0} (model : FaultModel W) (g : Geometry) (c : Setting g) (eno
 
     full-mark : Proceeds → slice_index k.table block ≡ 0 → Safe op_law (mark_path g k block) s
     full-mark go zero_ =
-        weaker model Granted (Lives A Then_)
+        weaker model Granted (λ path t. LivesBefore A Then_ (first_event path) t) (Lives A Then_)
         (Comes g c (Shows g F A Then_) (None_ A) (IsMarked g enough c.is_good F A Then_ Fails_ (None_ A) block out (inr (inl (refl, go))) (laws model g c enough F factory A Then_ Fails_ (λ b f. inr (inr f)) (None_ A) block out (inr (inl (refl, go)))))) OpEnds
         (λ a t z. record {
           remembers = record { holds = z.holds; holding = z.holding; rests = z.ends.rests; both = z.ends.both; form = z.ends.form; shows = z.ends.shows };
@@ -322,7 +336,9 @@ module _ {W : Type 0} (model : FaultModel W) (g : Geometry) (c : Setting g) (eno
     unanswered along fair = on (safe-trace the_op_law (mark_block g k block) trace s [] along (grants fair) (op-safe A B k s block In r))
       where
         on : SafeAfter the_op_law (mark_block g k block) s [] trace → Lives A (Then_ A B k s block In r) (after_trace model s trace)
-        on (goes_on u safe) = safe-moment the_op_law (after_answers (answers_of model s trace) (mark_block g k block)) (after_trace model s trace) safe
+        on (goes_on u safe) =
+            resting g c (Shows g F A (Then_ A B k s block In r)) (None_ A) (first_event (after_answers (answers_of model s trace) (mark_block g k block))) (after_trace model s trace)
+            (safe-moment the_op_law (after_answers (answers_of model s trace) (mark_block g k block)) (after_trace model s trace) safe)
         on (was_cut u m) = m
 
     -- a mark that was

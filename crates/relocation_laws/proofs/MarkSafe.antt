@@ -1,13 +1,14 @@
 -- A marking on a chip is safe: the erase and the marker of the data block leave the tables alone, and then the copies are written.
-use Rattle.std.proofs.Common.{◌≡◌, ◌≢◌, ◌⊎◌, ◌≤◌, ℕ, Bool, true, false, ◌==◌, List, refl, sym, ◌∙◌, Option, Some, None, inl, inr, subst, slice_index, if◌then◌else◌}
+use Rattle.std.proofs.Common.{◌≡◌, ◌≢◌, ◌⊎◌, ◌≤◌, ℕ, ◌/◌, Bool, true, false, ◌==◌, List, refl, sym, ◌∙◌, Option, Some, None, inl, inr, subst, slice_index, if◌then◌else◌}
 use Rattle.std.proofs.lemmas.Bool.Decides.{eqb_tells}
+use Rattle.std.proofs.lemmas.Option.{same_Some}
 use Rattle.nand_model.specs.Sizes.{first_page}
 use Rattle.nand_model.specs.Chip.{PageState, ChipState, FaultModel, ProgramCall, EraseCall, ChipEvent, Complete, PowerCut, DoneBits, PageEvent, EraseEvent, ProgramEvent, happens, failure_of, counted, erase_block, program_page, with_page, blank_page, torn_erase, good_program, torn_program}
 use Rattle.nand_model.specs.Table.{table_blocks, has_tables}
 use Rattle.chip_paths.specs.Operation.{Known, Finished, with_mark, after_marker_alone, write_tables, mark_path}
 use Rattle.chip_paths.specs.Writing.{marked, next_version}
 use Rattle.nand_model.specs.Page.{marker_image}
-use Rattle.nand_model.specs.Path.{Answer, Path, Then, answer_to, either}
+use Rattle.nand_model.specs.Path.{Answer, Path, Then, answer_to, either, first_event}
 use Rattle.nand_model.specs.declared.geometry.Geometry.{Geometry}
 use Rattle.relocation_laws.specs.Shelves.{Shelf, IsEmpty, TableLaws, Newest, HoldsBoth}
 use Rattle.page_laws.specs.Keeping.{IsIn, IsFairEvent}
@@ -17,13 +18,14 @@ use Rattle.relocation_laws.proofs.Tables.{table-laws}
 use Rattle.relocation_laws.proofs.Starting.{both-rest}
 use Rattle.relocation_laws.proofs.Marking.{IsMarked, marking-goes}
 use Rattle.relocation_laws.proofs.MarkerTables.{AreFactoryBad}
-use Rattle.page_laws.proofs.Pages.{with_block-other, first_page-same}
+use Rattle.page_laws.proofs.Pages.{with_block-other, first_page-same, block_of_first}
 use Rattle.relocation_laws.proofs.Safety.{Safety, turned, Safe}
-use Rattle.relocation_laws.proofs.Goes.{Setting, AtRest, Holding, Alive, Comes, holding-turned, law, goes-safe}
+use Rattle.relocation_laws.proofs.Goes.{Setting, AtRest, Holding, Alive, Comes, holding-turned, along-alive, alive-outside, alive-still, goes-safe}
 
-module _ {W A : Type 0} (model : FaultModel W) (g : Geometry) (c : Setting g) (Good_ : List ℕ → Type 0) (Fresh : Type 0) (granted : ChipState W → ChipEvent → Type 0) (result : A → ChipState W → Type 0) where
+module _ {W A : Type 0} (model : FaultModel W) (g : Geometry) (c : Setting g) (Good_ : List ℕ → Type 0) (Fresh : Type 0) (granted : ChipState W → ChipEvent → Type 0)
+    (moment : Path A → ChipState W → Type 0) (ended : ChipState W → Type 0) (result : A → ChipState W → Type 0) where
   abbrev outside_law : Safety W A
-  outside_law = record { model = model; granted = granted; moment = Alive g c Good_ Fresh; result = result }
+  outside_law = record { model = model; granted = granted; moment = moment; ended = ended; result = result }
 
   -- an event that leaves the first pages of the last four blocks alone, while something is held
   pub record IsOutside (e : PageEvent) : Type 0 where
@@ -45,13 +47,14 @@ module _ {W A : Type 0} (model : FaultModel W) (g : Geometry) (c : Setting g) (G
         is_fresh = λ b e. absurd (cc);
       }
 
-  pub outside-safe : (holds : Shelf) → (IsEmpty holds → ⊥) → AtRest g c Good_ Fresh holds → (e : PageEvent) → IsOutside e → (rest : Answer → Path A) (s : ChipState W) → Holding g c Good_ Fresh holds None s
+  pub outside-safe : (holds : Shelf) → (IsEmpty holds → ⊥) → (e : PageEvent) → IsOutside e → (rest : Answer → Path A) (s : ChipState W)
+      → ((t : ChipState W) → Holding g c Good_ Fresh holds None t → moment (Then e rest) t) → ((t : ChipState W) → Holding g c Good_ Fresh holds None t → ended t) → Holding g c Good_ Fresh holds None s
       → ((answer : Answer) (t : ChipState W) → Holding g c Good_ Fresh holds None t → Safe outside_law (rest answer) t) → Safe outside_law (Then e rest) s
-  outside-safe holds some rests e out rest s h later = λ flips.
+  outside-safe holds some e out rest s before after_cut h later = λ flips.
       let t = turned model s flips in
       let now = holding-turned g c Good_ Fresh model holds None s flips h in (
-        record { holds = holds; holding = now; rests = rests },
-        λ done grant. record { holds = holds; holding = held-on holds some t (happens model t (PowerCut e done)) e (Some done) out.same (out.cut_geometry t done) (out.cut_pages t done) now; rests = rests },
+        before t now,
+        λ done grant. after_cut (happens model t (PowerCut e done)) (held-on holds some t (happens model t (PowerCut e done)) e (Some done) out.same (out.cut_geometry t done) (out.cut_pages t done) now),
         λ grant. later (answer_to model t e) (happens model t (Complete e)) (held-on holds some t (happens model t (Complete e)) e (out.pages t).0 out.same (out.geometry t) (out.pages t).1 now),
       )
 
@@ -121,20 +124,33 @@ module _ {W : Type 0} (model : FaultModel W) (g : Geometry) (c : Setting g) (eno
   abbrev Marked_ : Finished → Shelf → Type 0
   Marked_ = IsMarked g enough c.is_good F A B Fails Fresh block out marked_now laws
 
+  abbrev Moment : Path Finished → ChipState W → Type 0
+  Moment path s = Alive g c Good_ Fresh (first_event path) s
+
+  abbrev Ended : ChipState W → Type 0
+  Ended s = Alive g c Good_ Fresh None s
+
   abbrev pub mark_law : Safety W Finished
-  mark_law = law model g c Fails Good_ Fresh MarkGrant (λ s e grant. grant) Marked_ (λ a h e. e.rests)
+  mark_law = record { model = model; granted = MarkGrant; moment = Moment; ended = Ended; result = Comes g c Good_ Fresh Marked_ }
 
   -- a mark of a data block on a chip whose two copies hold the table in memory
   pub mark-safe : (k : Known) (holds : Shelf) (s : ChipState W) → slice_index k.table block ≡ 0 → HoldsBoth (IsTableBlock g c.is_good) (IsTable g) Good_ Fresh k.table k.version k.places holds
       → Holding g c Good_ Fresh holds None s → Safe mark_law (mark_path g k block) s
   mark-safe k holds s zero_ both h =
-      outside-safe model g c Good_ Fresh MarkGrant (Comes g c Good_ Fresh Marked_) holds some rests (EraseEvent block) (erase-outside model g c Good_ Fresh MarkGrant (Comes g c Good_ Fresh Marked_) block out)
-      (λ erased. Then (ProgramEvent (first_page g block) (marker_image g)) (λ marker. either (has_tables g) (λ x. write_tables g (with_mark g k block) marker) (λ x. after_marker_alone g k block marker))) s h (λ erased t i.
-      outside-safe model g c Good_ Fresh MarkGrant (Comes g c Good_ Fresh Marked_) holds some rests (ProgramEvent (first_page g block) (marker_image g))
-      (program-outside model g c Good_ Fresh MarkGrant (Comes g c Good_ Fresh Marked_) (first_page g block) (marker_image g) (λ b inside e. out (subst (IsIn (table_blocks g)) (first_page-same g b block c.laws.sized e) inside)))
-      (λ marker. either (has_tables g) (λ x. write_tables g (with_mark g k block) marker) (λ x. after_marker_alone g k block marker)) t i (λ marker u j.
+      outside-safe model g c Good_ Fresh MarkGrant Moment Ended (Comes g c Good_ Fresh Marked_) holds some (EraseEvent block) (erase-outside model g c Good_ Fresh MarkGrant Moment Ended (Comes g c Good_ Fresh Marked_) block out)
+      (λ erased. Then (ProgramEvent (first_page g block) (marker_image g)) (λ marker. either (has_tables g) (λ x. write_tables g (with_mark g k block) marker) (λ x. after_marker_alone g k block marker))) s
+      (λ t i. alive-outside g c Good_ Fresh holds (EraseEvent block) t i rests (λ b e. subst (λ x. IsIn (table_blocks g) x → ⊥) (same_Some block b e) out))
+      (λ t i. alive-still g c Good_ Fresh holds t i rests) h (λ erased t i.
+      outside-safe model g c Good_ Fresh MarkGrant Moment Ended (Comes g c Good_ Fresh Marked_) holds some (ProgramEvent (first_page g block) (marker_image g))
+      (program-outside model g c Good_ Fresh MarkGrant Moment Ended (Comes g c Good_ Fresh Marked_) (first_page g block) (marker_image g) (λ b inside e. out (subst (IsIn (table_blocks g)) (first_page-same g b block c.laws.sized e) inside)))
+      (λ marker. either (has_tables g) (λ x. write_tables g (with_mark g k block) marker) (λ x. after_marker_alone g k block marker)) t
+      (λ u j. alive-outside g c Good_ Fresh holds (ProgramEvent (first_page g block) (marker_image g)) u j rests
+      (λ b e. subst (λ x. IsIn (table_blocks g) x → ⊥) (sym (block_of_first g block c.laws.sized) ∙ same_Some (first_page g block / g.pages_per_block) b e) out))
+      (λ u j. alive-still g c Good_ Fresh holds u j rests) i (λ marker u j.
       subst (λ t. Safe mark_law (either t (λ x. write_tables g (with_mark_by t) marker) (λ x. after_marker_alone g k block marker)) u) (sym c.tables)
-      (goes-safe model g c Fails Good_ Fresh MarkGrant (λ s e grant. grant) Marked_ (λ a y e. e.rests) (write_tables g (record k { table = marked k.table block; version = next_version k.version }) marker) None holds u j
+      (goes-safe model g c Fails Good_ Fresh MarkGrant (λ s e grant. grant) Marked_ (λ a y e. e.rests) Moment
+      (λ path fresh holds s h goes. along-alive g c Fails Good_ Fresh Marked_ (λ a y e. e.rests) path fresh holds s h goes) Ended (λ holds s h rests. alive-still g c Good_ Fresh holds s h rests)
+      (write_tables g (record k { table = marked k.table block; version = next_version k.version }) marker) None holds u j
       (marking-goes g enough c.is_good F A B Fails Fresh block out marked_now laws k marker holds zero_ both))))
     where
       with_mark_by : Bool → Known

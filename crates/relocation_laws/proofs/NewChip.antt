@@ -121,6 +121,7 @@ module _ (g : Geometry) (bad : List ℕ) (weak : List Weak) (laws : PageLaws g) 
           is_fresh = λ b e. absurd (cc);
         };
         rests = inl ((λ b. refl), λ b a. a);
+        aside = none-aside g (λ b. None);
       }
 
 filter-yes : {X : Type 0} (test : X → Bool) (x : X) (xs : List X) → test x ≡ true → filter test (x ∷ xs) ≡ x ∷ filter test xs
@@ -210,17 +211,3 @@ two-blocks g is_good enough two = on (filter is_good (table_blocks g)) refl two
       where
         distinct : AreDistinct (a ∷ b ∷ rest)
         distinct = subst AreDistinct e (distinct_filter is_good (table_blocks g) (blocks_distinct g enough))
-
-pub marks-outlive : MarksOutliveRelocation
-marks-outlive g bad weak partitions boots tables few life =
-    boots-hold sim_faults g (record { is_good = is_good_of bad; laws = laws; tables = tables }) enough (IsIn bad) (are_bad g bad) t.one t.another t.one_good t.another_good t.apart partitions boots (λ b. ⊥) (λ b. ⊥) (new_chip g bad weak)
-    (new_lives g bad weak laws tables enough t.one t.another t.one_good t.another_good t.apart) life
-  where
-    laws : PageLaws g
-    laws = page_laws g
-
-    enough : 4 ≤ g.blocks
-    enough = omega (arith, (bounds g).blocks_low)
-
-    t : TwoBlocks g (is_good_of bad)
-    t = two-blocks g (is_good_of bad) enough (two_good g bad tables few)

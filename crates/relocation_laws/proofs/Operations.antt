@@ -8,7 +8,9 @@ use Rattle.nand_model.specs.Page.{page_image, decoded}
 use Rattle.nand_model.specs.Chip.{ChipState, FaultModel, PageEvent, ReadEvent, EraseEvent, ProgramEvent}
 use Rattle.nand_model.specs.Table.{table_blocks, is_bad_state}
 use Rattle.chip_paths.specs.Operation.{Known, Finished, answer, only_if, operation_by, mark_block, done_or, chip_page, chip_block, has_page, has_block, raw_reply, after_read, entry_of, is_good_block, bad_count}
-use Rattle.nand_model.specs.Path.{Answer, Path, Over, Then, either, cells_of}
+use Rattle.nand_model.specs.Path.{Answer, Path, Over, Then, either, cells_of, first_event}
+use Rattle.run_model.specs.Run.{block_changed}
+use Rattle.std.proofs.lemmas.Option.{none-some}
 use Rattle.nand_model.specs.declared.geometry.Geometry.{Geometry}
 use Rattle.nand_model.specs.declared.words.Part.{Part}
 use Rattle.nand_model.specs.declared.words.Op.{Op}
@@ -18,11 +20,11 @@ use Rattle.nand_model.specs.declared.words.Reply.TheVariants.{OutOfRange, BadBlo
 use Rattle.page_laws.specs.Keeping.{IsIn}
 use Rattle.relocation_laws.specs.Tables.{IsTableBlock, Shows}
 use Rattle.relocation_laws.specs.Life.{block_of}
-use Rattle.relocation_laws.proofs.DataEvents.{IsSafe, data-safe}
-use Rattle.relocation_laws.proofs.Goes.{Setting, Holding, holding-turned}
-use Rattle.relocation_laws.proofs.Lives.{Lives, Remembers}
+use Rattle.relocation_laws.proofs.DataEvents.{IsSafe, data-safe, safe-outside}
+use Rattle.relocation_laws.proofs.Goes.{Setting, Holding, holding-turned, rests-inside, alive-still}
+use Rattle.relocation_laws.proofs.Lives.{Lives, LivesBefore, Remembers}
 use Rattle.relocation_laws.proofs.MarkerTables.{AreFactoryBad}
-use Rattle.relocation_laws.proofs.Safety.{Safety, Safe}
+use Rattle.relocation_laws.proofs.Safety.{Safety, Safe, turned}
 use Rattle.run_model.specs.Survival.{WritesAPage}
 
 -- a path by a test
@@ -52,122 +54,141 @@ module _ {W : Type 0} (model : FaultModel W) (g : Geometry) (c : Setting g) (eno
   abbrev Memory : Known → ChipState W → Type 0
   Memory j t = Remembers model g c enough F factory p q in_p in_q apart A B j t
 
-  -- nothing is asked of the events of an operation that leaves the tables alone
-  abbrev pub plain_law : Safety W Finished
-  plain_law = record { model = model; granted = λ t e. ⊤; moment = Lives model g c enough F factory p q in_p in_q apart A B; result = λ f t. Memory f.known t }
-
   abbrev Here : ChipState W → Type 0
   Here t = Holding g c (Shows g F A B) ((b : ℕ) → A b → ⊥) r.holds None t
 
-  abbrev Plain : Path Finished → Type 0
-  Plain path = (t : ChipState W) → Here t → Safe plain_law path t
+  -- nothing is asked of the events of an operation that leaves the tables alone
+  abbrev pub plain_law : (Path Finished → ChipState W → Type 0) → (ChipState W → Type 0) → Safety W Finished
+  plain_law moment ended = record { model = model; granted = λ t e. ⊤; moment = moment; ended = ended; result = λ f t. Memory f.known t }
 
-  -- what is known may have other statistics
-  over : (f : Finished) → f.known.table ≡ k.table → f.known.version ≡ k.version → f.known.places ≡ k.places → f.known.copies ≡ k.copies → Plain (Over f)
-  over f table version places copies t h = λ flips.
-      let now = holding-turned g c (Shows g F A B) ((b : ℕ) → A b → ⊥) model r.holds None t flips h in (
-        record { holds = r.holds; holding = now; rests = r.rests },
-        record {
-          holds = r.holds;
-          holding = now;
-          rests = r.rests;
-          both = λ two. rw (table, version, places) (r.both (rw copies at two));
-          form = rw table r.form;
-          shows = rw table r.shows;
-        },
-      )
+  -- what holds before an event outside the table blocks and after a cut one, while the pages hold the shelf that is remembered
+  module _ (moment : Path Finished → ChipState W → Type 0) (ended : ChipState W → Type 0)
+      (before : (path : Path Finished) → ((b : ℕ) → block_changed g (first_event path) ≡ Some b → IsIn (table_blocks g) b → ⊥) → (t : ChipState W) → Here t → moment path t) (after_cut : (t : ChipState W) → Here t → ended t) where
+    abbrev Plain : Path Finished → Type 0
+    Plain path = (t : ChipState W) → Here t → Safe (plain_law moment ended) path t
 
-  replied : (reply : Reply) → Plain (answer k reply)
-  replied reply = over (record { reply = reply; known = k }) refl refl refl refl
+    -- what is known may have other statistics
+    over : (f : Finished) → f.known.table ≡ k.table → f.known.version ≡ k.version → f.known.places ≡ k.places → f.known.copies ≡ k.copies → Plain (Over f)
+    over f table version places copies t h = λ flips.
+        let now = holding-turned g c (Shows g F A B) ((b : ℕ) → A b → ⊥) model r.holds None t flips h in (
+          before (Over f) (λ b e. absurd (none-some b e)) (turned model t flips) now,
+          record {
+            holds = r.holds;
+            holding = now;
+            rests = r.rests;
+            both = λ two. rw (table, version, places) (r.both (rw copies at two));
+            form = rw table r.form;
+            shows = rw table r.shows;
+          },
+        )
 
-  event : (e : PageEvent) (rest : Answer → Path Finished) → IsSafe g c.is_good e → ((a : Answer) → Plain (rest a)) → Plain (Then e rest)
-  event e rest safe later t h = data-safe model g c (Shows g F A B) ((b : ℕ) → A b → ⊥) (λ t e. ⊤) (λ f u. Memory f.known u) r.holds r.rests e rest t safe h (λ u a i. later a u i)
+    replied : (reply : Reply) → Plain (answer k reply)
+    replied reply = over (record { reply = reply; known = k }) refl refl refl refl
 
-  entry-out : (b : ℕ) → slice_index k.table b ≡ 0 → IsIn (table_blocks g) b → ⊥
-  entry-out b zero_ i = on (r.form.reserved b i)
-    where
-      on : (slice_index k.table b ≡ 2) ⊎ (slice_index k.table b ≡ 3) → ⊥
-      on (inl e) = absurd (omega (arith, e, zero_))
-      on (inr e) = absurd (omega (arith, e, zero_))
+    event : (e : PageEvent) (rest : Answer → Path Finished) → IsSafe g c.is_good e → ((a : Answer) → Plain (rest a)) → Plain (Then e rest)
+    event e rest safe later t h =
+        data-safe model g c (Shows g F A B) ((b : ℕ) → A b → ⊥) (λ t e. ⊤) moment ended (λ f u. Memory f.known u) r.holds e rest t safe (before (Then e rest) (safe-outside g c.is_good e safe)) after_cut h (λ u a i. later a u i)
 
-  entry-good : (b : ℕ) → b < g.blocks → slice_index k.table b ≡ 0 → c.is_good b ≡ true
-  entry-good b small zero_ = on (c.is_good b) refl
-    where
-      on : (t : Bool) → c.is_good b ≡ t → c.is_good b ≡ true
-      on true e = e
-      on false e = absurd (false≢true (sym (ap is_bad_state zero_) ∙ r.shows.factory b small (factory.good b e)))
+    entry-out : (b : ℕ) → slice_index k.table b ≡ 0 → IsIn (table_blocks g) b → ⊥
+    entry-out b zero_ i = on (r.form.reserved b i)
+      where
+        on : (slice_index k.table b ≡ 2) ⊎ (slice_index k.table b ≡ 3) → ⊥
+        on (inl e) = absurd (omega (arith, e, zero_))
+        on (inr e) = absurd (omega (arith, e, zero_))
 
-  program-ok : (start page : ℕ) (image : List ℕ) → slice_index k.table (start + page / g.pages_per_block) ≡ 0 → slice_index image g.page ≡ 0xff → IsSafe g c.is_good (ProgramEvent (first_page g start + page) image)
-  program-ok start page image z i = (
-    (λ t. entry-out (start + page / g.pages_per_block) z (subst (IsIn (table_blocks g)) (mul-add-div_right c.laws.sized start page) t)),
-    (λ b small e. (entry-good b small (subst (λ y. slice_index k.table y ≡ 0) (sym (page-block g.pages_per_block b start page c.laws.sized e)) z), i)),
-  )
+    entry-good : (b : ℕ) → b < g.blocks → slice_index k.table b ≡ 0 → c.is_good b ≡ true
+    entry-good b small zero_ = on (c.is_good b) refl
+      where
+        on : (t : Bool) → c.is_good b ≡ t → c.is_good b ≡ true
+        on true e = e
+        on false e = absurd (false≢true (sym (ap is_bad_state zero_) ∙ r.shows.factory b small (factory.good b e)))
 
-  -- an operation on a partition: a mark of one of its blocks, or one that leaves the tables alone
-  abbrev Route : Option Part → Op → Type 0
-  Route part op =
-      ((b : ℕ) × (block_of part op ≡ Some b) × (operation_by g k part op ≡ mark_block g k b)) ⊎ ((block_of part op ≡ None) × Plain (operation_by g k part op))
+    program-ok : (start page : ℕ) (image : List ℕ) → slice_index k.table (start + page / g.pages_per_block) ≡ 0 → slice_index image g.page ≡ 0xff → IsSafe g c.is_good (ProgramEvent (first_page g start + page) image)
+    program-ok start page image z i = (
+      (λ t. entry-out (start + page / g.pages_per_block) z (subst (IsIn (table_blocks g)) (mul-add-div_right c.laws.sized start page) t)),
+      (λ b small e. (entry-good b small (subst (λ y. slice_index k.table y ≡ 0) (sym (page-block g.pages_per_block b start page c.laws.sized e)) z), i)),
+    )
 
-  tested : (t : Bool) (refusal : Reply) (go_on : Unit {0} → Path Finished) → (t ≡ true → Plain (go_on tt)) → Plain (only_if t k refusal go_on)
-  tested t refusal go_on h = by-test Plain t go_on (λ u. answer k refusal) h (λ e. replied refusal)
+    -- an operation on a partition: a mark of one of its blocks, or one that leaves the tables alone
+    abbrev Route : Option Part → Op → Type 0
+    Route part op =
+        ((b : ℕ) × (block_of part op ≡ Some b) × (operation_by g k part op ≡ mark_block g k b)) ⊎ ((block_of part op ≡ None) × Plain (operation_by g k part op))
 
-  mark-route : (part : Part) (dev block : ℕ) (t : Bool) → has_block part block ≡ t → Route (Some part) (Mark dev block)
-  mark-route part dev block true e =
-      inl (part.start + block, ap (λ x. if x then Some (part.start + block) else None) e, ap (λ x. either x (λ (u : Unit {0}). mark_block g k (part.start + block)) (λ u. answer k OutOfRange)) e)
-  mark-route part dev block false e =
-      inr (ap (λ x. if x then Some (part.start + block) else None) e, subst (λ x. Plain (either x (λ u. mark_block g k (part.start + block)) (λ u. answer k OutOfRange))) (sym e) (replied OutOfRange))
+    tested : (t : Bool) (refusal : Reply) (go_on : Unit {0} → Path Finished) → (t ≡ true → Plain (go_on tt)) → Plain (only_if t k refusal go_on)
+    tested t refusal go_on h = by-test Plain t go_on (λ u. answer k refusal) h (λ e. replied refusal)
 
-  pub route : (part : Option Part) (op : Op) → WritesAPage g op → Route part op
-  route None (Read dev page) fits = inr (refl, replied OutOfRange)
-  route None (Write dev page body free) fits = inr (refl, replied OutOfRange)
-  route None (RawRead dev page) fits = inr (refl, replied OutOfRange)
-  route None (RawWrite dev page image) fits = inr (refl, replied OutOfRange)
-  route None (Erase dev block) fits = inr (refl, replied OutOfRange)
-  route None (IsBad dev block) fits = inr (refl, replied OutOfRange)
-  route None (Mark dev block) fits = inr (refl, replied OutOfRange)
-  route None (Stats dev) fits = inr (refl, replied OutOfRange)
-  route (Some part) (Read dev page) fits =
-      inr (
-        refl,
-        tested (has_page g part page) OutOfRange (λ u. Then (ReadEvent (chip_page g part page)) (λ seen. Over (after_read g k dev (decoded g (cells_of seen))))) (λ e.
-            event (ReadEvent (chip_page g part page)) (λ seen. Over (after_read g k dev (decoded g (cells_of seen)))) tt (λ seen. over (after_read g k dev (decoded g (cells_of seen))) refl refl refl refl)),
-      )
-  route (Some part) (RawRead dev page) fits =
-      inr (
-        refl,
-        tested (has_page g part page) OutOfRange (λ u. Then (ReadEvent (chip_page g part page)) (λ seen. answer k (raw_reply (cells_of seen)))) (λ e.
-            event (ReadEvent (chip_page g part page)) (λ seen. answer k (raw_reply (cells_of seen))) tt (λ seen. replied (raw_reply (cells_of seen)))),
-      )
-  route (Some part) (Write dev page body free) fits =
-      inr (
-        refl,
-        tested (has_page g part page) OutOfRange (λ u. only_if (is_good_block k (chip_block part (page / g.pages_per_block))) k BadBlock (λ u.
-            Then (ProgramEvent (chip_page g part page) (page_image g body free)) (λ outcome. answer k (done_or ProgramFailed outcome)))) (λ e.
-            tested (is_good_block k (chip_block part (page / g.pages_per_block))) BadBlock (λ u. Then (ProgramEvent (chip_page g part page) (page_image g body free)) (λ outcome. answer k (done_or ProgramFailed outcome))) (λ z.
-            event (ProgramEvent (chip_page g part page) (page_image g body free)) (λ outcome. answer k (done_or ProgramFailed outcome))
-            (program-ok part.start page (page_image g body free) (eqb-true _ 0 z) (image-marked g body free fits)) (λ outcome. replied (done_or ProgramFailed outcome)))),
-      )
-  route (Some part) (RawWrite dev page image) fits =
-      inr (
-        refl,
-        tested (has_page g part page) OutOfRange (λ u. only_if (is_good_block k (chip_block part (page / g.pages_per_block))) k BadBlock (λ u. only_if (slice_index image g.page == 0xff) k MarkerByte (λ u.
-            Then (ProgramEvent (chip_page g part page) image) (λ outcome. answer k (done_or ProgramFailed outcome))))) (λ e.
-            tested (is_good_block k (chip_block part (page / g.pages_per_block))) BadBlock (λ u. only_if (slice_index image g.page == 0xff) k MarkerByte (λ u.
-            Then (ProgramEvent (chip_page g part page) image) (λ outcome. answer k (done_or ProgramFailed outcome)))) (λ z.
-            tested (slice_index image g.page == 0xff) MarkerByte (λ u. Then (ProgramEvent (chip_page g part page) image) (λ outcome. answer k (done_or ProgramFailed outcome))) (λ i.
-            event (ProgramEvent (chip_page g part page) image) (λ outcome. answer k (done_or ProgramFailed outcome))
-            (program-ok part.start page image (eqb-true _ 0 z) (eqb-true _ 0xff i)) (λ outcome. replied (done_or ProgramFailed outcome))))),
-      )
-  route (Some part) (Erase dev block) fits =
-      inr (
-        refl,
-        tested (has_block part block) OutOfRange (λ u. only_if (is_good_block k (chip_block part block)) k BadBlock (λ u.
-            Then (EraseEvent (chip_block part block)) (λ outcome. answer k (done_or EraseFailed outcome)))) (λ e.
-            tested (is_good_block k (chip_block part block)) BadBlock (λ u. Then (EraseEvent (chip_block part block)) (λ outcome. answer k (done_or EraseFailed outcome))) (λ z.
-            event (EraseEvent (chip_block part block)) (λ outcome. answer k (done_or EraseFailed outcome))
-            (entry-out (chip_block part block) (eqb-true _ 0 z), λ small. entry-good (chip_block part block) small (eqb-true _ 0 z)) (λ outcome. replied (done_or EraseFailed outcome)))),
-      )
-  route (Some part) (IsBad dev block) fits =
-      inr (refl, tested (has_block part block) OutOfRange (λ u. answer k (State (entry_of k (chip_block part block)))) (λ e. replied (State (entry_of k (chip_block part block)))))
-  route (Some part) (Mark dev block) fits = mark-route part dev block (has_block part block) refl
-  route (Some part) (Stats dev) fits = inr (refl, replied (Counts (k.statistics dev).corrected (k.statistics dev).failed (bad_count k.table part)))
+    mark-route : (part : Part) (dev block : ℕ) (t : Bool) → has_block part block ≡ t → Route (Some part) (Mark dev block)
+    mark-route part dev block true e =
+        inl (part.start + block, ap (λ x. if x then Some (part.start + block) else None) e, ap (λ x. either x (λ (u : Unit {0}). mark_block g k (part.start + block)) (λ u. answer k OutOfRange)) e)
+    mark-route part dev block false e =
+        inr (ap (λ x. if x then Some (part.start + block) else None) e, subst (λ x. Plain (either x (λ u. mark_block g k (part.start + block)) (λ u. answer k OutOfRange))) (sym e) (replied OutOfRange))
+
+    pub route : (part : Option Part) (op : Op) → WritesAPage g op → Route part op
+    route None (Read dev page) fits = inr (refl, replied OutOfRange)
+    route None (Write dev page body free) fits = inr (refl, replied OutOfRange)
+    route None (RawRead dev page) fits = inr (refl, replied OutOfRange)
+    route None (RawWrite dev page image) fits = inr (refl, replied OutOfRange)
+    route None (Erase dev block) fits = inr (refl, replied OutOfRange)
+    route None (IsBad dev block) fits = inr (refl, replied OutOfRange)
+    route None (Mark dev block) fits = inr (refl, replied OutOfRange)
+    route None (Stats dev) fits = inr (refl, replied OutOfRange)
+    route (Some part) (Read dev page) fits =
+        inr (
+          refl,
+          tested (has_page g part page) OutOfRange (λ u. Then (ReadEvent (chip_page g part page)) (λ seen. Over (after_read g k dev (decoded g (cells_of seen))))) (λ e.
+              event (ReadEvent (chip_page g part page)) (λ seen. Over (after_read g k dev (decoded g (cells_of seen)))) tt (λ seen. over (after_read g k dev (decoded g (cells_of seen))) refl refl refl refl)),
+        )
+    route (Some part) (RawRead dev page) fits =
+        inr (
+          refl,
+          tested (has_page g part page) OutOfRange (λ u. Then (ReadEvent (chip_page g part page)) (λ seen. answer k (raw_reply (cells_of seen)))) (λ e.
+              event (ReadEvent (chip_page g part page)) (λ seen. answer k (raw_reply (cells_of seen))) tt (λ seen. replied (raw_reply (cells_of seen)))),
+        )
+    route (Some part) (Write dev page body free) fits =
+        inr (
+          refl,
+          tested (has_page g part page) OutOfRange (λ u. only_if (is_good_block k (chip_block part (page / g.pages_per_block))) k BadBlock (λ u.
+              Then (ProgramEvent (chip_page g part page) (page_image g body free)) (λ outcome. answer k (done_or ProgramFailed outcome)))) (λ e.
+              tested (is_good_block k (chip_block part (page / g.pages_per_block))) BadBlock (λ u. Then (ProgramEvent (chip_page g part page) (page_image g body free)) (λ outcome. answer k (done_or ProgramFailed outcome))) (λ z.
+              event (ProgramEvent (chip_page g part page) (page_image g body free)) (λ outcome. answer k (done_or ProgramFailed outcome))
+              (program-ok part.start page (page_image g body free) (eqb-true _ 0 z) (image-marked g body free fits)) (λ outcome. replied (done_or ProgramFailed outcome)))),
+        )
+    route (Some part) (RawWrite dev page image) fits =
+        inr (
+          refl,
+          tested (has_page g part page) OutOfRange (λ u. only_if (is_good_block k (chip_block part (page / g.pages_per_block))) k BadBlock (λ u. only_if (slice_index image g.page == 0xff) k MarkerByte (λ u.
+              Then (ProgramEvent (chip_page g part page) image) (λ outcome. answer k (done_or ProgramFailed outcome))))) (λ e.
+              tested (is_good_block k (chip_block part (page / g.pages_per_block))) BadBlock (λ u. only_if (slice_index image g.page == 0xff) k MarkerByte (λ u.
+              Then (ProgramEvent (chip_page g part page) image) (λ outcome. answer k (done_or ProgramFailed outcome)))) (λ z.
+              tested (slice_index image g.page == 0xff) MarkerByte (λ u. Then (ProgramEvent (chip_page g part page) image) (λ outcome. answer k (done_or ProgramFailed outcome))) (λ i.
+              event (ProgramEvent (chip_page g part page) image) (λ outcome. answer k (done_or ProgramFailed outcome))
+              (program-ok part.start page image (eqb-true _ 0 z) (eqb-true _ 0xff i)) (λ outcome. replied (done_or ProgramFailed outcome))))),
+        )
+    route (Some part) (Erase dev block) fits =
+        inr (
+          refl,
+          tested (has_block part block) OutOfRange (λ u. only_if (is_good_block k (chip_block part block)) k BadBlock (λ u.
+              Then (EraseEvent (chip_block part block)) (λ outcome. answer k (done_or EraseFailed outcome)))) (λ e.
+              tested (is_good_block k (chip_block part block)) BadBlock (λ u. Then (EraseEvent (chip_block part block)) (λ outcome. answer k (done_or EraseFailed outcome))) (λ z.
+              event (EraseEvent (chip_block part block)) (λ outcome. answer k (done_or EraseFailed outcome))
+              (entry-out (chip_block part block) (eqb-true _ 0 z), λ small. entry-good (chip_block part block) small (eqb-true _ 0 z)) (λ outcome. replied (done_or EraseFailed outcome)))),
+        )
+    route (Some part) (IsBad dev block) fits =
+        inr (refl, tested (has_block part block) OutOfRange (λ u. answer k (State (entry_of k (chip_block part block)))) (λ e. replied (State (entry_of k (chip_block part block)))))
+    route (Some part) (Mark dev block) fits = mark-route part dev block (has_block part block) refl
+    route (Some part) (Stats dev) fits = inr (refl, replied (Counts (k.statistics dev).corrected (k.statistics dev).failed (bad_count k.table part)))
+
+  -- the law of a chip that is alive at each moment
+  abbrev pub plain_alive : Safety W Finished
+  plain_alive = plain_law (λ path t. LivesBefore model g c enough F factory p q in_p in_q apart A B (first_event path) t) (Lives model g c enough F factory p q in_p in_q apart A B)
+
+  -- an operation on a partition that is no mark of one of its blocks keeps the chip alive
+  abbrev pub AliveRoute : Option Part → Op → Type 0
+  AliveRoute part op =
+      ((b : ℕ) × (block_of part op ≡ Some b) × (operation_by g k part op ≡ mark_block g k b)) ⊎ ((block_of part op ≡ None) × ((t : ChipState W) → Here t → Safe plain_alive (operation_by g k part op) t))
+
+  pub route-alive : (part : Option Part) (op : Op) → WritesAPage g op → AliveRoute part op
+  route-alive part op fits =
+      route (λ path t. LivesBefore model g c enough F factory p q in_p in_q apart A B (first_event path) t) (Lives model g c enough F factory p q in_p in_q apart A B)
+      (λ path out t h. record { holds = r.holds; holding = h; rests = r.rests; aside = λ b e. inl (rests-inside g c (Shows g F A B) ((b : ℕ) → A b → ⊥) r.holds r.rests b (out b e)) })
+      (λ t h. alive-still g c (Shows g F A B) ((b : ℕ) → A b → ⊥) r.holds t h r.rests) part op fits

@@ -56,20 +56,25 @@ table-in-numbers g enough b i = in_numbers 0 g.blocks b (omega arith) (small i)
     small (inr (inr (inr (inr i)))) = absurd i
 
 module _ {W A : Type 0} (model : FaultModel W) (g : Geometry) (c : Setting g) (enough : 4 ≤ g.blocks) (Good_ : List ℕ → Type 0) (Fresh : Type 0) (granted : ChipState W → ChipEvent → Type 0)
-    (result : A → ChipState W → Type 0) (quiet : (s : ChipState W) (e : ChipEvent) → granted s e → IsQuietEvent s e) where
+    (moment : Path A → ChipState W → Type 0) (ended : ChipState W → Type 0) (result : A → ChipState W → Type 0) (quiet : (s : ChipState W) (e : ChipEvent) → granted s e → IsQuietEvent s e) where
   abbrev reading_law : Safety W A
-  reading_law = record { model = model; granted = granted; moment = Alive g c Good_ Fresh; result = result }
+  reading_law = record { model = model; granted = granted; moment = moment; ended = ended; result = result }
 
   abbrev Here : Shelf → ChipState W → Type 0
   Here holds s = Holding g c Good_ Fresh holds None s
 
+  -- what holds before a read and after a cut one, while the pages hold this shelf
+  pub record Still (holds : Shelf) : Type 0 where
+    pub before : (page : ℕ) (rest : Answer → Path A) (t : ChipState W) → Here holds t → moment (Then (ReadEvent page) rest) t
+    pub after_cut : (t : ChipState W) → Here holds t → ended t
+
   -- a read changes nothing, and what follows sees the page as it stands then
-  read-safe : (holds : Shelf) → AtRest g c Good_ Fresh holds → (page : ℕ) (rest : Answer → Path A) (s : ChipState W) → Here holds s
+  read-safe : (holds : Shelf) → Still holds → (page : ℕ) (rest : Answer → Path A) (s : ChipState W) → Here holds s
       → ((t : ChipState W) → Here holds t → granted t (Complete (ReadEvent page)) → Safe reading_law (rest (Data (t.pages page).cells)) t) → Safe reading_law (Then (ReadEvent page) rest) s
-  read-safe holds rests page rest s h later = λ flips.
+  read-safe holds still page rest s h later = λ flips.
       let now = holding-turned g c Good_ Fresh model holds None s flips h in (
-        record { holds = holds; holding = now; rests = rests },
-        λ done grant. record { holds = holds; holding = now; rests = rests },
+        still.before page rest (turned model s flips) now,
+        λ done grant. still.after_cut (turned model s flips) now,
         λ grant. later (turned model s flips) now grant,
       )
 
@@ -77,14 +82,14 @@ module _ {W A : Type 0} (model : FaultModel W) (g : Geometry) (c : Setting g) (e
   is-quiet-now holds t page h grant = subst (λ k. is_quiet k t.pages ≡ true) h.geometry (quiet t (Complete (ReadEvent page)) grant)
 
   -- the scan of the table blocks
-  pub scan-safe : (holds : Shelf) → AtRest g c Good_ Fresh holds → (todo done : List ℕ) (pages : List (List ℕ)) (go_on : List (List ℕ) → Path A) (s : ChipState W) → done ++ todo ≡ table_blocks g
+  pub scan-safe : (holds : Shelf) → Still holds → (todo done : List ℕ) (pages : List (List ℕ)) (go_on : List (List ℕ) → Path A) (s : ChipState W) → done ++ todo ≡ table_blocks g
       → SeenPages g c.is_good holds done pages → Here holds s
       → ((t : ChipState W) (all : List (List ℕ)) → SeenPages g c.is_good holds (table_blocks g) all → Here holds t → Safe reading_law (go_on all) t)
       → Safe reading_law (read_first_pages g todo pages go_on) s
-  scan-safe holds rests [] done pages go_on s all seen h later = later s pages (subst (λ bs. SeenPages g c.is_good holds bs pages) (sym (append-nil done) ∙ all) seen) h
-  scan-safe holds rests (b ∷ todo) done pages go_on s all seen h later =
-      read-safe holds rests (first_page g b) (λ answer. read_first_pages g todo (pages ++ cells_of answer ∷ []) go_on) s h (λ t i grant.
-      scan-safe holds rests todo (done ++ b ∷ []) (pages ++ (t.pages (first_page g b)).cells ∷ []) go_on t (append_assoc done (b ∷ []) todo ∙ all)
+  scan-safe holds still [] done pages go_on s all seen h later = later s pages (subst (λ bs. SeenPages g c.is_good holds bs pages) (sym (append-nil done) ∙ all) seen) h
+  scan-safe holds still (b ∷ todo) done pages go_on s all seen h later =
+      read-safe holds still (first_page g b) (λ answer. read_first_pages g todo (pages ++ cells_of answer ∷ []) go_on) s h (λ t i grant.
+      scan-safe holds still todo (done ++ b ∷ []) (pages ++ (t.pages (first_page g b)).cells ∷ []) go_on t (append_assoc done (b ∷ []) todo ∙ all)
       (seen-more g c.is_good holds done pages b (t.pages (first_page g b)).cells seen (record {
         marker = (i.stands.tables b inside).marker [] (quiet_marker g t.pages (is-quiet-now holds t (first_page g b) i grant) b (table-in-numbers g enough b inside));
         copy = λ e. (i.stands.tables b inside).copies e [] (quiet_table g t.pages (is-quiet-now holds t (first_page g b) i grant) b c.tables inside);
@@ -94,14 +99,14 @@ module _ {W A : Type 0} (model : FaultModel W) (g : Geometry) (c : Setting g) (e
       inside = subst (λ l. IsIn l b) all (in-middle done b todo)
 
   -- the reads of the markers, where nothing is held
-  pub markers-safe : (holds : Shelf) → AtRest g c Good_ Fresh holds → IsEmpty holds → (todo done : List ℕ) (pages : List (List ℕ)) (go_on : List (List ℕ) → Path A) (s : ChipState W) → done ++ todo ≡ numbers_from 0 g.blocks
+  pub markers-safe : (holds : Shelf) → Still holds → IsEmpty holds → (todo done : List ℕ) (pages : List (List ℕ)) (go_on : List (List ℕ) → Path A) (s : ChipState W) → done ++ todo ≡ numbers_from 0 g.blocks
       → SeenMarkers g c.is_good done pages → Here holds s
       → ((t : ChipState W) (all : List (List ℕ)) → SeenMarkers g c.is_good (numbers_from 0 g.blocks) all → Here holds t → Safe reading_law (go_on all) t)
       → Safe reading_law (read_first_pages g todo pages go_on) s
-  markers-safe holds rests empty [] done pages go_on s all seen h later = later s pages (subst (λ bs. SeenMarkers g c.is_good bs pages) (sym (append-nil done) ∙ all) seen) h
-  markers-safe holds rests empty (b ∷ todo) done pages go_on s all seen h later =
-      read-safe holds rests (first_page g b) (λ answer. read_first_pages g todo (pages ++ cells_of answer ∷ []) go_on) s h (λ t i grant.
-      markers-safe holds rests empty todo (done ++ b ∷ []) (pages ++ (t.pages (first_page g b)).cells ∷ []) go_on t (append_assoc done (b ∷ []) todo ∙ all)
+  markers-safe holds still empty [] done pages go_on s all seen h later = later s pages (subst (λ bs. SeenMarkers g c.is_good bs pages) (sym (append-nil done) ∙ all) seen) h
+  markers-safe holds still empty (b ∷ todo) done pages go_on s all seen h later =
+      read-safe holds still (first_page g b) (λ answer. read_first_pages g todo (pages ++ cells_of answer ∷ []) go_on) s h (λ t i grant.
+      markers-safe holds still empty todo (done ++ b ∷ []) (pages ++ (t.pages (first_page g b)).cells ∷ []) go_on t (append_assoc done (b ∷ []) todo ∙ all)
       (markers-more g c.is_good done pages b (t.pages (first_page g b)).cells seen (marker t i (quiet_marker g t.pages (is-quiet-now holds t (first_page g b) i grant) b inside) (dec_in (table_blocks g) b))) i later)
     where
       inside : IsIn (numbers_from 0 g.blocks) b

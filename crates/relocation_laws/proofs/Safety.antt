@@ -5,11 +5,12 @@ use Rattle.nand_model.specs.Chip.{ChipState, FaultModel, ChipEvent, Complete, Po
 use Rattle.nand_model.specs.Path.{Answer, Path, Over, Then, answer_to, answers_of, GoesAlong, is_uncut, after_answers, first_event, next_event, result_of}
 use Rattle.page_laws.specs.Keeping.{EachStep}
 
--- how the events of a trace are granted, what holds at each moment, and what a path comes to
+-- how the events of a trace are granted, what holds at each moment by what is left of the path, what holds once it was cut, and what it comes to
 pub record Safety (W A : Type 0) : Type 1 where
   pub model : FaultModel W
   pub granted : ChipState W → ChipEvent → Type 0
-  pub moment : ChipState W → Type 0
+  pub moment : Path A → ChipState W → Type 0
+  pub ended : ChipState W → Type 0
   pub result : A → ChipState W → Type 0
 
 -- after flips
@@ -25,11 +26,11 @@ closed-turned model J c s ((page, bit) ∷ flips) h = closed-turned model J c (h
 
 module _ {W A : Type 0} (law : Safety W A) where
   abbrev pub Safe : Path A → ChipState W → Type 0
-  Safe (Over a) s = (flips : List (ℕ × ℕ)) → law.moment (turned law.model s flips) × law.result a (turned law.model s flips)
+  Safe (Over a) s = (flips : List (ℕ × ℕ)) → law.moment (Over a) (turned law.model s flips) × law.result a (turned law.model s flips)
   Safe (Then e rest) s =
       (flips : List (ℕ × ℕ)) →
-      law.moment (turned law.model s flips)
-      × ((done : DoneBits) → law.granted (turned law.model s flips) (PowerCut e done) → law.moment (happens law.model (turned law.model s flips) (PowerCut e done)))
+      law.moment (Then e rest) (turned law.model s flips)
+      × ((done : DoneBits) → law.granted (turned law.model s flips) (PowerCut e done) → law.ended (happens law.model (turned law.model s flips) (PowerCut e done)))
       × (law.granted (turned law.model s flips) (Complete e) → Safe (rest (answer_to law.model (turned law.model s flips) e)) (happens law.model (turned law.model s flips) (Complete e)))
 
   pub safe-flipped : (path : Path A) (s : ChipState W) (page bit : ℕ) → Safe path s → Safe path (happens law.model s (Flipped page bit))
@@ -37,7 +38,7 @@ module _ {W A : Type 0} (law : Safety W A) where
   safe-flipped (Then e rest) s page bit h = λ flips. h ((page, bit) ∷ flips)
 
   -- the moment that a safe path is at, and what it comes to
-  pub safe-moment : (path : Path A) (s : ChipState W) → Safe path s → law.moment s
+  pub safe-moment : (path : Path A) (s : ChipState W) → Safe path s → law.moment path s
   safe-moment (Over a) s h = (h []).0
   safe-moment (Then e rest) s h = (h []).0
 
@@ -57,11 +58,11 @@ module _ {W A : Type 0} (law : Safety W A) where
   -- after a trace of the path
   pub data SafeAfter (path : Path A) (s : ChipState W) (answers : List Answer) (trace : List ChipEvent) : Type 0 where
     goes_on : is_uncut trace ≡ true → Safe (after_answers (answers ++ answers_of law.model s trace) path) (after_trace law.model s trace) → SafeAfter path s answers trace
-    was_cut : is_uncut trace ≡ false → law.moment (after_trace law.model s trace) → SafeAfter path s answers trace
+    was_cut : is_uncut trace ≡ false → law.ended (after_trace law.model s trace) → SafeAfter path s answers trace
 
   -- a safe path whose next event this is
   pub record AtEvent (path : Path A) (s : ChipState W) (e : PageEvent) : Type 0 where
-    pub cut : (done : DoneBits) → law.granted s (PowerCut e done) → law.moment (happens law.model s (PowerCut e done))
+    pub cut : (done : DoneBits) → law.granted s (PowerCut e done) → law.ended (happens law.model s (PowerCut e done))
     pub complete : law.granted s (Complete e) → Safe (after_answers (answer_to law.model s e ∷ []) path) (happens law.model s (Complete e))
 
   pub at-event : (path : Path A) (s : ChipState W) (e : PageEvent) → first_event path ≡ Some e → Safe path s → AtEvent path s e
@@ -86,4 +87,8 @@ module _ {W A : Type 0} (law : Safety W A) where
           goes_on u (subst (λ zs. Safe (after_answers zs path) (after_trace law.model (happens law.model s (Complete e)) trace)) (append_assoc answers (answer_to law.model s e ∷ []) (answers_of law.model (happens law.model s (Complete e)) trace)) k)
       on (was_cut u k) = was_cut u k
   safe-trace path (PowerCut e done ∷ trace) s answers along each h =
-      was_cut refl (subst (λ t. law.moment (after_trace law.model (happens law.model s (PowerCut e done)) t)) (sym along.1) ((at-event (after_answers answers path) s e along.0 h).cut done each.0))
+      was_cut refl (subst (λ t. law.ended (after_trace law.model (happens law.model s (PowerCut e done)) t)) (sym along.1) ((at-event (after_answers answers path) s e along.0 h).cut done each.0))
+
+  pub safe-turned : (path : Path A) (s : ChipState W) (flips : List (ℕ × ℕ)) → Safe path s → Safe path (turned law.model s flips)
+  safe-turned path s [] h = h
+  safe-turned path s ((page, bit) ∷ flips) h = safe-turned path (happens law.model s (Flipped page bit)) flips (safe-flipped path s page bit h)
