@@ -29,7 +29,7 @@ use Rattle.relocation_laws.specs.Shelves.{HoldsBoth}
 use Rattle.relocation_laws.specs.Tables.{IsTable, IsTableBlock, Shows}
 use Rattle.relocation_laws.specs.Theorem.{is_good_of}
 use Rattle.relocation_laws.proofs.Agreeing.{copies-agree}
-use Rattle.relocation_laws.proofs.Finding.{copy_of}
+use Rattle.relocation_laws.specs.Agreement.{copy_of}
 use Rattle.relocation_laws.proofs.Goes.{Setting}
 use Rattle.relocation_laws.proofs.Lives.{Lives, lives-fewer}
 use Rattle.relocation_laws.proofs.MarkerTables.{AreFactoryBad}

@@ -1,10 +1,10 @@
 -- What the last four blocks hold agrees, whenever the chip may rest and is quiet.
-use Rattle.std.proofs.Common.{◌≡◌, ◌⊎◌, ◌<◌, ◌≤◌, ℕ, zero, suc, Bool, true, false, List, [], ◌∷◌, length, map, refl, ap, ap₂, sym, ◌∙◌, arith, Option, Some, None, inl, inr, subst, true≢false, Contains}
+use Rattle.std.proofs.Common.{◌≡◌, ◌⊎◌, ◌<◌, ◌≤◌, ℕ, zero, suc, ◌+◌, ◌%◌, Bool, true, false, List, [], ◌∷◌, length, map, refl, ap, ap₂, sym, ◌∙◌, arith, Option, Some, None, inl, inr, subst, true≢false, Contains}
 use Rattle.std.proofs.lemmas.Bool.{false≢true}
 use Rattle.std.proofs.lemmas.Option.{none-some, same_Some}
 use Rattle.nand_model.specs.Sizes.{first_page}
 use Rattle.nand_model.specs.Chip.{ChipState}
-use Rattle.nand_model.specs.Table.{Copy, calls_bad, table_blocks}
+use Rattle.nand_model.specs.Table.{Copy, calls_bad, table_blocks, read_again}
 use Rattle.chip_paths.specs.Copies.{candidates, copies_held, with_copy, is_disowned, found_among, is_valid, choice_of, version_found, used_copy}
 use Rattle.nand_model.specs.Quiet.{is_quiet}
 use Rattle.chip_paths.specs.Writing.{other_of}
@@ -14,25 +14,21 @@ use Rattle.nand_model.specs.declared.words.Which.TheVariants.{Primary, Mirror}
 use Rattle.run_model.specs.Run.{IsLater, CopiesAgree, candidates_now}
 use Rattle.relocation_laws.specs.Shelves.{Held, Shelf, IsEmpty, Newest}
 use Rattle.page_laws.specs.Keeping.{IsIn}
-use Rattle.relocation_laws.specs.Tables.{as_written, IsTable, IsTableBlock}
+use Rattle.relocation_laws.specs.Tables.{IsTable, IsTableBlock}
 use Rattle.relocation_laws.proofs.Choosing.{choice-same, choice-newer, choice-older}
-use Rattle.relocation_laws.proofs.Finding.{copy_as, copy_of, listed, calls-same, found-none, SeenPage, SeenPages, listed-seen}
+use Rattle.relocation_laws.specs.Agreement.{copy_as, copy_of, listed, used_of, IsBefore, VersionsAreClose, EqualVersionsEqualTables, UsedCoversAll, DisownedAreCalledBad, UsedStandsWell}
+use Rattle.relocation_laws.proofs.Finding.{calls-same, found-none, SeenPage, SeenPages, listed-seen}
 use Rattle.relocation_laws.proofs.Goes.{Setting, AtRest, Alive}
 use Rattle.page_laws.proofs.Quiet.{quiet_marker, quiet_table}
 use Rattle.relocation_laws.proofs.Reading.{table-in-numbers}
 use Rattle.relocation_laws.proofs.Seeing.{found-newest, found-second, owned, Alone, Two}
 
--- the copy that is used of these
-abbrev used_of : Option (ℕ × Copy) → Option (ℕ × Copy) → Option (ℕ × Copy)
-used_of primary mirror = used_copy (choice_of (version_found primary) (version_found mirror)) primary mirror
-
+-- how the copies of a shelf at rest agree
 pub record AgreeOn (held : List (ℕ × Copy)) : Type 0 where
   pub two : (p m : ℕ) (primary mirror : Copy) → found_among held Primary ≡ Some (p, primary) → found_among held Mirror ≡ Some (m, mirror) → IsLater primary mirror ⊎ IsLater mirror primary
-  pub covers : (n b : ℕ) (newest copy : Copy) → used_of (found_among held Primary) (found_among held Mirror) ≡ Some (n, newest) → Contains held (b, copy)
-      → (c : ℕ) → calls_bad copy.states c ≡ true → calls_bad newest.states c ≡ true
-  pub disowned : (n b : ℕ) (newest copy : Copy) → used_of (found_among held Primary) (found_among held Mirror) ≡ Some (n, newest) → Contains held (b, copy)
-      → is_disowned held b ≡ true → calls_bad newest.states b ≡ true
-  pub own : (n : ℕ) (newest : Copy) → used_of (found_among held Primary) (found_among held Mirror) ≡ Some (n, newest) → calls_bad newest.states n ≡ false
+  pub covers : UsedCoversAll held
+  pub disowned : DisownedAreCalledBad held
+  pub own : UsedStandsWell held
 
 abbrev some_at : ℕ → Copy → Option (ℕ × Copy)
 some_at b x = Some (b, x)
@@ -88,7 +84,7 @@ module _ (g : Geometry) (is_good : ℕ → Bool) (Good : List ℕ → Type 0) (h
           steps = t.is_older.steps;
           few = t.is_older.few;
           version = t.is_older.version;
-          same = λ z. ap as_written (t.is_older.same z);
+          same = λ z. ap read_again (t.is_older.same z);
           covers = λ b h. calls-same newest.table b ∙ (j.beneath t.m t.older t.at).covered b (sym (calls-same t.older.table b) ∙ h);
         }
 
@@ -153,7 +149,7 @@ module _ (g : Geometry) (is_good : ℕ → Bool) (Good : List ℕ → Type 0) (h
       on b dis false h = absurd (true≢false (sym dis ∙ owned g is_good Good holds j b h))
 
 -- nothing is held
-empty-agrees : (g : Geometry) (holds : Shelf) → IsEmpty holds → AgreeOn (listed holds (table_blocks g))
+pub empty-agrees : (g : Geometry) (holds : Shelf) → IsEmpty holds → AgreeOn (listed holds (table_blocks g))
 empty-agrees g holds empty =
     record {
       two = λ p m a b fp fm. absurd (none-some (p, a) (sym (none Primary) ∙ fp));
@@ -169,7 +165,7 @@ empty-agrees g holds empty =
     unused = ap₂ used_of (none Primary) (none Mirror)
 
 module _ (g : Geometry) (c : Setting g) (enough : 4 ≤ g.blocks) (Good : List ℕ → Type 0) (Fresh : Type 0) where
-  at-rest-agrees : (holds : Shelf) → AtRest g c Good Fresh holds → AgreeOn (listed holds (table_blocks g))
+  pub at-rest-agrees : (holds : Shelf) → AtRest g c Good Fresh holds → AgreeOn (listed holds (table_blocks g))
   at-rest-agrees holds (inl e) = empty-agrees g holds e.0
   at-rest-agrees holds (inr j) = newest-agrees g c.is_good Good holds j
 
@@ -202,3 +198,21 @@ module _ (g : Geometry) (c : Setting g) (enough : 4 ≤ g.blocks) (Good : List �
 
       all : AgreeOn (copies_held s.geometry (candidates_now s))
       all = subst AgreeOn (sym held-now) (at-rest-agrees a.holds a.rests)
+
+-- two copies that agree are close in versions, and of one version they have one table
+pub versions-close : (held : List (ℕ × Copy)) → AgreeOn held → VersionsAreClose held
+versions-close held h p m primary mirror fp fm = on (h.two p m primary mirror fp fm)
+  where
+    on : IsLater primary mirror ⊎ IsLater mirror primary → (steps : ℕ) × (steps ≤ 3) × (IsBefore steps primary mirror ⊎ IsBefore steps mirror primary)
+    on (inl l) = (l.steps, l.few, inl l.version)
+    on (inr l) = (l.steps, l.few, inr l.version)
+
+pub equal-tables : (held : List (ℕ × Copy)) → AgreeOn held → EqualVersionsEqualTables held
+equal-tables held h p m primary mirror fp fm same = on (h.two p m primary mirror fp fm)
+  where
+    none : (v steps : ℕ) → steps ≤ 3 → v ≡ (v + steps) % 256 → steps ≡ 0
+    none v steps few e = omega (arith, few, e)
+
+    on : IsLater primary mirror ⊎ IsLater mirror primary → primary.states ≡ mirror.states
+    on (inl l) = l.same (none mirror.version l.steps l.few (l.version ∙ ap (λ v. (v + l.steps) % 256) same))
+    on (inr l) = sym (l.same (none primary.version l.steps l.few (l.version ∙ ap (λ v. (v + l.steps) % 256) (sym same))))

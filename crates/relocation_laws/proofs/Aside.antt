@@ -8,7 +8,7 @@ use Rattle.chip_paths.specs.Copies.{found_among}
 use Rattle.nand_model.specs.declared.geometry.Geometry.{Geometry}
 use Rattle.relocation_laws.specs.Shelves.{Held, Shelf, Newest, IsAside}
 use Rattle.relocation_laws.specs.Tables.{IsTable, IsTableBlock}
-use Rattle.relocation_laws.proofs.Finding.{copy_as, listed}
+use Rattle.relocation_laws.specs.Agreement.{copy_as, listed}
 use Rattle.relocation_laws.proofs.Seeing.{Alone, Two, found-newest, found-second}
 
 module _ (g : Geometry) (is_good : ℕ → Bool) (Good : List ℕ → Type 0) (holds : Shelf) (j : Newest (IsTableBlock g is_good) (IsTable g) Good holds) where

@@ -16,7 +16,8 @@ use Rattle.relocation_laws.specs.Tables.{IsTable, IsTableBlock, Shows}
 use Rattle.page_laws.specs.Keeping.{IsFairEvent, IsQuietEvent}
 use Rattle.relocation_laws.specs.Keeping.{BlockFails}
 use Rattle.relocation_laws.proofs.Tables.{table-laws, table-block-there}
-use Rattle.relocation_laws.proofs.Finding.{listed, found-none, listed-seen, blocks-seen}
+use Rattle.relocation_laws.specs.Agreement.{listed}
+use Rattle.relocation_laws.proofs.Finding.{found-none, listed-seen, blocks-seen}
 use Rattle.relocation_laws.proofs.Attaching.{IsAttached, found-goes, empty-goes}
 use Rattle.relocation_laws.proofs.Safety.{Safety, Safe}
 use Rattle.relocation_laws.proofs.Goes.{Setting, AtRest, Holding, Alive, Comes, Along, along-alive, none-aside, goes-safe}

@@ -3,7 +3,7 @@ use Rattle.std.proofs.Common.{◌≡◌, ◌≢◌, ◌⊎◌, ℕ, zero, suc, �
 use Rattle.std.specs.Prelude.{⊤}
 use Rattle.std.proofs.lemmas.Bool.{and_parts, and_from, false≢true}
 use Rattle.std.proofs.lemmas.Bool.Decides.{eqb_tells}
-use Rattle.nand_model.specs.Table.{Copy, table_blocks, calls_bad}
+use Rattle.nand_model.specs.Table.{Copy, table_blocks, calls_bad, read_again}
 use Rattle.nand_model.specs.Path.{Path, Over}
 use Rattle.chip_paths.specs.Writing.{Places, place_of, Writing, WholeCopies, is_whole, whole_count, other_of, writing_of, writing_path}
 use Rattle.chip_paths.specs.Attach.{Attaching, with_reserved, whole_at_first, attaching_of, rewrite_copies, use_copy, use_found}
@@ -16,10 +16,11 @@ use Rattle.nand_model.specs.declared.words.Choice.TheVariants.{Primary as UsePri
 use Rattle.relocation_laws.specs.Shelves.{Held, Shelf, with_held, TableLaws, IsBeneath, Newest, Rests, HoldsBoth, Ended, Keeps}
 use Rattle.relocation_laws.specs.Goes.{Goes}
 use Rattle.page_laws.specs.Keeping.{IsIn}
-use Rattle.relocation_laws.specs.Tables.{as_written, IsTable, IsTableBlock}
+use Rattle.relocation_laws.specs.Tables.{IsTable, IsTableBlock}
 use Rattle.relocation_laws.proofs.Induction.{each-kind}
 use Rattle.relocation_laws.proofs.Going.{goes-along}
-use Rattle.relocation_laws.proofs.Finding.{copy_as, listed, calls-same}
+use Rattle.relocation_laws.specs.Agreement.{copy_as, listed}
+use Rattle.relocation_laws.proofs.Finding.{calls-same}
 use Rattle.relocation_laws.proofs.Seeing.{found-newest, found-second, Alone, Two}
 use Rattle.relocation_laws.proofs.Choosing.{choice-same, choice-newer, choice-older}
 use Rattle.relocation_laws.proofs.Starting.{start-beside, both-rest}
@@ -166,7 +167,7 @@ module _ (g : Geometry) (is_good : ℕ → Bool) (Fails : ℕ → Type 0) (Good 
 
     primary-alone : newest.which ≡ Primary → ((b : ℕ) (c : Held) → h b ≡ Some c → b ≢ n → calls_bad newest.table b ≡ true) → Found seen None
     primary-alone kind rest =
-        rewrite-goes h (places_for g blocks seen None) (UsePrimary true) newest.version (as_written newest.table) newest.table beneath.form.back
+        rewrite-goes h (places_for g blocks seen None) (UsePrimary true) newest.version (read_again newest.table) newest.table beneath.form.back
         (start-beside TB (IsTable g) Good Fresh h j Primary r.0 (places_for g blocks seen None) (whole_at_first (UsePrimary true)) kind refl at_x refl r.2 r.3 r.4 (λ b c e m q. rest b c e m))
       where
         r : (x : ℕ) × (find (λ block. is_other (Some n) block && not (found_calls_bad seen block) && not (found_calls_bad None block)) blocks ≡ Some x) × TB x × (x ≢ n) × (calls_bad newest.table x ≡ false)
@@ -177,7 +178,7 @@ module _ (g : Geometry) (is_good : ℕ → Bool) (Fails : ℕ → Type 0) (Good 
 
     mirror-alone : newest.which ≡ Mirror → ((b : ℕ) (c : Held) → h b ≡ Some c → b ≢ n → calls_bad newest.table b ≡ true) → Found None seen
     mirror-alone kind rest =
-        rewrite-goes h (places_for g blocks None seen) (UseMirror true) newest.version (as_written newest.table) newest.table beneath.form.back
+        rewrite-goes h (places_for g blocks None seen) (UseMirror true) newest.version (read_again newest.table) newest.table beneath.form.back
         (start-beside TB (IsTable g) Good Fresh h j Mirror r.0 (places_for g blocks None seen) (whole_at_first (UseMirror true)) kind refl at_x refl r.2 r.3 r.4 (λ b c e m q. rest b c e m))
       where
         r : (x : ℕ) × (find (λ block. is_other (Some n) block && not (found_calls_bad None block) && not (found_calls_bad seen block)) blocks ≡ Some x) × TB x × (x ≢ n) × (calls_bad newest.table x ≡ false)
@@ -244,18 +245,18 @@ module _ (g : Geometry) (is_good : ℕ → Bool) (Fails : ℕ → Type 0) (Good 
       primary-two : newest.which ≡ Primary → (s : ℕ) → t.is_older.steps ≡ s → Found seen seen_older
       primary-two kind zero e =
           subst (λ ch. Along h (use_copy g (places_for g blocks seen seen_older) ch (used_copy ch seen seen_older))) (sym (ap (λ v. choice_of (Some v) (Some t.older.version)) (sym (same-version e)) ∙ choice-same t.older.version))
-          (rewrite-goes h (places_for g blocks seen seen_older) (UsePrimary false) newest.version (as_written newest.table) newest.table beneath.form.back
+          (rewrite-goes h (places_for g blocks seen seen_older) (UsePrimary false) newest.version (read_again newest.table) newest.table beneath.form.back
           (both-held Primary (places_for g blocks seen seen_older) t.m t.older refl refl kind (t.kind_is ∙ ap other_of kind) (same-version e) (t.is_older.same e) t.at t.apart t.free t.rest, all-whole))
       primary-two kind (suc s) e =
           subst (λ ch. Along h (use_copy g (places_for g blocks seen seen_older) ch (used_copy ch seen seen_older)))
           (sym (ap (λ v. choice_of (Some v) (Some t.older.version)) t.is_older.version ∙ choice-newer t.older.version t.is_older.steps older-byte (omega (arith, e)) t.is_older.few))
-          (rewrite-goes h (places_for g blocks seen seen_older) (UsePrimary true) newest.version (as_written newest.table) newest.table beneath.form.back
+          (rewrite-goes h (places_for g blocks seen seen_older) (UsePrimary true) newest.version (read_again newest.table) newest.table beneath.form.back
           (start-beside TB (IsTable g) Good Fresh h j Primary t.m (places_for g blocks seen seen_older) (whole_at_first (UsePrimary true)) kind refl refl refl (j.beneath t.m t.older t.at).inside t.apart t.free t.rest))
 
       mirror-two : newest.which ≡ Mirror → (s : ℕ) → t.is_older.steps ≡ s → Found seen_older seen
       mirror-two kind zero e =
           subst (λ ch. Along h (use_copy g (places_for g blocks seen_older seen) ch (used_copy ch seen_older seen))) (sym (ap (λ v. choice_of (Some t.older.version) (Some v)) (sym (same-version e)) ∙ choice-same t.older.version))
-          (rewrite-goes h (places_for g blocks seen_older seen) (UsePrimary false) t.older.version (as_written t.older.table) newest.table (ap (λ q. with_reserved g (as_written q)) (t.is_older.same e) ∙ beneath.form.back) (
+          (rewrite-goes h (places_for g blocks seen_older seen) (UsePrimary false) t.older.version (read_again t.older.table) newest.table (ap (λ q. with_reserved g (read_again q)) (t.is_older.same e) ∙ beneath.form.back) (
             subst (λ v. HoldsBoth TB (IsTable g) Good Fresh newest.table v (places_for g blocks seen_older seen) h) (sym (same-version e))
                 (both-held Mirror (places_for g blocks seen_older seen) t.m t.older refl refl kind (t.kind_is ∙ ap other_of kind) (same-version e) (t.is_older.same e) t.at t.apart t.free t.rest),
             all-whole,
@@ -263,7 +264,7 @@ module _ (g : Geometry) (is_good : ℕ → Bool) (Fails : ℕ → Type 0) (Good 
       mirror-two kind (suc s) e =
           subst (λ ch. Along h (use_copy g (places_for g blocks seen_older seen) ch (used_copy ch seen_older seen)))
           (sym (ap (λ v. choice_of (Some t.older.version) (Some v)) t.is_older.version ∙ choice-older t.older.version t.is_older.steps older-byte (omega (arith, e)) t.is_older.few))
-          (rewrite-goes h (places_for g blocks seen_older seen) (UseMirror true) newest.version (as_written newest.table) newest.table beneath.form.back
+          (rewrite-goes h (places_for g blocks seen_older seen) (UseMirror true) newest.version (read_again newest.table) newest.table beneath.form.back
           (start-beside TB (IsTable g) Good Fresh h j Mirror t.m (places_for g blocks seen_older seen) (whole_at_first (UseMirror true)) kind refl refl refl (j.beneath t.m t.older t.at).inside t.apart t.free t.rest))
 
     -- the attach goes along, whatever it finds beside the newest copy

@@ -4,7 +4,7 @@ use Rattle.std.specs.Prelude.{⊤}
 use Rattle.std.specs.List.{list_any}
 use Rattle.std.proofs.lemmas.Bool.{and_from}
 use Rattle.std.proofs.lemmas.Bool.Decides.{eqb_tells}
-use Rattle.nand_model.specs.Table.{Copy, copy_in, same_which, written_code, state_read, is_bad_state, calls_bad}
+use Rattle.nand_model.specs.Table.{Copy, copy_in, same_which, written_code, state_read, is_bad_state, calls_bad, read_again}
 use Rattle.nand_model.specs.Page.{marker_byte}
 use Rattle.nand_model.specs.declared.geometry.Geometry.{Geometry}
 use Rattle.nand_model.specs.declared.words.Which.{Which}
@@ -12,16 +12,8 @@ use Rattle.nand_model.specs.declared.words.Which.TheVariants.{Primary, Mirror}
 use Rattle.chip_paths.specs.Writing.{other_of}
 use Rattle.chip_paths.specs.Copies.{with_copy, copies_held, is_disowned, is_valid}
 use Rattle.relocation_laws.specs.Shelves.{Held, Shelf}
+use Rattle.relocation_laws.specs.Agreement.{copy_as, copy_of, listed}
 use Rattle.page_laws.specs.Keeping.{IsIn}
-use Rattle.relocation_laws.specs.Tables.{as_written}
-
--- the copy in its page
-abbrev pub copy_as : Held → Copy
-copy_as c = record { which = c.which; version = c.version; states = as_written c.table }
-
-abbrev pub copy_of : Option Held → Option Copy
-copy_of None = None
-copy_of (Some c) = Some (copy_as c)
 
 state-same : (s : ℕ) → is_bad_state (state_read (written_code s)) ≡ is_bad_state s
 state-same s = on (eqb_tells s 1) (eqb_tells s 3)
@@ -33,15 +25,10 @@ state-same s = on (eqb_tells s 1) (eqb_tells s 3)
     on (inr t) (inr u) = rw (t.0, u.0) refl
 
 -- a written table calls the same blocks bad
-pub calls-same : (table : List ℕ) (b : ℕ) → calls_bad (as_written table) b ≡ calls_bad table b
+pub calls-same : (table : List ℕ) (b : ℕ) → calls_bad (read_again table) b ≡ calls_bad table b
 calls-same [] b = refl
 calls-same (x ∷ xs) zero = state-same x
 calls-same (x ∷ xs) (suc b) = calls-same xs b
-
--- the copies of these blocks
-abbrev pub listed : Shelf → List ℕ → List (ℕ × Copy)
-listed holds [] = []
-listed holds (b ∷ bs) = with_copy b (copy_of (holds b)) (listed holds bs)
 
 abbrev some_pair : ℕ → Held → Option (ℕ × Copy)
 some_pair b c = Some (b, copy_as c)

@@ -15,7 +15,7 @@ use Rattle.relocation_laws.specs.Tables.{IsTable, IsTableBlock}
 use Rattle.relocation_laws.specs.Keeping.{BlockFails, pages_after}
 use Rattle.run_model.specs.Run.{block_changed}
 use Rattle.page_laws.proofs.Pages.{block_of_first}
-use Rattle.relocation_laws.proofs.Finding.{copy_as}
+use Rattle.relocation_laws.specs.Agreement.{copy_as}
 use Rattle.relocation_laws.proofs.Safety.{Safety, turned, closed-turned, Safe}
 use Rattle.relocation_laws.proofs.Standing.{Stands, IsFreshAt, stands-flipped, fresh-flipped, stands-erased, fresh-erased, stands-torn-erased, stands-programmed, stands-torn-programmed}
 

@@ -4,7 +4,7 @@ use Rattle.std.proofs.lemmas.Bool.{false≢true, eqb-true, leb-true}
 use Rattle.std.proofs.lemmas.Bool.Decides.{eqb_tells}
 use Rattle.std.proofs.lemmas.Option.{none-some}
 use Rattle.nand_model.specs.Chip.{ChipState, FaultModel, ChipEvent, PageEvent, Complete, PowerCut, Flipped, ReadEvent, EraseEvent, ProgramEvent, happens, after_trace}
-use Rattle.nand_model.specs.Table.{written_code, state_read, table_blocks, calls_bad}
+use Rattle.nand_model.specs.Table.{written_code, state_read, table_blocks, calls_bad, read_again}
 use Rattle.chip_paths.specs.Attach.{Attaching, attach_path}
 use Rattle.chip_paths.specs.ChipRun.{known_at_first}
 use Rattle.chip_paths.specs.Operation.{Known, Finished, answer, entry_of, mark_path, mark_block}
@@ -15,7 +15,7 @@ use Rattle.nand_model.specs.declared.words.Reply.TheVariants.{Done, Reserved, Co
 use Rattle.chip_paths.specs.Writing.{other_of}
 use Rattle.relocation_laws.specs.Shelves.{Held, Shelf, IsOlder, Newest, HoldsBoth}
 use Rattle.page_laws.specs.Keeping.{IsIn, IsFairEvent, IsQuietEvent, EachStep}
-use Rattle.relocation_laws.specs.Tables.{as_written, IsTable, IsTableBlock, Shows}
+use Rattle.relocation_laws.specs.Tables.{IsTable, IsTableBlock, Shows}
 use Rattle.relocation_laws.specs.Keeping.{BlockFails}
 use Rattle.run_model.specs.History.{outcome_if}
 use Rattle.relocation_laws.specs.Life.{is_begun, FailsIn, TableBlockFails}
@@ -47,7 +47,7 @@ abbrev Entry : List ℕ → ℕ → Type 0
 Entry table b = (slice_index table b ≡ 0) ⊎ ((slice_index table b ≡ 2) ⊎ (calls_bad table b ≡ true))
 
 -- each entry of a table in memory is 0, or 2, or calls the block bad
-entries : (n : ℕ) (table : List ℕ) (b : ℕ) → reserved_at n (as_written table) ≡ table → Entry table b
+entries : (n : ℕ) (table : List ℕ) (b : ℕ) → reserved_at n (read_again table) ≡ table → Entry table b
 entries n [] b e = inl refl
 entries zero (x ∷ xs) zero e = on (read-entry x)
   where

@@ -2,10 +2,10 @@
 use Rattle.std.proofs.Common.{◌≡◌, ◌⊎◌, ◌<◌, ◌≤◌, ℕ, zero, suc, ◌+◌, ◌-◌, Bool, true, false, not, List, [], ◌∷◌, length, map, refl, ap, sym, ◌∙◌, arith, inl, inr, subst, if◌then◌else◌, slice_index, bit_or}
 use Rattle.std.proofs.lemmas.Bool.{false≢true}
 use Rattle.nand_model.specs.Sizes.{numbers_from}
-use Rattle.nand_model.specs.Table.{written_code, state_read, calls_bad}
+use Rattle.nand_model.specs.Table.{written_code, state_read, calls_bad, read_again}
 use Rattle.chip_paths.specs.Attach.{with_reserved, marker_table}
 use Rattle.nand_model.specs.declared.geometry.Geometry.{Geometry}
-use Rattle.relocation_laws.specs.Tables.{as_written, IsTable, Shows}
+use Rattle.relocation_laws.specs.Tables.{IsTable, Shows}
 use Rattle.relocation_laws.proofs.Reading.{SeenMarkers}
 use Rattle.relocation_laws.proofs.Tables.{reserved_at, table-block-low, table-block-there}
 
@@ -25,21 +25,21 @@ module _ (is_good : ℕ → Bool) where
   abbrev codes : List ℕ → List ℕ
   codes bs = map (λ b. code_of (is_good b)) bs
 
-  back-first : (t : Bool) (xs ys : List ℕ) → as_written xs ≡ ys → as_written (code_of t ∷ xs) ≡ code_of t ∷ ys
+  back-first : (t : Bool) (xs ys : List ℕ) → read_again xs ≡ ys → read_again (code_of t ∷ xs) ≡ code_of t ∷ ys
   back-first true xs ys e = ap (λ (l : List ℕ). 0 ∷ l) e
   back-first false xs ys e = ap (λ (l : List ℕ). 3 ∷ l) e
 
-  back-last : (t : Bool) (xs ys : List ℕ) → as_written xs ≡ ys → as_written (bit_or (code_of t) 2 ∷ xs) ≡ state_read (written_code (code_of t)) ∷ ys
+  back-last : (t : Bool) (xs ys : List ℕ) → read_again xs ≡ ys → read_again (bit_or (code_of t) 2 ∷ xs) ≡ state_read (written_code (code_of t)) ∷ ys
   back-last true xs ys e = ap (λ (l : List ℕ). 0 ∷ l) e
   back-last false xs ys e = ap (λ (l : List ℕ). 3 ∷ l) e
 
-  codes-back : (bs : List ℕ) → as_written (codes bs) ≡ codes bs
+  codes-back : (bs : List ℕ) → read_again (codes bs) ≡ codes bs
   codes-back [] = refl
   codes-back (b ∷ bs) = back-first (is_good b) (codes bs) (codes bs) (codes-back bs)
 
-  codes-reserved : (n : ℕ) (bs : List ℕ) → as_written (reserved_at n (codes bs)) ≡ as_written (codes bs)
+  codes-reserved : (n : ℕ) (bs : List ℕ) → read_again (reserved_at n (codes bs)) ≡ read_again (codes bs)
   codes-reserved zero [] = refl
-  codes-reserved zero (b ∷ bs) = back-last (is_good b) (map (λ s. bit_or s 2) (codes bs)) (as_written (codes bs)) (codes-reserved zero bs)
+  codes-reserved zero (b ∷ bs) = back-last (is_good b) (map (λ s. bit_or s 2) (codes bs)) (read_again (codes bs)) (codes-reserved zero bs)
   codes-reserved (suc n) [] = refl
   codes-reserved (suc n) (b ∷ bs) = ap (λ (l : List ℕ). state_read (written_code (code_of (is_good b))) ∷ l) (codes-reserved n bs)
 

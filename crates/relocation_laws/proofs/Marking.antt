@@ -2,7 +2,7 @@
 use Rattle.std.proofs.Common.{◌≡◌, ◌≢◌, ◌⊎◌, ◌<◌, ◌≤◌, ℕ, zero, suc, ◌-◌, Bool, true, false, List, [], ◌∷◌, length, refl, ap, sym, ◌∙◌, arith, Option, Some, None, inl, inr, subst, slice_index, slice_set, bit_or, eqb}
 use Rattle.std.proofs.lemmas.Bool.Decides.{eqb_tells}
 use Rattle.chip_paths.specs.Writing.{Places, place_of, marked, next_version, Writing, is_whole, with_whole, whole_count, written_by, after_good, moved, next_place, other_of}
-use Rattle.nand_model.specs.Table.{table_blocks, is_bad_state, calls_bad}
+use Rattle.nand_model.specs.Table.{table_blocks, is_bad_state, calls_bad, read_again}
 use Rattle.chip_paths.specs.Operation.{Known, Finished, answer, mark_reply, after_writing, writing_reply, mark_writing, write_tables}
 use Rattle.nand_model.specs.Path.{Answer, is_failure}
 use Rattle.nand_model.specs.declared.geometry.Geometry.{Geometry}
@@ -13,7 +13,7 @@ use Rattle.relocation_laws.specs.Shelves.{Shelf, IsCovered, TableLaws, Rests, Ho
 use Rattle.relocation_laws.specs.Goes.{Goes}
 use Rattle.relocation_laws.specs.Life.{is_begun}
 use Rattle.page_laws.specs.Keeping.{IsIn}
-use Rattle.relocation_laws.specs.Tables.{as_written, IsTable, Shows, IsTableBlock}
+use Rattle.relocation_laws.specs.Tables.{IsTable, Shows, IsTableBlock}
 use Rattle.relocation_laws.proofs.Attaching.{few-whole}
 use Rattle.relocation_laws.proofs.Going.{goes-along}
 use Rattle.relocation_laws.proofs.Starting.{start-mark, both-rest}
@@ -26,7 +26,7 @@ tail-same : (x y : ℕ) (xs ys : List ℕ) → x ∷ xs ≡ y ∷ ys → xs ≡ 
 tail-same x y xs ys e = cc
 
 -- a data block that is called worn: the table still comes back
-back-low : (n : ℕ) (table : List ℕ) (b : ℕ) → b < n → reserved_at n (as_written table) ≡ table → reserved_at n (as_written (slice_set table b 1)) ≡ slice_set table b 1
+back-low : (n : ℕ) (table : List ℕ) (b : ℕ) → b < n → reserved_at n (read_again table) ≡ table → reserved_at n (read_again (slice_set table b 1)) ≡ slice_set table b 1
 back-low zero table b h e = absurd (omega (arith, h))
 back-low (suc n) [] b h e = refl
 back-low (suc n) (x ∷ xs) zero h e = ap (λ (ys : List ℕ). 1 ∷ ys) (tail-same _ _ _ _ e)

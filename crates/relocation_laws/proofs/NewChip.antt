@@ -1,4 +1,4 @@
--- A new chip, and the theorem from it on.
+-- A new chip holds nothing.
 use Rattle.std.proofs.Common.{◌≡◌, ◌≢◌, ◌⊎◌, ◌<◌, ◌≤◌, ℕ, zero, suc, ◌+◌, ◌-◌, Bool, true, false, not, ◌||◌, ◌==◌, if◌then◌else◌, List, [], ◌∷◌, length, filter, refl, ap, sym, ◌∙◌, arith, None, inl, inr, subst, slice_index, slice_set, replicate}
 use Rattle.std.specs.Prelude.{⊤}
 use Rattle.std.specs.List.{list_any, count_by}
@@ -16,10 +16,10 @@ use Rattle.nand_model.specs.declared.words.Weak.{Weak}
 use Rattle.page_laws.proofs.PagesHold.{page_laws}
 use Rattle.page_laws.specs.Keeping.{after_flips, KeepsCopy, PageLaws, TablePage, KeepsMarker, IsIn}
 use Rattle.relocation_laws.specs.Tables.{IsTableBlock}
-use Rattle.relocation_laws.specs.Theorem.{is_good_of, MarksOutliveRelocation}
+use Rattle.relocation_laws.specs.Tables.{is_good_of}
 use Rattle.relocation_laws.proofs.MarkerTables.{AreFactoryBad}
 use Rattle.relocation_laws.proofs.Lives.{Lives}
-use Rattle.relocation_laws.proofs.Chain.{boots-hold}
+use Rattle.relocation_laws.proofs.Goes.{none-aside}
 use Rattle.page_laws.proofs.Markers.{flips_elsewhere}
 use Rattle.page_laws.proofs.Pages.{first_page-same}
 

@@ -10,7 +10,8 @@ use Rattle.relocation_laws.specs.Shelves.{Held, Shelf, IsOlder, Newest}
 use Rattle.page_laws.specs.Keeping.{IsIn}
 use Rattle.relocation_laws.specs.Tables.{IsTable, IsTableBlock}
 use Rattle.relocation_laws.proofs.Induction.{other-other, some-same}
-use Rattle.relocation_laws.proofs.Finding.{copy_as, listed, found-at, found-none, disowned-at, disowned-never, valid-at, not-valid-kind, not-valid-disowned}
+use Rattle.relocation_laws.specs.Agreement.{copy_as, listed}
+use Rattle.relocation_laws.proofs.Finding.{found-at, found-none, disowned-at, disowned-never, valid-at, not-valid-kind, not-valid-disowned}
 
 module _ (g : Geometry) (is_good : ℕ → Bool) (Good : List ℕ → Type 0) (holds : Shelf) (j : Newest (IsTableBlock g is_good) (IsTable g) Good holds) where
   abbrev n : ℕ

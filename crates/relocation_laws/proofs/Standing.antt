@@ -13,7 +13,7 @@ use Rattle.page_laws.specs.Keeping.{IsIn, after_flips, KeepsCopy, KeepsMarker, T
 use Rattle.page_laws.specs.Keeping.{IsFresh}
 use Rattle.relocation_laws.specs.Keeping.{DataMarkers, pages_after}
 use Rattle.relocation_laws.proofs.Induction.{held-own, held-else}
-use Rattle.relocation_laws.proofs.Finding.{copy_as, copy_of}
+use Rattle.relocation_laws.specs.Agreement.{copy_as, copy_of}
 use Rattle.page_laws.proofs.Pages.{with_block-other, with_block-same, with_page-same, with_page-other}
 use Rattle.page_laws.proofs.Torn.{torn_erase_keeps, torn_program_keeps}
 use Rattle.page_laws.proofs.Markers.{torn_erase_marker, torn_program_marker}

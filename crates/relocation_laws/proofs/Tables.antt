@@ -2,12 +2,12 @@
 use Rattle.std.proofs.Common.{◌≡◌, ◌≢◌, ◌⊎◌, ℕ, zero, suc, ◌-◌, ◌<◌, ◌≤◌, Bool, true, false, ◌&&◌, not, ◌==◌, List, [], ◌∷◌, ◌++◌, length, map, take, drop, find, refl, ap, sym, ◌∙◌, arith, inl, inr, subst, Some, slice_index, slice_set, bit_or}
 use Rattle.std.proofs.lemmas.Bool.{and_parts, eqb-true, false≢true}
 use Rattle.std.proofs.lemmas.Bool.Decides.{eqb_tells}
-use Rattle.nand_model.specs.Table.{table_blocks, is_bad_state, calls_bad}
+use Rattle.nand_model.specs.Table.{table_blocks, is_bad_state, calls_bad, read_again}
 use Rattle.chip_paths.specs.Writing.{marked, next_place}
 use Rattle.nand_model.specs.declared.geometry.Geometry.{Geometry}
 use Rattle.relocation_laws.specs.Shelves.{TableLaws}
 use Rattle.page_laws.specs.Keeping.{IsIn}
-use Rattle.relocation_laws.specs.Tables.{as_written, IsTable, Shows, IsTableBlock}
+use Rattle.relocation_laws.specs.Tables.{IsTable, Shows, IsTableBlock}
 
 -- what is found is in the list and passes the test
 pub find-in : (test : ℕ → Bool) (xs : List ℕ) (b : ℕ) → find test xs ≡ Some b → IsIn xs b × (test b ≡ true)
@@ -80,7 +80,7 @@ tail-same : (x y : ℕ) (xs ys : List ℕ) → x ∷ xs ≡ y ∷ ys → xs ≡ 
 tail-same x y xs ys e = cc
 
 -- a block among the last ones that is called factory bad: the table still comes back
-back-set : (n : ℕ) (table : List ℕ) (b : ℕ) → n ≤ b → reserved_at n (as_written table) ≡ table → reserved_at n (as_written (slice_set table b 3)) ≡ slice_set table b 3
+back-set : (n : ℕ) (table : List ℕ) (b : ℕ) → n ≤ b → reserved_at n (read_again table) ≡ table → reserved_at n (read_again (slice_set table b 3)) ≡ slice_set table b 3
 back-set zero [] b h e = refl
 back-set zero (x ∷ xs) zero h e = ap (λ ys. 3 ∷ ys) (tail-same _ _ _ _ e)
 back-set zero (x ∷ xs) (suc b) h e =
