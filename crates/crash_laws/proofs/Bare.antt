@@ -200,7 +200,7 @@ module _ {W : Type 0} (model : FaultModel W) (g : Geometry) (sized : 0 < g.pages
     BareResult finished s = RemembersBare g F (BareAcked (Some finished.reply)) (BareBegun (Some finished.reply)) finished.known s
 
     abbrev pub bare_law : Safety W Finished
-    bare_law = record { model = model; granted = IsFairEvent model; moment = λ s. AliveBare g F A (BareBegun None) s; result = BareResult }
+    bare_law = record { model = model; granted = IsFairEvent model; moment = λ path s. AliveBare g F A (BareBegun None) s; ended = λ s. AliveBare g F A (BareBegun None) s; result = BareResult }
 
     begun_more : (reply : Option Reply) (b : ℕ) → BareBegun reply b → BareBegun None b
     begun_more reply b (inl x) = inl x

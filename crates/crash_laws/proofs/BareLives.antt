@@ -79,7 +79,7 @@ module _ {W : Type 0} (model : FaultModel W) (g : Geometry) (sized : 0 < g.pages
   BareAttach a s = Shows g F A B a.table × RemembersBare g F A B (known_at_first a) s
 
   abbrev pub bare_attach_law : Safety W Attaching
-  bare_attach_law = record { model = model; granted = AttachGrant model; moment = λ s. AliveBare g F A B s; result = BareAttach }
+  bare_attach_law = record { model = model; granted = AttachGrant model; moment = λ path s. AliveBare g F A B s; ended = λ s. AliveBare g F A B s; result = BareAttach }
 
   abbrev Reading : List ℕ → List (List ℕ) → ChipState W → Type 0
   Reading done seen s = AliveBare g F A B s × AllTold s.pages done seen

@@ -27,7 +27,7 @@ use Rattle.page_laws.proofs.PagesHold.{page_laws}
 use Rattle.page_laws.proofs.Quiet.{quiet_table}
 use Rattle.relocation_laws.specs.Shelves.{HoldsBoth}
 use Rattle.relocation_laws.specs.Tables.{IsTable, IsTableBlock, Shows}
-use Rattle.relocation_laws.specs.Theorem.{is_good_of}
+use Rattle.relocation_laws.specs.Tables.{is_good_of}
 use Rattle.relocation_laws.proofs.Agreeing.{copies-agree}
 use Rattle.relocation_laws.specs.Agreement.{copy_of}
 use Rattle.relocation_laws.proofs.Goes.{Setting}

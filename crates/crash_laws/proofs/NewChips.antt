@@ -16,7 +16,7 @@ use Rattle.run_model.specs.Marking.{ShowsMarks}
 use Rattle.run_model.specs.Run.{HasTableBlocks}
 use Rattle.page_laws.specs.Keeping.{IsIn, KeepsMarker, PageLaws}
 use Rattle.page_laws.proofs.PagesHold.{page_laws}
-use Rattle.relocation_laws.specs.Theorem.{is_good_of}
+use Rattle.relocation_laws.specs.Tables.{is_good_of}
 use Rattle.relocation_laws.specs.Tables.{Shows}
 use Rattle.relocation_laws.proofs.NewChip.{some_is, any_in, not_true, are_bad, bad_page, new_marker, new_lives, two_good, TwoBlocks, two-blocks}
 use Rattle.crash_laws.proofs.Bare.{AliveBare}

@@ -11,10 +11,11 @@ use Rattle.nand_model.specs.declared.words.Op.{Op}
 use Rattle.nand_model.specs.declared.words.Reply.{Reply}
 use Rattle.page_laws.specs.Keeping.{IsFairEvent, EachStep}
 use Rattle.relocation_laws.specs.Tables.{IsTableBlock, Shows}
-use Rattle.relocation_laws.specs.Life.{TableBlockFails, outcome_if, known_then, attach_outcome, NowAcked, NowBegun}
-use Rattle.relocation_laws.proofs.Goes.{Setting, holding-flipped}
+use Rattle.run_model.specs.History.{outcome_if, known_then}
+use Rattle.relocation_laws.specs.Life.{TableBlockFails, NowAcked, NowBegun}
+use Rattle.relocation_laws.proofs.Goes.{Setting, holding-flipped, none-aside}
 use Rattle.relocation_laws.proofs.MarkerTables.{AreFactoryBad}
-use Rattle.relocation_laws.proofs.Lives.{Lives, Remembers, lives-fewer, remembers-fewer, AttachEnd, attach-end}
+use Rattle.relocation_laws.proofs.Lives.{Lives, Remembers, lives-fewer, remembers-fewer, AttachEnd, attach-end, attach_end_of}
 use Rattle.relocation_laws.proofs.Chain.{after-op}
 use Rattle.crash_laws.specs.Life.{IsFairAndQuietAttach, TableFails}
 use Rattle.crash_laws.proofs.BareLives.{shows_more}
@@ -74,7 +75,7 @@ module _ {W : Type 0} (model : FaultModel W) (g : Geometry) (c : Setting g) (eno
         ),
   )
     where
-      end : AttachEnd model g c enough F factory p q in_p in_q apart A (λ b. B b ⊎ TableBlockFails model g s trace b) (after_trace model s trace) (attach_outcome model g s trace)
+      end : AttachEnd model g c enough F factory p q in_p in_q apart A (λ b. B b ⊎ TableBlockFails model g s trace b) (after_trace model s trace) (attach_end_of model g c enough F factory p q in_p in_q apart s trace)
       end = attach-end model g c enough F factory p q in_p in_q apart A B s trace alive along granted
 
   -- a chip with tables
@@ -83,9 +84,9 @@ module _ {W : Type 0} (model : FaultModel W) (g : Geometry) (c : Setting g) (eno
     Lives = λ A B s. Alive_ A B s;
     Knows = λ A B k s. Memory A B k s;
     sized = λ A B s h. h.holding.geometry;
-    flip = λ A B s page bit h. record { holds = h.holds; holding = holding-flipped g c (Shows g F A B) ((b : ℕ) → A b → ⊥) model h.holds None s page bit h.holding; rests = h.rests };
+    flip = λ A B s page bit h. record { holds = h.holds; holding = holding-flipped g c (Shows g F A B) ((b : ℕ) → A b → ⊥) model h.holds None s page bit h.holding; rests = h.rests; aside = none-aside g h.holds };
     fewer = λ A B A1 B1 s fewer more h. lives-fewer model g c enough F factory p q in_p in_q apart A B A1 B1 fewer more s h;
-    lives = λ A B k s h. record { holds = h.holds; holding = h.holding; rests = h.rests };
+    lives = λ A B k s h. record { holds = h.holds; holding = h.holding; rests = h.rests; aside = none-aside g h.holds };
     unanswered = unanswered;
     answered = answered;
     attaching = attaching;

@@ -133,7 +133,7 @@ module _ {W : Type 0} (model : FaultModel W) (g : Geometry) (c : Setting g) (eno
   abbrev pub LivesBefore : (A B : ℕ → Type 0) → Option PageEvent → ChipState W → Type 0
   LivesBefore A B next s = Alive g c (Shows g F A B) (None_ A) next s
 
-  newest-fewer : (Good Good1 : List ℕ → Type 0) → ((t : List ℕ) → Good t → Good1 t) → (h : Shelf) → Newest TB (IsTable g) Good h → Newest TB (IsTable g) Good1 h
+  pub newest-fewer : (Good Good1 : List ℕ → Type 0) → ((t : List ℕ) → Good t → Good1 t) → (h : Shelf) → Newest TB (IsTable g) Good h → Newest TB (IsTable g) Good1 h
   newest-fewer Good Good1 f h j =
       record {
         place = j.place;
@@ -155,7 +155,7 @@ module _ {W : Type 0} (model : FaultModel W) (g : Geometry) (c : Setting g) (eno
       on b k (inl z) = inl z
       on b k (inr z) = inr (z.0, z.1, z.2, f k.table z.3)
 
-  rests-fewer : (A B A1 B1 : ℕ → Type 0) → ((b : ℕ) → A1 b → A b) → ((b : ℕ) → B b → B1 b) → (h : Shelf) → AtRest g c (Shows g F A B) (None_ A) h → AtRest g c (Shows g F A1 B1) (None_ A1) h
+  pub rests-fewer : (A B A1 B1 : ℕ → Type 0) → ((b : ℕ) → A1 b → A b) → ((b : ℕ) → B b → B1 b) → (h : Shelf) → AtRest g c (Shows g F A B) (None_ A) h → AtRest g c (Shows g F A1 B1) (None_ A1) h
   rests-fewer A B A1 B1 fewer more h (inl e) = inl (e.0, λ b a. e.1 b (fewer b a))
   rests-fewer A B A1 B1 fewer more h (inr j) = inr (newest-fewer (Shows g F A B) (Shows g F A1 B1) (λ t z. shows-fewer g enough c.is_good F A B A1 B1 t fewer more z) h j)
 

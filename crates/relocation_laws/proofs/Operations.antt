@@ -51,10 +51,10 @@ page-block p t start page h e = sym (block-is t) ∙ ap (λ x. x / p) e ∙ mul-
 module _ {W : Type 0} (model : FaultModel W) (g : Geometry) (c : Setting g) (enough : 4 ≤ g.blocks) (F : ℕ → Type 0) (factory : AreFactoryBad g c.is_good F)
     (p q : ℕ) (in_p : IsTableBlock g c.is_good p) (in_q : IsTableBlock g c.is_good q) (apart : p ≢ q)
     (A B : ℕ → Type 0) (k : Known) (s : ChipState W) (r : Remembers model g c enough F factory p q in_p in_q apart A B k s) where
-  abbrev Memory : Known → ChipState W → Type 0
+  abbrev pub Memory : Known → ChipState W → Type 0
   Memory j t = Remembers model g c enough F factory p q in_p in_q apart A B j t
 
-  abbrev Here : ChipState W → Type 0
+  abbrev pub Here : ChipState W → Type 0
   Here t = Holding g c (Shows g F A B) ((b : ℕ) → A b → ⊥) r.holds None t
 
   -- nothing is asked of the events of an operation that leaves the tables alone
@@ -64,7 +64,7 @@ module _ {W : Type 0} (model : FaultModel W) (g : Geometry) (c : Setting g) (eno
   -- what holds before an event outside the table blocks and after a cut one, while the pages hold the shelf that is remembered
   module _ (moment : Path Finished → ChipState W → Type 0) (ended : ChipState W → Type 0)
       (before : (path : Path Finished) → ((b : ℕ) → block_changed g (first_event path) ≡ Some b → IsIn (table_blocks g) b → ⊥) → (t : ChipState W) → Here t → moment path t) (after_cut : (t : ChipState W) → Here t → ended t) where
-    abbrev Plain : Path Finished → Type 0
+    abbrev pub Plain : Path Finished → Type 0
     Plain path = (t : ChipState W) → Here t → Safe (plain_law moment ended) path t
 
     -- what is known may have other statistics
@@ -110,7 +110,7 @@ module _ {W : Type 0} (model : FaultModel W) (g : Geometry) (c : Setting g) (eno
     )
 
     -- an operation on a partition: a mark of one of its blocks, or one that leaves the tables alone
-    abbrev Route : Option Part → Op → Type 0
+    abbrev pub Route : Option Part → Op → Type 0
     Route part op =
         ((b : ℕ) × (block_of part op ≡ Some b) × (operation_by g k part op ≡ mark_block g k b)) ⊎ ((block_of part op ≡ None) × Plain (operation_by g k part op))
 
