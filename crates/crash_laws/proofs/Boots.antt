@@ -166,7 +166,7 @@ pub record BootOf {W : Type 0} (model : FaultModel W) (partitions : Partitions) 
   pub pairs : (session : ℕ) → Alternate (exchanges_of session course.notes)
 
 module _ {W : Type 0} (model : FaultModel W) where
-  boot_at : (boot : Boot) (starts : List (ChipState W)) (course : Course W) → Holds model boot starts course → (k : ℕ) (s : ChipState W) → slice_get starts k ≡ Some s → BootOf model boot.partitions k s course
+  pub boot_at : (boot : Boot) (starts : List (ChipState W)) (course : Course W) → Holds model boot starts course → (k : ℕ) (s : ChipState W) → slice_get starts k ≡ Some s → BootOf model boot.partitions k s course
   boot_at boot starts course holds k s at = on (slice_get starts k) at (slice_get course.chips k) refl ((log_of model boot starts course holds).2 k)
     where
       on : (os : Option (ChipState W)) → os ≡ Some s → (oc : Option (ChipRun W)) → slice_get course.chips k ≡ oc
@@ -273,7 +273,7 @@ module _ {W : Type 0} (model : FaultModel W) (partitions : Partitions) (k : ℕ)
             (attach_granted model k s b.attach (fair_attach model partitions k g s b notes same h own fair) quiet)
 
   -- and so through such a boot of a course
-  lives_through : (past : List (List Note)) (s : ChipState W) (course : Course W) (boot : BootOf model partitions k s course) → kind.Lives (Acked partitions k past) (Begun g partitions k past) s
+  pub lives_through : (past : List (List Note)) (s : ChipState W) (course : Course W) (boot : BootOf model partitions k s course) → kind.Lives (Acked partitions k past) (Begun g partitions k past) s
       → WritesFill g (notes_of_chip partitions k course.notes) → is_fair k course.notes ≡ true → quiet_at k course ≡ true
       → kind.Lives (Acked partitions k (past ++ course.notes ∷ [])) (Begun g partitions k (past ++ course.notes ∷ [])) (after_trace model s (trace_of boot.life))
   lives_through past s course boot alive fill fair quiet =
@@ -312,18 +312,17 @@ module _ {W : Type 0} (model : FaultModel W) (partitions : Partitions) (k : ℕ)
       (survive courses boots turns (end_states c) (past ++ c.notes ∷ []) (after_trace model s (trace_of b.life)) (λ z i. has z (suc i.0, omega (arith, i.1), i.2)) h.1 b.next r
       (λ z i. fill z (suc i.0, omega (arith, i.1), i.2)) n course before after origin version copies states here e parts.1 fair)
 
-  -- and lives after all of them, where all were fair and quiet
-  pub record LivesAfter (ends : List (ChipState W)) : Type 0 where
+  -- and lives after all of them, where all were fair and quiet: these are the notes of the boots
+  pub record LivesAfter (ends : List (ChipState W)) (notes : List (List Note)) : Type 0 where
     pub chip : ChipState W
     pub at : slice_get ends k ≡ Some chip
-    pub past : List (List Note)
-    pub alive : kind.Lives (Acked partitions k past) (Begun g partitions k past) chip
+    pub alive : kind.Lives (Acked partitions k notes) (Begun g partitions k notes) chip
 
   pub lives_after : (courses : List (Course W)) (boots : List Boot) (turns : List (List ℕ)) (starts : List (ChipState W)) (past : List (List Note)) (s : ChipState W)
       → ((boot : Boot) → Contains boots boot → boot.partitions ≡ partitions) → AreBoots model starts boots turns courses → slice_get starts k ≡ Some s
       → kind.Lives (Acked partitions k past) (Begun g partitions k past) s → ((course : Course W) → Contains courses course → WritesFill g (notes_of_chip partitions k course.notes)) → IsFairAndQuiet k courses
-      → LivesAfter (ends_of starts courses)
-  lives_after [] boots turns starts past s has h at alive fill good = record { chip = s; at = at; past = past; alive = alive }
+      → LivesAfter (ends_of starts courses) (past ++ map (λ (c : Course W). c.notes) courses)
+  lives_after [] boots turns starts past s has h at alive fill good = subst (LivesAfter starts) (sym (append-nil past)) (record { chip = s; at = at; alive = alive })
   lives_after (c ∷ courses) [] [] starts past s has h at alive fill good = absurd h
   lives_after (c ∷ courses) [] (turn ∷ turns) starts past s has h at alive fill good = absurd h
   lives_after (c ∷ courses) (boot ∷ boots) [] starts past s has h at alive fill good = absurd h
@@ -332,5 +331,6 @@ module _ {W : Type 0} (model : FaultModel W) (partitions : Partitions) (k : ℕ)
       let parts = and_parts (is_fair k c.notes && quiet_at k c) (list_all (λ (z : Course W). is_fair k z.notes && quiet_at k z) courses) good in
       let first = and_parts (is_fair k c.notes) (quiet_at k c) parts.0 in
       let r = lives_through past s c b alive (fill c (0, omega arith, refl)) first.0 first.1 in
-      lives_after courses boots turns (end_states c) (past ++ c.notes ∷ []) (after_trace model s (trace_of b.life)) (λ z i. has z (suc i.0, omega (arith, i.1), i.2)) h.1 b.next r
-      (λ z i. fill z (suc i.0, omega (arith, i.1), i.2)) parts.1
+      subst (LivesAfter (ends_of (end_states c) courses)) (append_assoc past (c.notes ∷ []) (map (λ (z : Course W). z.notes) courses))
+      (lives_after courses boots turns (end_states c) (past ++ c.notes ∷ []) (after_trace model s (trace_of b.life)) (λ z i. has z (suc i.0, omega (arith, i.1), i.2)) h.1 b.next r
+      (λ z i. fill z (suc i.0, omega (arith, i.1), i.2)) parts.1)

@@ -28,8 +28,8 @@ marks_outlive_cuts partitions k g bad weak few life notes fill h =
     life_shows sim_faults partitions k g bad s.kind [] (new_chip g bad weak) life notes fill h (fresh_start g bad weak partitions k s)
 
 pub marks_survive_runs : MarksSurviveRuns
-marks_survive_runs partitions starts boots turns courses k g bad weak has runs at fill few n course before after origin version copies states here e fair_quiet fair =
+marks_survive_runs partitions starts boots turns courses k g bad weak run few n course before after origin version copies states here e fair_quiet fair =
     let s = start g bad weak partitions (has_tables g) refl few in
     shows_marks g partitions k bad (map (λ (c : Course SimFaults). c.notes) (take n courses)) before states
-    (survive sim_faults partitions k g (IsIn bad) s.kind courses boots turns starts [] (new_chip g bad weak) has runs at
-    (fresh_start g bad weak partitions k s) fill n course before after origin version copies states here e fair_quiet fair)
+    (survive sim_faults partitions k g (IsIn bad) s.kind courses boots turns starts [] (new_chip g bad weak) run.one_list run.runs run.new
+    (fresh_start g bad weak partitions k s) run.fills n course before after origin version copies states here e fair_quiet fair)
