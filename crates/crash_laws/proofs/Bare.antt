@@ -1,5 +1,5 @@
 -- A chip without tables: its marks are the markers of its blocks.
-use Rattle.std.proofs.Common.{◌≡◌, ◌≢◌, ◌⊎◌, ◌<◌, ℕ, zero, suc, ◌+◌, ◌/◌, Bool, true, false, not, ◌||◌, ◌==◌, if◌then◌else◌, List, [], ◌∷◌, ◌++◌, length, refl, ap, sym, ◌∙◌, arith, Option, Some, None, inl, inr, subst, slice_index, slice_set, append_assoc, append-nil, bit_or}
+use Rattle.std.proofs.Common.{◌≡◌, ◌≢◌, ◌⊎◌, ◌<◌, ℕ, zero, suc, ◌+◌, ◌/◌, true, false, not, ◌||◌, ◌==◌, if◌then◌else◌, List, [], ◌∷◌, length, refl, ap, sym, ◌∙◌, arith, Option, Some, None, inl, inr, subst, slice_index, slice_set, bit_or}
 use Rattle.std.specs.Prelude.{⊤, nat_le}
 use Rattle.std.proofs.Math.Nat.{mul-add-div_right}
 use Rattle.std.proofs.lemmas.Bool.Decides.{nat_tests}
@@ -60,7 +60,8 @@ module _ {W : Type 0} (g : Geometry) where
     pub geometry : s.geometry ≡ g
     pub marks : (b : ℕ) → b < g.blocks → BlockMark g F A B b (s.pages (first_page g b))
 
-  -- what is remembered of the chip: a block that is bad has an entry, and a block with an entry has a bad marker
+  -- what is remembered of the chip: a block that is bad has an entry, and a block with an entry has
+  -- a bad marker
   pub record RemembersBare (F A B : ℕ → Type 0) (k : Known) (s : ChipState W) : Type 0 where
     pub alive : AliveBare F A B s
     pub sticky : (b : ℕ) → b < g.blocks → F b ⊎ A b → slice_index k.table b ≢ 0

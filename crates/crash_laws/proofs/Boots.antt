@@ -15,7 +15,7 @@ use Rattle.nand_model.specs.declared.words.Note.{Note}
 use Rattle.nand_model.specs.declared.words.Note.TheVariants.{Attached}
 use Rattle.command_model.specs.Boot.{Boot}
 use Rattle.run_model.specs.Course.{Course, IsWholeCourse, end_states}
-use Rattle.run_model.specs.History.{OperationTrace, ChipBoot, trace_of, events_in, notes_of_trace, notes_of_chip, GoesOn, IsChipHistory, attach_outcome, was_quiet, AreOperationTraces, notes_of_chip_from}
+use Rattle.run_model.specs.History.{ChipBoot, trace_of, events_in, notes_of_trace, notes_of_chip, GoesOn, IsChipHistory, attach_outcome, was_quiet, notes_of_chip_from}
 use Rattle.command_model.specs.Session.{Alternate, exchanges_of}
 use Rattle.run_model.specs.Marking.{marks_in, begins, is_acknowledgement, marking_began, marking_acknowledged, failed_in_writing}
 use Rattle.run_model.specs.Run.{AreBoots, is_fair, quiet_at, IsFairAndQuiet}
@@ -232,7 +232,8 @@ module _ {W : Type 0} (model : FaultModel W) (partitions : Partitions) (k : ℕ)
           (inr (or_right (list_any begins (marks_in partitions k d before)) (failed_in_writing g k d before)
           (failed_of_chip g k d partitions (λ session. None) before (ap (failed_in_writing g k d) n.before_is ∙ trace_failed g k d model s boot.life.attach f))))
 
-  -- A chip lives through a boot that was fair and quiet, by its own notes; all notes may stand for them where they tell the same marks
+  -- A chip lives through a boot that was fair and quiet, by its own notes; all notes may stand for
+  -- them where they tell the same marks
   module _ (past : List (List Note)) (s : ChipState W) (b : ChipBoot) (notes all : List Note) (h : IsChipHistory model partitions k s b.attach b.operations notes) (own : Own partitions k g notes)
       (same_marks : (d : ℕ) → marks_in partitions k d notes ≡ marks_in partitions k d all) (failed : (d : ℕ) → failed_in_writing g k d notes ≡ true → failed_in_writing g k d all ≡ true)
       (alive : kind.Lives (Acked partitions k past) (Begun g partitions k past) s) where

@@ -23,7 +23,8 @@ use Rattle.run_model.specs.Survival.{WritesAPage}
 abbrev pub traces_in : List OperationTrace → List (ℕ × ChipEvent)
 traces_in operations = flat_map (λ (o : OperationTrace). o.trace) operations
 
--- what is kept of a chip, whether it has tables or not: when it lives, with the blocks whose marking was acknowledged and has begun, and when what is known of it is remembered
+-- what is kept of a chip, whether it has tables or not: when it lives, with the blocks whose
+-- marking was acknowledged and has begun, and when what is known of it is remembered
 pub record Kind {W : Type 0} (model : FaultModel W) (g : Geometry) (F : ℕ → Type 0) (partitions : Partitions) : Type 1 where
   pub Lives : (A B : ℕ → Type 0) → ChipState W → Type 0
   pub Knows : (A B : ℕ → Type 0) → Known → ChipState W → Type 0

@@ -1,5 +1,6 @@
--- A chip with tables in a boot, from step to step: which shelf its places hold, and what is known of it.
-use Rattle.std.proofs.Common.{◌≡◌, ◌≢◌, ◌⊎◌, ◌≤◌, ◌==◌, ◌||◌, ◌∙◌, ℕ, Bool, true, false, not, arith, List, [], ◌∷◌, ◌++◌, refl, sym, inl, inr, Option, Some, None, subst}
+-- A chip with tables in a boot, from step to step: which shelf its places hold, and what is known
+-- of it.
+use Rattle.std.proofs.Common.{◌≡◌, ◌≢◌, ◌≤◌, ◌==◌, ◌||◌, ◌∙◌, ℕ, Bool, true, false, not, arith, List, [], ◌∷◌, ◌++◌, refl, sym, inl, inr, Option, Some, None, subst}
 use Rattle.std.specs.Prelude.{⊤, IsSome, nat_le}
 use Rattle.std.proofs.lemmas.Bool.{and_parts, false≢true, leb-true}
 use Rattle.std.proofs.lemmas.Option.{none-some}
@@ -21,7 +22,6 @@ use Rattle.page_laws.specs.Keeping.{IsIn, IsFairEvent, IsQuietEvent}
 use Rattle.relocation_laws.specs.Shelves.{Shelf, IsEmpty}
 use Rattle.relocation_laws.specs.Keeping.{BlockFails}
 use Rattle.relocation_laws.specs.Tables.{IsTable, IsTableBlock, Shows}
-use Rattle.relocation_laws.specs.Life.{block_marked}
 use Rattle.relocation_laws.proofs.AttachSafe.{attach-safe, attach-alive}
 use Rattle.relocation_laws.proofs.Attaching.{IsAttached}
 use Rattle.relocation_laws.proofs.Agreeing.{not-empty}
@@ -41,14 +41,16 @@ Used = Bool
 abbrev pub Later : Used → Used → Type 0
 Later y z = y ≡ true → z ≡ true
 
--- Of a used chip something was acknowledged: the block behind its last one, which no table has to show. So its table blocks are never empty again.
+-- Of a used chip something was acknowledged: the block behind its last one, which no table has to
+-- show. So its table blocks are never empty again.
 abbrev pub Once : Geometry → Used → ℕ → Type 0
 Once g y b = (y ≡ true) × (b ≡ g.blocks)
 
 abbrev pub AnyBlock : ℕ → Type 0
 AnyBlock b = ⊤
 
--- what is safe by one law is so by another that grants no more, and asks for no more than that it is safe
+-- what is safe by one law is so by another that grants no more, and asks for no more than that it
+-- is safe
 module _ {W A : Type 0} (model : FaultModel W) (granted granted1 : ChipState W → ChipEvent → Type 0) (moment moment1 : Path A → ChipState W → Type 0) (ended ended1 : ChipState W → Type 0) (result result1 : A → ChipState W → Type 0) where
   abbrev Law : Safety W A
   Law = record { model = model; granted = granted; moment = moment; ended = ended; result = result }

@@ -1,4 +1,5 @@
--- At each moment of a boot the copies agree, a whole copy stays, and two whole copies hold the table.
+-- At each moment of a boot the copies agree, a whole copy stays, and two whole copies hold the
+-- table.
 use Rattle.std.proofs.Common.{◌≡◌, ◌≢◌, ◌≤◌, ◌<◌, ℕ, ◌+◌, Bool, true, false, ◌&&◌, List, [], ◌∷◌, ◌++◌, refl, ap, sym, ◌∙◌, Option, Some, None, subst, arith}
 use Rattle.std.specs.Prelude.{IsTrue, IsSome, slice_get, option_map, map, Contains, if◌then◌else◌}
 use Rattle.std.specs.List.{list_all}

@@ -60,7 +60,8 @@ module _ {W : Type 0} (model : FaultModel W) (g : Geometry) (c : Setting g) (eno
   abbrev pub Hold : Used → Course W → Type 0
   Hold y course = HoldO course.dark y (slice_get course.chips k)
 
-  -- so far no torn event of the chip was foul, its attach was quiet, and what was written filled its pages
+  -- so far no torn event of the chip was foul, its attach was quiet, and what was written filled
+  -- its pages
   pub record IsGood (course : Course W) : Type 0 where
     pub fair : is_fair k course.notes ≡ true
     pub quiet : QuietO (slice_get course.chips k)
@@ -373,7 +374,8 @@ module _ {W : Type 0} (model : FaultModel W) (g : Geometry) (c : Setting g) (eno
     more_turns [] later course = refl
     more_turns (turn ∷ first) later course = more_turns first later (turn_step model boot (sizes_of boot starts) course turn)
 
-    -- where attaching is over or the controller dark, no attach step does anything; else no turn does
+    -- where attaching is over or the controller dark, no attach step does anything; else no turn
+    -- does
     attached_still : (n : ℕ) (course : Course W) → attach_step model boot (sizes_of boot starts) course ≡ course → attach_steps model boot starts n course ≡ course
     attached_still zero course e = refl
     attached_still (suc n) course e = ap (attach_steps model boot starts n) e ∙ attached_still n course e

@@ -1,4 +1,5 @@
--- What the notes of a chip say of its traces: which torn events were fair, and which attaches were quiet.
+-- What the notes of a chip say of its traces: which torn events were fair, and which attaches were
+-- quiet.
 use Rattle.std.proofs.Common.{◌≡◌, ◌≢◌, ℕ, Bool, true, false, not, ◌&&◌, List, [], ◌∷◌, ◌++◌, refl, ap, sym, ◌∙◌}
 use Rattle.std.specs.Prelude.{if◌then◌else◌}
 use Rattle.std.proofs.lemmas.Bool.{false≢true, eq-eqb, and_parts}

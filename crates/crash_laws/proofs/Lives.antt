@@ -1,4 +1,5 @@
--- A chip lives through the boots of its life, and each attach shows the marks, by the chip's own notes.
+-- A chip lives through the boots of its life, and each attach shows the marks, by the chip's own
+-- notes.
 use Rattle.std.proofs.Common.{◌≡◌, ◌⊎◌, ◌∙◌, ℕ, Bool, true, false, List, [], ◌∷◌, ◌++◌, map, refl, Option, Some, None, inl, inr, subst, sym, append_assoc}
 use Rattle.std.specs.Prelude.{All}
 use Rattle.std.specs.List.{list_any}
@@ -10,14 +11,13 @@ use Rattle.nand_model.specs.declared.geometry.Geometry.{Geometry}
 use Rattle.nand_model.specs.declared.words.Note.{Note}
 use Rattle.nand_model.specs.declared.words.Reply.{Reply}
 use Rattle.chip_paths.specs.Attach.{Attaching}
-use Rattle.chip_paths.specs.ChipRun.{torn_notes, attach_note, known_at_first}
+use Rattle.chip_paths.specs.ChipRun.{torn_notes, known_at_first}
 use Rattle.chip_paths.specs.Operation.{Known, operation_path}
-use Rattle.run_model.specs.History.{OperationTrace, ChipBoot, IsChipHistory, IsChipLife, AreOperationTraces, GoesOn, events_in, notes_of_event, notes_of_trace, notes_of_operation, notes_of_chip, answer_note, known_then, attach_outcome, was_quiet, trace_of}
+use Rattle.run_model.specs.History.{OperationTrace, ChipBoot, IsChipHistory, IsChipLife, AreOperationTraces, GoesOn, events_in, notes_of_event, notes_of_trace, notes_of_chip, answer_note, known_then, attach_outcome, was_quiet, trace_of}
 use Rattle.run_model.specs.Marking.{ShowsMarks, marks_in, begins, marking_began, failed_in_writing}
 use Rattle.run_model.specs.Run.{is_fair}
 use Rattle.run_model.specs.Survival.{WritesAPage, AllWritePages, LifeShowsMarks}
 use Rattle.page_laws.specs.Keeping.{IsIn}
-use Rattle.relocation_laws.specs.Tables.{Shows}
 use Rattle.crash_laws.specs.Marked.{WritesFill}
 use Rattle.crash_laws.specs.Life.{TableFails}
 use Rattle.crash_laws.proofs.BareLives.{shows_more}
@@ -26,7 +26,6 @@ use Rattle.crash_laws.proofs.Chain.{Kind, AttachEnd, attach_end}
 use Rattle.crash_laws.proofs.Failures.{or_right, trace_failed}
 use Rattle.crash_laws.proofs.Fairness.{attach_granted}
 use Rattle.crash_laws.proofs.Histories.{op_notes, own_notes}
-use Rattle.crash_laws.proofs.MarkNotes.{Own}
 use Rattle.crash_laws.proofs.NewChips.{shows_marks}
 
 -- ---- the writes of a life fill their pages, by its notes
@@ -105,4 +104,3 @@ module _ {W : Type 0} (model : FaultModel W) (partitions : Partitions) (k : ℕ)
     where
       own : List Note
       own = notes_of_chip partitions k n
-

@@ -1,4 +1,5 @@
--- Which markings the notes say were begun and acknowledged, and which the operations of a chip's life.
+-- Which markings the notes say were begun and acknowledged, and which the operations of a chip's
+-- life.
 use Rattle.std.proofs.Common.{◌≡◌, ℕ, ◌+◌, Bool, true, false, ◌&&◌, ◌==◌, nat_lt, List, [], ◌∷◌, ◌++◌, refl, ap, ap₂, sym, ◌∙◌, Option, Some, None, subst, arith}
 use Rattle.std.specs.Prelude.{if◌then◌else◌, ⊤}
 use Rattle.std.proofs.lemmas.Bool.{false≢true, eq-eqb, eqb-true, and_parts}

@@ -5,7 +5,7 @@ use Rattle.std.specs.List.{list_any}
 use Rattle.std.proofs.lemmas.Bool.{false≢true}
 use Rattle.std.proofs.lemmas.Bool.Decides.{nat_tests}
 use Rattle.nand_model.specs.Sizes.{first_page}
-use Rattle.nand_model.specs.Chip.{SimFaults, sim_faults, new_chip, new_page}
+use Rattle.nand_model.specs.Chip.{sim_faults, new_chip, new_page}
 use Rattle.nand_model.specs.Table.{has_tables}
 use Rattle.nand_model.specs.Partitions.{Partitions}
 use Rattle.nand_model.proofs.Bounds.{bounds}

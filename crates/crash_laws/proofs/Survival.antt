@@ -1,5 +1,5 @@
 -- The marks outlive cuts, from a new chip on: of a chip's life, and of the courses of a run.
-use Rattle.std.proofs.Common.{◌≡◌, refl, ℕ, List, [], map}
+use Rattle.std.proofs.Common.{refl, ℕ, List, [], map}
 use Rattle.std.specs.Prelude.{take}
 use Rattle.std.proofs.lemmas.Bool.{false≢true}
 use Rattle.nand_model.specs.Chip.{sim_faults, new_chip}

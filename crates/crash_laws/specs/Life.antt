@@ -1,17 +1,16 @@
 -- The life of one chip, with or without tables: its attaches and operations, boot after boot.
 use Rattle.std.specs.Prelude.{◌≡◌, ◌⊎◌, ℕ, true, List, [], ◌∷◌, is_none, Option, Some, None, ⊤}
 use Rattle.nand_model.specs.Chip.{ChipState, FaultModel, ChipEvent, after_trace}
-use Rattle.nand_model.specs.Path.{GoesAlong, answers_of, after_answers, next_event, result_of}
-use Rattle.chip_paths.specs.Attach.{Attaching, attach_path}
+use Rattle.nand_model.specs.Path.{answers_of, after_answers, result_of}
+use Rattle.chip_paths.specs.Attach.{Attaching}
 use Rattle.nand_model.specs.Table.{has_tables}
 use Rattle.chip_paths.specs.ChipRun.{known_at_first}
 use Rattle.nand_model.specs.Partitions.{Partitions}
 use Rattle.chip_paths.specs.Operation.{Known, operation_path}
 use Rattle.nand_model.specs.declared.geometry.Geometry.{Geometry}
-use Rattle.run_model.specs.History.{OperationTrace, ChipBoot, IsOperationTrace, events_in, known_then, attach_outcome, trace_of}
+use Rattle.run_model.specs.History.{OperationTrace, IsOperationTrace, events_in, known_then}
 use Rattle.page_laws.specs.Keeping.{IsFairEvent, IsQuietEvent, EachStep}
 use Rattle.relocation_laws.specs.Life.{TableBlockFails, NowAcked, NowBegun}
-use Rattle.relocation_laws.specs.Tables.{Shows}
 use Rattle.run_model.specs.Survival.{WritesAPage}
 
 -- the block's marking was acknowledged by these operations
@@ -27,17 +26,21 @@ module _ {W : Type 0} (model : FaultModel W) where
   -- no torn event of these operations was foul
   abbrev pub AreFair : ChipState W → List OperationTrace → Type 0
   AreFair s [] = ⊤
-  AreFair s (o ∷ later) = EachStep model (IsFairEvent model) s (events_in o.trace) × AreFair (after_trace model s (events_in o.trace)) later
+  AreFair s (o ∷ later) =
+      EachStep model (IsFairEvent model) s (events_in o.trace) × AreFair (after_trace model s (events_in o.trace)) later
 
   -- no torn event of an attach was foul, and each of its events found the chip quiet
   abbrev pub IsFairAndQuietAttach : ChipState W → List ChipEvent → Type 0
   IsFairAndQuietAttach s trace = EachStep model (λ s e. IsFairEvent model s e × IsQuietEvent s e) s trace
 
   module _ (partitions : Partitions) where
-    -- the block's marking has begun by these operations, or the block failed in one of their writings
+    -- the block's marking has begun by these operations, or the block failed in one of their
+    -- writings
     abbrev pub BegunIn : Geometry → ChipState W → List OperationTrace → ℕ → Type 0
     BegunIn g s [] b = ⊥
-    BegunIn g s (o ∷ later) b = (NowBegun partitions o.op o.reply b ⊎ TableFails g s (events_in o.trace) b) ⊎ BegunIn g (after_trace model s (events_in o.trace)) later b
+    BegunIn g s (o ∷ later) b =
+        (NowBegun partitions o.op o.reply b ⊎ TableFails g s (events_in o.trace) b)
+        ⊎ BegunIn g (after_trace model s (events_in o.trace)) later b
 
     -- one operation after another, of which only the last may lack its reply
     abbrev pub AreOperations : ChipState W → Known → List OperationTrace → Type 0
@@ -47,7 +50,8 @@ module _ {W : Type 0} (model : FaultModel W) where
         × IsOperationTrace model partitions s known o.op (events_in o.trace) o.reply
         × (is_none o.reply ≡ true → later ≡ [])
         × AreOperations (after_trace model s (events_in o.trace))
-        (known_then known (result_of (after_answers (answers_of model s (events_in o.trace)) (operation_path s.geometry partitions known o.op)))) later
+        (known_then known (result_of (after_answers (answers_of model s (events_in o.trace))
+        (operation_path s.geometry partitions known o.op)))) later
 
     -- operations come only after an attach that came to its end
     abbrev pub FollowAttach : Option Attaching → ChipState W → List OperationTrace → Type 0

@@ -31,8 +31,8 @@ KeepsMarker g page is_good =
     (bits : List ℕ) → has_no_flip_in (after_flips page bits) g.page (g.page + 1) ≡ true
     → (marker_byte g (after_flips page bits).cells == 0xff) ≡ is_good
 
--- the first page of one of the last four blocks keeps its marker and, where that is good, this copy or none:
--- a block whose marker is bad is passed over, whatever it holds
+-- the first page of one of the last four blocks keeps its marker and, where that is good, this copy
+-- or none: a block whose marker is bad is passed over, whatever it holds
 pub record TablePage (g : Geometry) (page : PageState) (is_good : Bool) (copy : Option Copy) : Type 0 where
   pub copies : is_good ≡ true → KeepsCopy g page copy
   pub marker : KeepsMarker g page is_good
@@ -42,16 +42,17 @@ pub record IsFresh (g : Geometry) (page : PageState) : Type 0 where
   pub bits : List ℕ
   pub blank : page ≡ after_flips (blank_page g) bits
 
--- an image holds this copy and a good marker, and a page that was erased well, flipped at will and then
--- programmed with it keeps them
+-- an image holds this copy and a good marker, and a page that was erased well, flipped at will and
+-- then programmed with it keeps them
 pub record IsImage (g : Geometry) (image : List ℕ) (copy : Option Copy) : Type 0 where
   pub here : copy_in g image ≡ copy
   pub marker : slice_index image g.page ≡ 0xff
   pub written : (bits : List ℕ) → TablePage g (good_program (after_flips (blank_page g) bits) image) true copy
 
--- The law of table pages: a blank page holds no copy, and the page of a table exactly that table's copy, with
--- reserved entries as good, through flips before and after its program, as long as each step's word has had
--- at most as many as the code corrects and none fell into a header in the spare.
+-- The law of table pages: a blank page holds no copy, and the page of a table exactly that table's
+-- copy, with reserved entries as good, through flips before and after its program, as long as each
+-- step's word has had at most as many as the code corrects and none fell into a header in the
+-- spare.
 pub record PageLaws (g : Geometry) : Type 0 where
   pub sized : 0 < g.pages_per_block
   pub blank : TablePage g (blank_page g) true None

@@ -7,7 +7,7 @@ use Rattle.std.proofs.lemmas.Option.{none-some, same_Some}
 use Rattle.nand_model.specs.Sizes.{first_page}
 use Rattle.nand_model.specs.Chip.{ChipState, PageEvent}
 use Rattle.nand_model.specs.Table.{Copy, calls_bad, table_blocks, read_again}
-use Rattle.chip_paths.specs.Copies.{candidates, copies_held, with_copy, is_disowned, found_among, is_valid, choice_of, version_found, used_copy}
+use Rattle.chip_paths.specs.Copies.{candidates, copies_held, with_copy, is_disowned, found_among, is_valid, choice_of, used_copy}
 use Rattle.nand_model.specs.Quiet.{is_quiet}
 use Rattle.chip_paths.specs.Writing.{other_of}
 use Rattle.nand_model.specs.declared.geometry.Geometry.{Geometry}
@@ -227,7 +227,8 @@ module _ (g : Geometry) (c : Setting g) (enough : 4 ≤ g.blocks) (Good : List �
       none : copy_in_use s ≡ None
       none = ap used_among (held-now holds fresh s h (λ b e. empty b) quiet) ∙ empty-unused g holds empty
 
-  -- the copy in use, and a copy that is found in a block other than the one that the next event changes
+  -- the copy in use, and a copy that is found in a block other than the one that the next event
+  -- changes
   pub record Found {W : Type 0} (next : Option PageEvent) (s : ChipState W) : Type 0 where
     pub block : ℕ
     pub copy : Copy

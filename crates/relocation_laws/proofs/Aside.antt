@@ -34,7 +34,7 @@ module _ (g : Geometry) (is_good : ℕ → Bool) (Good : List ℕ → Type 0) (h
     where
       by : j.place ≡ b → IsAside holds b → FoundBeside b
       by same (inl none) = absurd (none-some j.copy (sym none ∙ ap holds (sym same) ∙ j.at))
-      by same (inr (d, c, apart, at, uncalled)) = second b d c apart at (uncalled j.place j.copy j.at) same (found-second g is_good Good holds j)
+      by same (inr o) = second b o.block o.copy o.apart o.at (o.uncalled j.place j.copy j.at) same (found-second g is_good Good holds j)
 
       on : ((j.place == b) ≡ true) × (j.place ≡ b) ⊎ (((j.place == b) ≡ false) × (j.place ≢ b)) → FoundBeside b
       on (inl t) = by t.1 aside

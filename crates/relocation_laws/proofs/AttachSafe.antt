@@ -34,7 +34,8 @@ module _ {W : Type 0} (model : FaultModel W) (g : Geometry) (c : Setting g) (eno
   abbrev Fresh : Type 0
   Fresh = (b : ℕ) → A b → ⊥
 
-  -- each torn event of an attach is fair, each event finds the chip quiet, and the blocks that fail are known to
+  -- each torn event of an attach is fair, each event finds the chip quiet, and the blocks that fail
+  -- are known to
   abbrev pub AttachGrant : ChipState W → ChipEvent → Type 0
   AttachGrant s e = IsFairEvent model s e × IsQuietEvent s e × BlockFails model Fails g s e
 

@@ -1,4 +1,5 @@
--- The writing of an attach, from what it found, goes along and ends with a table that shows what it should.
+-- The writing of an attach, from what it found, goes along and ends with a table that shows what it
+-- should.
 use Rattle.std.proofs.Common.{◌≡◌, ◌≢◌, ◌⊎◌, ℕ, zero, suc, ◌<◌, ◌≤◌, Bool, true, false, ◌&&◌, not, ◌==◌, List, [], ◌∷◌, filter, find, refl, ap, sym, ◌∙◌, arith, inl, inr, subst, Option, Some, None, true≢false, unwrap_or}
 use Rattle.std.specs.Prelude.{⊤}
 use Rattle.std.proofs.lemmas.Bool.{and_parts, and_from, false≢true}

@@ -1,11 +1,9 @@
 -- What becomes of each operation of a chip with tables, by its trace and its reply.
 use Rattle.std.proofs.Common.{◌≡◌, ◌≢◌, ◌⊎◌, ◌<◌, ◌≤◌, ℕ, true, false, ◌==◌, nat_le, List, [], ◌∷◌, refl, ap, sym, ◌∙◌, Option, Some, None, inl, inr, subst}
-use Rattle.std.specs.Prelude.{is_none, ⊤}
+use Rattle.std.specs.Prelude.{⊤}
 use Rattle.std.proofs.lemmas.Bool.{false≢true}
 use Rattle.std.proofs.lemmas.Option.{none-some, same_Some}
-use Rattle.nand_model.specs.Chip.{ChipState, FaultModel, ChipEvent, Flipped, happens, after_trace}
-use Rattle.chip_paths.specs.Attach.{Attaching}
-use Rattle.chip_paths.specs.ChipRun.{known_at_first}
+use Rattle.nand_model.specs.Chip.{ChipState, FaultModel, ChipEvent, happens, after_trace}
 use Rattle.nand_model.specs.Partitions.{Partitions, part_of, device_of}
 use Rattle.chip_paths.specs.Operation.{Known, Finished, operation_path, entry_of, mark_block}
 use Rattle.nand_model.specs.Path.{Path, answers_of, GoesAlong, is_uncut, after_answers, next_event, first_event, result_of}
@@ -19,7 +17,7 @@ use Rattle.page_laws.specs.Keeping.{IsFairEvent, EachStep}
 use Rattle.run_model.specs.Marking.{begins}
 use Rattle.run_model.specs.History.{known_then}
 use Rattle.relocation_laws.specs.Life.{block_marked, NowAcked, NowBegun, TableBlockFails}
-use Rattle.relocation_laws.proofs.Lives.{dec-done, Lives, holding-as, lives-fewer, remembers-fewer, both-as, Remembers, AttachEnd, attach-end, OpEnds, unanswered, answered}
+use Rattle.relocation_laws.proofs.Lives.{dec-done, Lives, holding-as, lives-fewer, remembers-fewer, both-as, Remembers, OpEnds, unanswered, answered}
 use Rattle.relocation_laws.proofs.Operations.{plain_alive, route-alive}
 use Rattle.nand_model.specs.declared.words.Op.{Op}
 use Rattle.relocation_laws.proofs.Goes.{Setting, Holding, resting}

@@ -1,4 +1,5 @@
--- Events on blocks that hold data, while an attached chip is used: tables and good markers stay as they are.
+-- Events on blocks that hold data, while an attached chip is used: tables and good markers stay as
+-- they are.
 use Rattle.std.proofs.Common.{◌≡◌, ◌≢◌, ◌⊎◌, ◌<◌, ℕ, ◌/◌, Bool, true, false, ◌==◌, List, refl, ap, sym, ◌∙◌, arith, Option, Some, None, inl, inr, subst, slice_index}
 use Rattle.std.specs.Prelude.{⊤}
 use Rattle.std.proofs.lemmas.Bool.Decides.{nat_tests}

@@ -40,7 +40,8 @@ rests-inside g c Good_ Fresh holds (inr j) b out = on (holds b) refl
     on None e = e
     on (Some k) e = absurd (out (j.beneath b k e).inside.0)
 
--- while the next event changes its block, another one holds a copy and is called bad by none, or there is nothing in this block
+-- while the next event changes its block, another one holds a copy and is called bad by none, or
+-- there is nothing in this block
 abbrev pub StandsAside : Geometry → Option PageEvent → Shelf → Type 0
 StandsAside g next holds = (b : ℕ) → block_changed g next ≡ Some b → IsAside holds b
 
@@ -54,7 +55,8 @@ module _ {W : Type 0} (g : Geometry) (c : Setting g) (Good_ : List ℕ → Type 
     pub stands : Stands g c.is_good holds s.pages
     pub is_fresh : IsFreshAt g fresh s.pages
 
-  -- the chip's pages hold a shelf at which it may rest, and another block holds a copy that is found while the next event changes its block
+  -- the chip's pages hold a shelf at which it may rest, and another block holds a copy that is
+  -- found while the next event changes its block
   pub record Alive (next : Option PageEvent) (s : ChipState W) : Type 0 where
     pub holds : Shelf
     pub holding : Holding holds None s
@@ -64,7 +66,6 @@ module _ {W : Type 0} (g : Geometry) (c : Setting g) (Good_ : List ℕ → Type 
   -- with no event to come
   pub resting : (next : Option PageEvent) (s : ChipState W) → Alive next s → Alive None s
   resting next s h = record { holds = h.holds; holding = h.holding; rests = h.rests; aside = none-aside g h.holds }
-
 
   pub record Comes {A : Type 0} (Ends : A → Shelf → Type 0) (a : A) (s : ChipState W) : Type 0 where
     pub holds : Shelf

@@ -103,7 +103,7 @@ module _ {A : Type 0} (g : Geometry) (TB Fails : ℕ → Type 0) (Form Good_ : L
 
         is-aside : (h (place_of w.places which) ≡ None) ⊎ ((c : Held) × (h (place_of w.places (other_of which)) ≡ Some c)) → IsAside h (place_of w.places which)
         is-aside (inl none) = inl none
-        is-aside (inr (c, at)) = inr (place_of w.places (other_of which), c, (λ e. p.places.apart which (sym e)), at, uncalled)
+        is-aside (inr (c, at)) = inr (record { block = place_of w.places (other_of which); copy = c; apart = λ e. p.places.apart which (sym e); at = at; uncalled = uncalled })
 
         next : Writing
         next = after_good w which more false

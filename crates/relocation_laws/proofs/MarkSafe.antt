@@ -1,4 +1,5 @@
--- A marking on a chip is safe: the erase and the marker of the data block leave the tables alone, and then the copies are written.
+-- A marking on a chip is safe: the erase and the marker of the data block leave the tables alone,
+-- and then the copies are written.
 use Rattle.std.proofs.Common.{◌≡◌, ◌≢◌, ◌⊎◌, ◌≤◌, ℕ, ◌/◌, Bool, true, false, ◌==◌, List, refl, sym, ◌∙◌, Option, Some, None, inl, inr, subst, slice_index, if◌then◌else◌}
 use Rattle.std.proofs.lemmas.Bool.Decides.{eqb_tells}
 use Rattle.std.proofs.lemmas.Option.{same_Some}

@@ -143,7 +143,8 @@ module _ (g : Geometry) (enough : 4 ≤ g.blocks) (is_good : ℕ → Bool) (F : 
         on c small h (inl t) = inr (subst B (sym t.1) begun)
         on c small h (inr t) = s.no_other c small (sym (stays-marked table block c t.1) ∙ h)
 
-    -- what a marking comes to: the chip rests, two whole copies hold the table, and where it is done they do, and the table calls the block bad
+    -- what a marking comes to: the chip rests, two whole copies hold the table, and where it is
+    -- done they do, and the table calls the block bad
     pub record IsMarked (f : Finished) (h : Shelf) : Type 0 where
       pub rests : Rests TB (IsTable g) Good_ Fresh h
       pub both : 2 ≤ f.known.copies → HoldsBoth TB (IsTable g) Good_ Fresh f.known.table f.known.version f.known.places h

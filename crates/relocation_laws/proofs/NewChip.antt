@@ -10,10 +10,8 @@ use Rattle.std.proofs.lemmas.Bool.Decides.{nat_tests}
 use Rattle.nand_model.specs.Sizes.{first_page, raw_len}
 use Rattle.nand_model.specs.Chip.{PageState, sim_faults, new_chip, new_page, blank_page}
 use Rattle.nand_model.specs.Table.{has_tables, table_blocks}
-use Rattle.nand_model.proofs.Bounds.{bounds}
 use Rattle.nand_model.specs.declared.geometry.Geometry.{Geometry}
 use Rattle.nand_model.specs.declared.words.Weak.{Weak}
-use Rattle.page_laws.proofs.PagesHold.{page_laws}
 use Rattle.page_laws.specs.Keeping.{after_flips, KeepsCopy, PageLaws, TablePage, KeepsMarker, IsIn}
 use Rattle.relocation_laws.specs.Tables.{IsTableBlock}
 use Rattle.relocation_laws.specs.Tables.{is_good_of}

@@ -1,4 +1,5 @@
--- Each operation of an attached chip with tables is a mark of one block, or leaves tables and markers alone.
+-- Each operation of an attached chip with tables is a mark of one block, or leaves tables and
+-- markers alone.
 use Rattle.std.proofs.Common.{◌≡◌, ◌≢◌, ◌⊎◌, ◌<◌, ◌≤◌, ℕ, zero, suc, ◌+◌, ◌*◌, ◌/◌, Bool, true, false, ◌==◌, List, [], ◌∷◌, ◌++◌, length, refl, ap, sym, ◌∙◌, arith, Option, Some, None, inl, inr, subst, slice_index, if◌then◌else◌}
 use Rattle.std.specs.Prelude.{⊤}
 use Rattle.std.proofs.Math.Nat.{mul-add-div_right}
@@ -61,7 +62,8 @@ module _ {W : Type 0} (model : FaultModel W) (g : Geometry) (c : Setting g) (eno
   abbrev pub plain_law : (Path Finished → ChipState W → Type 0) → (ChipState W → Type 0) → Safety W Finished
   plain_law moment ended = record { model = model; granted = λ t e. ⊤; moment = moment; ended = ended; result = λ f t. Memory f.known t }
 
-  -- what holds before an event outside the table blocks and after a cut one, while the pages hold the shelf that is remembered
+  -- what holds before an event outside the table blocks and after a cut one, while the pages hold
+  -- the shelf that is remembered
   module _ (moment : Path Finished → ChipState W → Type 0) (ended : ChipState W → Type 0)
       (before : (path : Path Finished) → ((b : ℕ) → block_changed g (first_event path) ≡ Some b → IsIn (table_blocks g) b → ⊥) → (t : ChipState W) → Here t → moment path t) (after_cut : (t : ChipState W) → Here t → ended t) where
     abbrev pub Plain : Path Finished → Type 0

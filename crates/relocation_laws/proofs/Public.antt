@@ -7,7 +7,7 @@ use Rattle.chip_paths.specs.Writing.{Writing}
 use Rattle.page_laws.specs.Keeping.{IsIn}
 use Rattle.relocation_laws.specs.Agreement.{copies_on}
 use Rattle.relocation_laws.specs.Laws.{IsNew, RestsWith, ShowsThese, WritingEnds, WritingGoesOn, WritingKeeps}
-use Rattle.relocation_laws.specs.Shelves.{Shelf, Rests, TableLaws}
+use Rattle.relocation_laws.specs.Shelves.{Shelf, TableLaws}
 use Rattle.relocation_laws.specs.Tables.{IsTable, IsTableBlock, is_good_of}
 use Rattle.relocation_laws.proofs.Agreeing.{AgreeOn, empty-agrees, newest-agrees}
 use Rattle.relocation_laws.proofs.Going.{goes-along}

@@ -13,7 +13,7 @@ use Rattle.relocation_laws.specs.Shelves.{Shelf, IsEmpty}
 use Rattle.page_laws.specs.Keeping.{IsIn, IsQuietEvent}
 use Rattle.relocation_laws.proofs.Finding.{SeenPage, SeenPages}
 use Rattle.relocation_laws.proofs.Safety.{Safety, turned, Safe}
-use Rattle.relocation_laws.proofs.Goes.{Setting, AtRest, Holding, Alive, holding-turned}
+use Rattle.relocation_laws.proofs.Goes.{Setting, Holding, holding-turned}
 use Rattle.page_laws.proofs.Quiet.{in_numbers, dec_in, quiet_marker, quiet_table}
 
 -- the markers of these blocks, in their first pages

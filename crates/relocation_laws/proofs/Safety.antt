@@ -1,11 +1,13 @@
--- Paths that are safe: whatever flips come between their events and whichever event fails or is cut, each moment is as it should be.
+-- Paths that are safe: whatever flips come between their events and whichever event fails or is
+-- cut, each moment is as it should be.
 use Rattle.std.proofs.Common.{◌≡◌, ℕ, true, false, List, [], ◌∷◌, ◌++◌, refl, sym, Some, append_assoc, append-nil, subst}
 use Rattle.std.proofs.lemmas.Option.{none-some, same_Some}
 use Rattle.nand_model.specs.Chip.{ChipState, FaultModel, ChipEvent, Complete, PowerCut, Flipped, PageEvent, happens, after_trace, DoneBits}
 use Rattle.nand_model.specs.Path.{Answer, Path, Over, Then, answer_to, answers_of, GoesAlong, is_uncut, after_answers, first_event, next_event, result_of}
 use Rattle.page_laws.specs.Keeping.{EachStep}
 
--- how the events of a trace are granted, what holds at each moment by what is left of the path, what holds once it was cut, and what it comes to
+-- how the events of a trace are granted, what holds at each moment by what is left of the path,
+-- what holds once it was cut, and what it comes to
 pub record Safety (W A : Type 0) : Type 1 where
   pub model : FaultModel W
   pub granted : ChipState W → ChipEvent → Type 0

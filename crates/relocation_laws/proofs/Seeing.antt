@@ -118,7 +118,8 @@ module _ (g : Geometry) (is_good : ℕ → Bool) (Good : List ℕ → Type 0) (h
       Other : ℕ → Held → Type 0
       Other b c = (calls_bad newest.table b ≡ true) ⊎ ((b ≡ j.second) × (c.which ≡ other_of kind) × IsOlder 3 c newest × Good c.table)
 
-      -- every copy beside the newest one stands in a block called bad, where that of the second block is none or does too
+      -- every copy beside the newest one stands in a block called bad, where that of the second
+      -- block is none or does too
       all-bad : ((c : Held) → holds j.second ≡ Some c → j.second ≢ n → calls_bad newest.table j.second ≡ true) → (b : ℕ) (c : Held) → holds b ≡ Some c → b ≢ n → calls_bad newest.table b ≡ true
       all-bad second b c e apart = by (j.others b c e apart)
         where

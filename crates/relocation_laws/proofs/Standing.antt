@@ -50,7 +50,8 @@ any-in f (x ∷ xs) b (inr i) = on (f x == f b) (any-in f xs b i)
     on true h = refl
     on false h = h
 
--- the first pages of the last four blocks keep the copies of a shelf, and the markers of the blocks that hold data are untouched while it is empty
+-- the first pages of the last four blocks keep the copies of a shelf, and the markers of the blocks
+-- that hold data are untouched while it is empty
 pub record Stands (g : Geometry) (is_good : ℕ → Bool) (holds : Shelf) (pages : ℕ → PageState) : Type 0 where
   pub tables : (b : ℕ) → IsIn (table_blocks g) b → TablePage g (pages (first_page g b)) (is_good b) (copy_of (holds b))
   pub markers : IsEmpty holds → DataMarkers g is_good (IsIn (table_blocks g)) pages

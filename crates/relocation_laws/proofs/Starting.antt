@@ -1,4 +1,5 @@
--- How a writing starts: at an attach from what was found, and at a mark from two copies that hold the table.
+-- How a writing starts: at an attach from what was found, and at a mark from two copies that hold
+-- the table.
 use Rattle.std.proofs.Common.{◌≡◌, ◌≢◌, ◌⊎◌, ℕ, ◌+◌, ◌%◌, true, false, ◌==◌, List, [], ◌∷◌, refl, ap, sym, ◌∙◌, arith, inl, inr, subst, Some, None}
 use Rattle.std.proofs.lemmas.Bool.{false≢true}
 use Rattle.std.proofs.lemmas.Bool.Decides.{eqb_tells}
@@ -118,7 +119,8 @@ module _ (TB : ℕ → Type 0) (Form Good : List ℕ → Type 0) (Fresh : Type 0
           )
       on x c e n (inr t) = inl (b.others x c e n t.1)
 
-  -- the writing of a mark: both places hold the table from before, and the new one calls more blocks bad, but neither place
+  -- the writing of a mark: both places hold the table from before, and the new one calls more
+  -- blocks bad, but neither place
   pub start-mark : (old new : List ℕ) (version : ℕ) (places : Places) (h : Shelf) → HoldsBoth TB Form Good Fresh old version places h
       → IsCovered old new → Form new → Good new → ((k : Which) → calls_bad new (place_of places k) ≡ false)
       → Pending TB Form Good Fresh (writing_of new (next_version version) places (record { primary = true; mirror = true }) (Primary ∷ Mirror ∷ [])) Primary (Mirror ∷ []) h

@@ -1,16 +1,17 @@
 -- Once something is held, it stays so along a path.
-use Rattle.std.proofs.Common.{◌≡◌, ℕ, List, sym, Option, Some, None, ◌∙◌}
+use Rattle.std.proofs.Common.{ℕ, List, sym, Option, Some, None, ◌∙◌}
 use Rattle.std.proofs.lemmas.Option.{none-some}
 use Rattle.nand_model.specs.Chip.{ReadEvent, ProgramEvent, EraseEvent}
 use Rattle.nand_model.specs.Path.{Path, Over, Then, Good, Failed}
 use Rattle.nand_model.specs.declared.geometry.Geometry.{Geometry}
 use Rattle.relocation_laws.specs.Goes.{Goes}
-use Rattle.relocation_laws.specs.Shelves.{Held, Shelf, with_held, IsEmpty}
+use Rattle.relocation_laws.specs.Shelves.{Shelf, with_held, IsEmpty}
 use Rattle.relocation_laws.proofs.Induction.{held-own}
 
 module _ {A : Type 0} (g : Geometry) (TB Fails : ℕ → Type 0) (Form : List ℕ → Type 0) (Rests Rests1 : Shelf → Type 0) (Ends Ends1 : A → Shelf → Type 0)
     (rests : (h : Shelf) → (IsEmpty h → ⊥) → Rests h → Rests1 h) (ends : (a : A) (h : Shelf) → (IsEmpty h → ⊥) → Ends a h → Ends1 a h) where
-  -- a path that goes along from a shelf that holds something goes along by what is asked of such shelves
+  -- a path that goes along from a shelf that holds something goes along by what is asked of such
+  -- shelves
   pub goes-on : (path : Path A) (fresh : Option ℕ) (holds : Shelf) → (IsEmpty holds → ⊥) → Goes g TB Fails Form Rests Ends fresh holds path → Goes g TB Fails Form Rests1 Ends1 fresh holds path
   goes-on (Over a) fresh holds some h = ends a holds some h
   goes-on (Then (ReadEvent page) rest) fresh holds some h = h

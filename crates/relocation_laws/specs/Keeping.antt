@@ -1,16 +1,19 @@
--- What stays of pages beside tables, and what fails.
+-- What stays of the pages of a chip beside its table pages, and which of the last four blocks fail.
 use Rattle.std.specs.Prelude.{◌≡◌, ℕ, ◌<◌, Bool, true, Option, Some, None, ⊤}
 use Rattle.nand_model.specs.Sizes.{first_page}
 use Rattle.nand_model.specs.Chip.{PageState, ChipState, FaultModel, ChipEvent, Complete, PageEvent, ReadEvent, EraseEvent, ProgramEvent, DoneBits, blank_page, good_program, torn_program, torn_erase, with_page, with_block}
 use Rattle.nand_model.specs.Table.{table_blocks}
 use Rattle.nand_model.specs.Path.{answer_to, is_failure}
 use Rattle.nand_model.specs.declared.geometry.Geometry.{Geometry}
-pub use Rattle.page_laws.specs.Keeping.{IsIn, after_flips, KeepsCopy, KeepsMarker, TablePage, IsFresh, IsImage, PageLaws, IsFairEvent, IsQuietEvent, EachStep}
+use Rattle.page_laws.specs.Keeping.{IsIn, KeepsMarker}
 
 -- an event by which one of the last four blocks fails, in a writing: then its marking has begun
 abbrev pub BlockFails : {W : Type 0} → FaultModel W → (ℕ → Type 0) → Geometry → ChipState W → ChipEvent → Type 0
-BlockFails model Fails g s (Complete (EraseEvent b)) = is_failure (answer_to model s (EraseEvent b)) ≡ true → IsIn (table_blocks g) b → Fails b
-BlockFails model Fails g s (Complete (ProgramEvent page image)) = is_failure (answer_to model s (ProgramEvent page image)) ≡ true → (b : ℕ) → page ≡ first_page g b → IsIn (table_blocks g) b → Fails b
+BlockFails model Fails g s (Complete (EraseEvent b)) =
+    is_failure (answer_to model s (EraseEvent b)) ≡ true → IsIn (table_blocks g) b → Fails b
+BlockFails model Fails g s (Complete (ProgramEvent page image)) =
+    is_failure (answer_to model s (ProgramEvent page image)) ≡ true
+    → (b : ℕ) → page ≡ first_page g b → IsIn (table_blocks g) b → Fails b
 BlockFails model Fails g s _ = ⊤
 
 -- the markers of the blocks that hold data are those of a chip on which nothing was marked

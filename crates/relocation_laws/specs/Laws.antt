@@ -1,4 +1,5 @@
--- The invariant of the last four blocks of a chip, by the numbers of its bad blocks, and what writings keep of it.
+-- The invariant of the last four blocks of a chip, by the numbers of its bad blocks, and what
+-- writings keep of it.
 use Rattle.std.specs.Prelude.{ℕ, List, None}
 use Rattle.nand_model.specs.Path.{Over}
 use Rattle.nand_model.specs.declared.geometry.Geometry.{Geometry}
@@ -8,7 +9,8 @@ use Rattle.relocation_laws.specs.Shelves.{Shelf, Rests, Keeps, Ended}
 use Rattle.relocation_laws.specs.Goes.{Goes}
 use Rattle.relocation_laws.specs.Tables.{IsTable, IsTableBlock, Shows, is_good_of}
 
--- the tables show these factory-bad and acknowledged blocks, and none beyond factory-bad and begun ones
+-- the tables show these factory-bad and acknowledged blocks, and none beyond factory-bad and begun
+-- ones
 abbrev pub ShowsThese : Geometry → (bad acked begun : List ℕ) → List ℕ → Type 0
 ShowsThese g bad acked begun = Shows g (IsIn bad) (IsIn acked) (IsIn begun)
 
@@ -16,8 +18,8 @@ ShowsThese g bad acked begun = Shows g (IsIn bad) (IsIn acked) (IsIn begun)
 abbrev pub IsNew : List ℕ → Type 0
 IsNew acked = (b : ℕ) → IsIn acked b → ⊥
 
--- The invariant between any two events: nothing is held and nothing was acknowledged, or there is a newest
--- copy.
+-- The invariant between any two events: nothing is held and nothing was acknowledged, or there is a
+-- newest copy.
 abbrev pub RestsWith : Geometry → (bad acked begun : List ℕ) → Shelf → Type 0
 RestsWith g bad acked begun =
     Rests (IsTableBlock g (is_good_of bad)) (IsTable g) (ShowsThese g bad acked begun) (IsNew acked)
@@ -27,14 +29,14 @@ abbrev pub WritingKeeps : Geometry → (bad acked begun : List ℕ) → Writing 
 WritingKeeps g bad acked begun w =
     Keeps (IsTableBlock g (is_good_of bad)) (IsTable g) (ShowsThese g bad acked begun) (IsNew acked) w w.left
 
--- Once a writing is over: both places hold the table under one version; or it failed for one of the copies, and
--- the invariant between events holds.
+-- Once a writing is over: both places hold the table under one version; or it failed for one of the
+-- copies, and the invariant between events holds.
 abbrev pub WritingEnds : Geometry → (bad acked begun : List ℕ) → Writing → Shelf → Type 0
 WritingEnds g bad acked begun w =
     Ended (IsTableBlock g (is_good_of bad)) (IsTable g) (ShowsThese g bad acked begun) (IsNew acked) w w.failed
 
--- The writing goes to its end and keeps the invariant, whichever of its events fails or is cut: a block that
--- fails has begun to be bad.
+-- The writing goes to its end and keeps the invariant, whichever of its events fails or is cut: a
+-- block that fails has begun to be bad.
 abbrev pub WritingGoesOn : Geometry → (bad acked begun : List ℕ) → Writing → Shelf → Type 0
 WritingGoesOn g bad acked begun w holds =
     Goes g (IsTableBlock g (is_good_of bad)) (IsIn begun) (IsTable g) (RestsWith g bad acked begun)

@@ -1,5 +1,5 @@
--- The marks of a chip with tables: which block an operation marks, and what begins and is acknowledged by it;
--- which of the last four blocks fail in a writing.
+-- The marks of a chip with tables: which block an operation marks, and what begins and is
+-- acknowledged by it; which of the last four blocks fail in a writing.
 use Rattle.std.specs.Prelude.{◌≡◌, ◌⊎◌, ℕ, ◌+◌, Bool, true, nat_lt, if◌then◌else◌, List, [], ◌∷◌, Option, Some, None}
 use Rattle.nand_model.specs.Sizes.{first_page}
 use Rattle.nand_model.specs.Chip.{ChipState, FaultModel, ChipEvent, Complete, EraseEvent, ProgramEvent, happens}
@@ -19,6 +19,7 @@ use Rattle.page_laws.specs.Keeping.{IsIn}
 abbrev pub is_begun : Reply → Bool
 is_begun reply = begins (Some reply)
 
+-- the chip's block with this number of the partition
 abbrev pub block_in : Option Part → ℕ → Option ℕ
 block_in None block = None
 block_in (Some part) block = if nat_lt block part.count then Some (part.start + block) else None
@@ -28,13 +29,15 @@ abbrev pub block_of : Option Part → Op → Option ℕ
 block_of part (Mark dev block) = block_in part block
 block_of part _ = None
 
+-- the block that an operation marks, if it is a mark of one
 abbrev pub block_marked : Partitions → Op → Option ℕ
 block_marked partitions op = block_of (part_of partitions (device_of op)) op
 
--- the block's marking was acknowledged by this reply, or has begun under this reply or the lack of one
+-- the block's marking is acknowledged by this reply
 abbrev pub NowAcked : Partitions → Op → Option Reply → ℕ → Type 0
 NowAcked partitions op reply b = (block_marked partitions op ≡ Some b) × (reply ≡ Some Done)
 
+-- the block's marking has begun with this reply or the lack of one
 abbrev pub NowBegun : Partitions → Op → Option Reply → ℕ → Type 0
 NowBegun partitions op reply b = (block_marked partitions op ≡ Some b) × (begins reply ≡ true)
 
@@ -43,9 +46,11 @@ module _ {W : Type 0} (model : FaultModel W) (g : Geometry) where
   abbrev pub FailsIn : ChipState W → List ChipEvent → ℕ → Type 0
   FailsIn s [] b = ⊥
   FailsIn s (Complete (EraseEvent x) ∷ trace) b =
-      ((is_failure (answer_to model s (EraseEvent x)) ≡ true) × (b ≡ x)) ⊎ FailsIn (happens model s (Complete (EraseEvent x))) trace b
+      ((is_failure (answer_to model s (EraseEvent x)) ≡ true) × (b ≡ x))
+      ⊎ FailsIn (happens model s (Complete (EraseEvent x))) trace b
   FailsIn s (Complete (ProgramEvent page image) ∷ trace) b =
-      ((is_failure (answer_to model s (ProgramEvent page image)) ≡ true) × (page ≡ first_page g b)) ⊎ FailsIn (happens model s (Complete (ProgramEvent page image))) trace b
+      ((is_failure (answer_to model s (ProgramEvent page image)) ≡ true) × (page ≡ first_page g b))
+      ⊎ FailsIn (happens model s (Complete (ProgramEvent page image))) trace b
   FailsIn s (e ∷ trace) b = FailsIn (happens model s e) trace b
 
   -- one of the last four blocks failed in a writing of this trace

@@ -10,15 +10,15 @@ use Rattle.page_laws.specs.Keeping.{IsIn}
 abbrev pub is_good_of : List ℕ → ℕ → Bool
 is_good_of bad b = not (list_any (λ c. c == b) bad)
 
--- a table in memory has all blocks, comes back from its page once the last four blocks are reserved, and has 2
--- or 3 for these
+-- a table in memory has all blocks, comes back from its page once the last four blocks are
+-- reserved, and has 2 or 3 for these
 pub record IsTable (g : Geometry) (table : List ℕ) : Type 0 where
   pub long : length table ≡ g.blocks
   pub back : with_reserved g (read_again table) ≡ table
   pub reserved : (b : ℕ) → IsIn (table_blocks g) b → (slice_index table b ≡ 2) ⊎ (slice_index table b ≡ 3)
 
--- a table calls bad each factory-bad block and each one whose marking was acknowledged, and none beyond
--- factory-bad ones and those whose marking has begun
+-- a table calls bad each factory-bad block and each one whose marking was acknowledged, and none
+-- beyond factory-bad ones and those whose marking has begun
 pub record Shows (g : Geometry) (Factory Acked Begun : ℕ → Type 0) (table : List ℕ) : Type 0 where
   pub factory : (b : ℕ) → b < g.blocks → Factory b → calls_bad table b ≡ true
   pub acked : (b : ℕ) → b < g.blocks → Acked b → calls_bad table b ≡ true
