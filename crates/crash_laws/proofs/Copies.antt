@@ -304,18 +304,18 @@ module _ (g : Geometry) (c : Setting g) (enough : 4 ≤ g.blocks) (F : ℕ → T
       geometry = geometry_at sim_faults g c enough F factory one two in_one in_two apart boot k (ends_of news past) past e.chip e.there e.standing fill_here (attaches + more) (turns ++ later) now i
 
 -- what is kept of a new chip with tables
-record Tables (g : Geometry) (bad : List ℕ) (weak : List Weak) : Type 0 where
-  c : Setting g
-  enough : 4 ≤ g.blocks
-  factory : AreFactoryBad g c.is_good (IsIn bad)
-  one : ℕ
-  two : ℕ
-  in_one : IsTableBlock g c.is_good one
-  in_two : IsTableBlock g c.is_good two
-  apart : one ≢ two
-  alive : Lives sim_faults g c enough (IsIn bad) factory one two in_one in_two apart (λ b. ⊥) (λ b. ⊥) (new_chip g bad weak)
+pub record Tables (g : Geometry) (bad : List ℕ) (weak : List Weak) : Type 0 where
+  pub c : Setting g
+  pub enough : 4 ≤ g.blocks
+  pub factory : AreFactoryBad g c.is_good (IsIn bad)
+  pub one : ℕ
+  pub two : ℕ
+  pub in_one : IsTableBlock g c.is_good one
+  pub in_two : IsTableBlock g c.is_good two
+  pub apart : one ≢ two
+  pub alive : Lives sim_faults g c enough (IsIn bad) factory one two in_one in_two apart (λ b. ⊥) (λ b. ⊥) (new_chip g bad weak)
 
-tables_of : (g : Geometry) (bad : List ℕ) (weak : List Weak) → has_tables g ≡ true → HasTableBlocks g bad → Tables g bad weak
+pub tables_of : (g : Geometry) (bad : List ℕ) (weak : List Weak) → has_tables g ≡ true → HasTableBlocks g bad → Tables g bad weak
 tables_of g bad weak tables few = record {
   c = record { is_good = is_good_of bad; laws = laws; tables = tables };
   enough = enough;

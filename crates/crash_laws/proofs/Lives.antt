@@ -29,6 +29,10 @@ use Rattle.crash_laws.proofs.Histories.{op_notes, own_notes}
 use Rattle.crash_laws.proofs.NewChips.{shows_marks}
 
 -- ---- the writes of a life fill their pages, by its notes
+-- the writes of a boot fill their pages
+abbrev pub Fills : Geometry → ChipBoot → Type 0
+Fills g b = All (λ (o : OperationTrace). WritesAPage g o.op) b.operations
+
 module _ {W : Type 0} (model : FaultModel W) (partitions : Partitions) (k : ℕ) (g : Geometry) where
   fill_torn : (t : Bool) (n : ℕ) (cut : Bool) (s : ChipState W) (e : PageEvent) (after : ChipState W) (rest : List Note) → WritesFill g rest → WritesFill g (torn_notes t k n cut s e after ++ rest)
   fill_torn true n cut s e after rest h = h
@@ -60,7 +64,7 @@ module _ {W : Type 0} (model : FaultModel W) (partitions : Partitions) (k : ℕ)
             (All-tail (λ (o : OperationTrace). WritesAPage g o.op) o later all))),
       )
 
-  fill_boot : (s : ChipState W) (b : ChipBoot) (notes : List Note) → IsChipHistory model partitions k s b.attach b.operations notes → All (λ (o : OperationTrace). WritesAPage g o.op) b.operations → WritesFill g notes
+  pub fill_boot : (s : ChipState W) (b : ChipBoot) (notes : List Note) → IsChipHistory model partitions k s b.attach b.operations notes → All (λ (o : OperationTrace). WritesAPage g o.op) b.operations → WritesFill g notes
   fill_boot s b notes h all = subst (WritesFill g) (sym h.notes_are) (fill_trace s b.attach h.later (on (attach_outcome model s (events_in b.attach)) h.goes_on))
     where
       on : (o : Option Attaching) → GoesOn model o partitions k s (events_in b.attach) b.operations h.later → WritesFill g h.later
@@ -85,10 +89,6 @@ module _ {W : Type 0} (model : FaultModel W) (partitions : Partitions) (k : ℕ)
           any_more (marking_began g partitions k d) past (notes_of_trace model k s b.attach)
           (inr (or_right (list_any begins (marks_in partitions k d (notes_of_trace model k s b.attach))) (failed_in_writing g k d (notes_of_trace model k s b.attach)) (trace_failed g k d model s b.attach f)))
 
-  -- the writes of a boot fill their pages
-  abbrev Fills : ChipBoot → Type 0
-  Fills b = All (λ (o : OperationTrace). WritesAPage g o.op) b.operations
-
   -- and so in each boot of a life
   pub life_shows : (past : List (List Note)) (s : ChipState W) (life : List ChipBoot) (notes : List (List Note)) → AllWritePages g life → IsChipLife model partitions k s life notes
       → kind.Lives (Acked partitions k past) (Begun g partitions k past) s → LifeShowsMarks model partitions k g bad s life (map (notes_of_chip partitions k) notes) past
@@ -97,9 +97,9 @@ module _ {W : Type 0} (model : FaultModel W) (partitions : Partitions) (k : ℕ)
   life_shows past s (b ∷ bs) [] fill h alive = absurd h
   life_shows past s (b ∷ bs) (n ∷ notes) fill h alive = λ quiet fair. (
     attach_shows past s b own h.0 alive quiet fair,
-    λ all_fair. life_shows (past ++ own ∷ []) (after_trace model s (trace_of b)) bs notes (All-tail Fills b bs fill) h.1
+    λ all_fair. life_shows (past ++ own ∷ []) (after_trace model s (trace_of b)) bs notes (All-tail (Fills g) b bs fill) h.1
         (boot_through model partitions k g (IsIn bad) kind past s b own own h.0
-        (own_notes partitions k g (λ session. None) n (fill_boot model partitions k g s b own h.0 (All-head Fills b bs fill))) (λ d. refl) (λ d e. e) alive all_fair quiet),
+        (own_notes partitions k g (λ session. None) n (fill_boot model partitions k g s b own h.0 (All-head (Fills g) b bs fill))) (λ d. refl) (λ d e. e) alive all_fair quiet),
   )
     where
       own : List Note

@@ -1,8 +1,9 @@
 -- What the last four blocks of a chip may hold between any two events.
 --
---   at rest           nothing is held and nothing was acknowledged; or one copy is the newest (Newest):
---                     every other one calls bad no more than it does and stands in a block that it
---                     calls bad, but for at most one of the other kind, 0 to 3 versions older
+--   at rest           nothing is held and nothing was acknowledged; or one copy is the newest
+--                     (Newest): every other one calls bad no more than it does, and stands in a
+--                     block that it calls bad, but for at most one of the other kind, 0 to 3
+--                     versions older
 --   within a writing  the place that is written holds its old copy or nothing (Pending); every copy
 --                     calls bad no more than the table that is written; outside the place, only the
 --                     other place may hold a copy in a block that this table does not call bad
