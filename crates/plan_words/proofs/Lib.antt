@@ -1,0 +1,4 @@
+pub mod Parts
+pub mod Growing
+pub mod Spans
+pub mod Counts
