@@ -1,0 +1,14 @@
+//! The canonical text of a plan.
+#![tactic(auto)]
+
+mod boots;
+mod commands;
+mod forms;
+mod hardware;
+mod payloads;
+mod plan;
+#[cfg(test)]
+mod tests;
+mod words;
+
+pub use plan::put_lines;
