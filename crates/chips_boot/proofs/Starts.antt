@@ -1,7 +1,7 @@
 -- A controller can be started on a plan.
-use Rattle.std.proofs.Common.{◌≡◌, ℕ, zero, suc, ◌+◌, ◌-◌, ◌*◌, ◌<◌, ◌≤◌, inl, inr, Bool, true, false, List, [], ◌∷◌, ◌++◌, length, Some, None, refl, ap, sym, subst, ◌∙◌, arith, length-append}
+use Rattle.std.proofs.Common.{◌≡◌, ℕ, zero, suc, ◌+◌, ◌-◌, ◌*◌, ◌/◌, ◌%◌, ◌<◌, ◌≤◌, inl, inr, Bool, true, false, List, [], ◌∷◌, ◌++◌, length, Some, None, refl, ap, sym, subst, ◌∙◌, arith, length-append}
 use Rattle.std.specs.Prelude.{All, codes, decimal, flat_map, if◌then◌else◌, map, option_map, unwrap_or, slice_get, slice_index_or, sum_by, ◌==◌}
-use Rattle.std.proofs.Math.Nat.{sub-zero}
+use Rattle.std.proofs.Math.Nat.{sub-zero, zero-div}
 use Rattle.std.proofs.lemmas.Bool.{le-ltb}
 use Rattle.std.proofs.lemmas.List.Elements.{All-cons, All-head, All-nil, All-tail, All-weaker}
 use Rattle.std.proofs.lemmas.List.Sums.{sum_by-cons}
@@ -16,15 +16,14 @@ use Rattle.nand_model.specs.declared.words.Command.{Command}
 use Rattle.nand_model.specs.declared.words.Command.TheVariants.{FlashErase as ToErase, NandWrite as ToWrite, NandDump as ToDump, NandTest as ToTest, MarkBad as ToMark, Stats as ToCount, IsBad as ToAsk}
 use Rattle.nand_model.specs.declared.words.Flip.{Flip}
 use Rattle.nand_model.specs.declared.words.Part.{Part}
-use Rattle.command_model.specs.Command.{cost_of, command_blocks}
+use Rattle.command_model.specs.Command.{block_size, blocks_touched, command_blocks, cost_of, count_or_rest, device_bytes, unit_count}
 use Rattle.command_model.specs.Cost.{command_cost, troubled_blocks}
 use Rattle.command_model.specs.Boot.{AreAscending, geometry_for, geometry_of_chip}
 use Rattle.plan_model.specs.Plan.{ChipPlan, items_of, new_chips}
 use Rattle.report_model.specs.Report.{line}
 use Rattle.report_model.proofs.Checked.{this_passes}
 use Rattle.command_model.specs.Runnable.{CanRun, IsDeviceSize}
-use Rattle.tool_steps.proofs.Scripts.{cost_of-short}
-use Rattle.tool_steps.proofs.Ends.{all_troubled}
+use Rattle.tool_steps.proofs.Sizes.{blocks_touched-one, unit_count-one}
 use Rattle.several_chip_plan.specs.SeveralChips.{IsChip, IsCommand, IsFlip, IsPageOffset, IsPlan, IsSeveralChipPlan, blocks_of, chip_of, chip_text, data_text, command_of, command_text, flip_text, geometry_of, plan_text, schedule_text, session_text, sizes_of, spaced_number}
 use Rattle.several_chip_plan.specs.declared.lines.ChipLines.{ChipLines}
 use Rattle.several_chip_plan.specs.declared.lines.CommandLine.{CommandLine}
@@ -141,31 +140,16 @@ module _ (chips : List ChipLines) (payload : List ℕ) (legal : All IsChip chips
       let least = (part_small d.chip d.legal).0 in
       let most = (part_small d.chip d.legal).1 in (omega (arith, same, least), omega (arith, same, most))
 
-  -- a command that can be run takes few operations
-  few_operations : (g : Geometry) (command : Command) → CanRun g command → g.pages_per_block ≡ 64 → command_blocks command ≤ 16 → cost_of g command (troubled_blocks g command) ≤ 1073
-  few_operations g (ToErase dev blocks no_scan start count) h pages few = rw (cost_of-short g (ToErase dev blocks no_scan start count) 0 h) (omega (arith, few))
-  few_operations g (ToWrite dev blocks mark raw oob pad off bytes) h pages few =
-      rw (cost_of-short g (ToWrite dev blocks mark raw oob pad off bytes) (troubled_blocks g (ToWrite dev blocks mark raw oob pad off bytes)) h)
-      (rw (all_troubled g dev blocks mark raw oob pad off bytes h) (rw pages (omega (arith, few))))
-  few_operations g (ToDump dev blocks off len raw oob bad) h pages few = rw (cost_of-short g (ToDump dev blocks off len raw oob bad) 0 h) (omega arith)
-  few_operations g (ToAsk dev blocks block) h pages few = rw (cost_of-short g (ToAsk dev blocks block) 0 h) (omega arith)
-  few_operations g (ToTest dev blocks keep mark seed passes off len) h pages few = absurd h
-  few_operations g (ToMark dev blocks block) h pages few = absurd h
-  few_operations g (ToCount dev blocks) h pages few = rw (cost_of-short g (ToCount dev blocks) 0 h) (omega arith)
-
   -- a command of a device that can be run on its chip
   good_by : (command : Command) (dev : ℕ) (d : HasDevice chips dev) → command_device command ≡ dev → command_blocks command ≡ blocks_of chips dev
-      → CanRun (sizes command) command → IsGood command
-  good_by command dev d names size runs =
-      let is_chip : sizes command ≡ geometry_of d.chip =
-      ap (λ n. geometry_of_chip (map (λ (s : ChipState SimFaults). s.geometry) (starts_of chips)) (chip_number (devices_by chips) n)) names ∙ geometry_found dev d in
+      → CanRun (sizes command) command → cost_of (sizes command) command (troubled_blocks (sizes command) command) ≤ 1073 → IsGood command
+  good_by command dev d names size runs cheap = record { of_device = found_for command dev d names size; runs = runs; cheap = cheap }
+
+  -- a device of these chips has few blocks
+  few_blocks : (dev : ℕ) (d : HasDevice chips dev) → blocks_of chips dev ≤ 16
+  few_blocks dev d =
       let same = blocks_found dev d in
-      let most = (part_small d.chip d.legal).1 in
-      record {
-        of_device = found_for command dev d names size;
-        runs = runs;
-        cheap = few_operations (sizes command) command runs (ap (λ (g : Geometry). g.pages_per_block) is_chip ∙ (has_sizes d.chip).pages) (omega (arith, size, same, most));
-      }
+      let most = (part_small d.chip d.legal).1 in omega (arith, same, most)
 
   -- the sizes of a device's chip
   page_found : (command : Command) (dev : ℕ) (d : HasDevice chips dev) → command_device command ≡ dev → (sizes command).page ≡ 2048
@@ -178,6 +162,14 @@ module _ (chips : List ChipLines) (payload : List ℕ) (legal : All IsChip chips
       ap (λ n. (geometry_of_chip (map (λ (s : ChipState SimFaults). s.geometry) (starts_of chips)) (chip_number (devices_by chips) n)).pages_per_block) names
       ∙ ap (λ (g : Geometry). g.pages_per_block) (geometry_found dev d) ∙ (has_sizes d.chip).pages
 
+  -- the operations of a nandwrite of one unit, with trouble in each block
+  write_cheap : (g : Geometry) (dev blocks : ℕ) (raw : Bool) (bytes : List ℕ) → g.page ≡ 2048 → g.pages_per_block ≡ 64 → blocks ≤ 16 → length bytes ≤ 2048
+      → cost_of g (ToWrite dev blocks false raw false true 0 bytes) (troubled_blocks g (ToWrite dev blocks false raw false true 0 bytes)) ≤ 1073
+  write_cheap g dev blocks raw bytes page pages few short =
+      let one : unit_count g false bytes ≤ 1 = unit_count-one g bytes (omega (arith, page, short)) in
+      let none : 0 / block_size g ≡ 0 = zero-div (block_size g) in
+      rw pages (omega (arith, one, none, few))
+
   -- a nandwrite of the data
   good_write : (dev : ℕ) (raw : Bool) → dev < length chips → 1 ≤ length payload → length payload ≤ 2048
       → IsGood (ToWrite dev (blocks_of chips dev) false raw false true 0 payload)
@@ -185,8 +177,24 @@ module _ (chips : List ChipLines) (payload : List ℕ) (legal : All IsChip chips
       let d = has_device chips dev legal below in
       let command : Command = ToWrite dev (blocks_of chips dev) false raw false true 0 payload in
       let page = page_found command dev d refl in
-      good_by command dev d refl refl
-      (record { size = has_size dev d; unmarked = refl; body_only = refl; padded = refl; from_first = refl; some = some; one = omega (arith, page, fits) })
+      let pages = pages_found command dev d refl in
+      let size = has_size dev d in
+      let least = size.0 in
+      let first : 0 < device_bytes (sizes command) (blocks_of chips dev) = rw (pages, page) (omega (arith, least)) in
+      good_by command dev d refl refl (record { size = size; first = first; few = omega (arith, fits) }, (refl, some))
+      (write_cheap (sizes command) dev (blocks_of chips dev) raw payload page pages (few_blocks dev d) fits)
+
+  -- the operations of a nanddump of one page
+  dump_cheap : (g : Geometry) (dev blocks off : ℕ) (raw : Bool) (bad : BadMode) → g.page ≡ 2048 → cost_of g (ToDump dev blocks off 2048 raw false bad) 0 ≤ 1073
+  dump_cheap g dev blocks off raw bad page =
+      let one : 2048 / g.page ≡ 1 = ap (λ n. 2048 / n) page in
+      let pages : count_or_rest (2048 / g.page) (off / g.page) (blocks * g.pages_per_block) ≡ 1 = ap (λ n. count_or_rest n (off / g.page) (blocks * g.pages_per_block)) one in
+      let touched = blocks_touched-one g (off / g.page) in
+      subst (λ n. n + blocks_touched g n (off / g.page) ≤ 1073) (sym pages) (omega (arith, touched))
+
+  -- a page that lies in a device ends in it
+  page_ends : (off pages : ℕ) → off % 2048 ≡ 0 → off < pages * 2048 → off + 2048 ≤ pages * 2048
+  page_ends off pages whole below = omega arith
 
   -- a nanddump of a page
   good_dump : (dev off : ℕ) (raw : Bool) (bad : BadMode) → dev < length chips → IsPageOffset (blocks_of chips dev) off
@@ -197,8 +205,11 @@ module _ (chips : List ChipLines) (payload : List ℕ) (legal : All IsChip chips
       let page = page_found command dev d refl in
       let pages = pages_found command dev d refl in
       let within : off < blocks_of chips dev * 64 * 2048 = is_page.1 in
-      good_by command dev d refl refl
-      (record { size = has_size dev d; whole = rw page is_page.0; in_device = rw (pages, page) (omega (arith, within)); one = sym page; body_only = refl })
+      let ends = page_ends off (blocks_of chips dev * 64) is_page.0 within in
+      let first : off < device_bytes (sizes command) (blocks_of chips dev) = rw (pages, page) (omega (arith, within)) in
+      let last : off + 2048 ≤ device_bytes (sizes command) (blocks_of chips dev) = rw (pages, page) (omega (arith, ends)) in
+      good_by command dev d refl refl (record { size = has_size dev d; first = first; last = last }, tt)
+      (dump_cheap (sizes command) dev (blocks_of chips dev) off raw bad page)
 
   -- the first page of a device
   first_page : (dev : ℕ) → dev < length chips → IsPageOffset (blocks_of chips dev) 0
@@ -207,13 +218,21 @@ module _ (chips : List ChipLines) (payload : List ℕ) (legal : All IsChip chips
   good_erase : (dev : ℕ) → dev < length chips → IsGood (command_of chips payload (FlashErase dev))
   good_erase dev below =
       let d = has_device chips dev legal below in
-      good_by (command_of chips payload (FlashErase dev)) dev d refl refl (record { size = has_size dev d; unscanned = refl; from_first = refl; to_end = refl })
+      let size = has_size dev d in
+      let least = size.0 in
+      let few = few_blocks dev d in
+      good_by (command_of chips payload (FlashErase dev)) dev d refl refl
+      (record { size = size; first = omega (arith, least); last = omega arith }, tt) (omega (arith, few))
 
   good_ask : (dev block : ℕ) → dev < length chips → IsGood (command_of chips payload (IsBad dev block))
-  good_ask dev block below = let d = has_device chips dev legal below in good_by (command_of chips payload (IsBad dev block)) dev d refl refl (has_size dev d)
+  good_ask dev block below =
+      let d = has_device chips dev legal below in
+      good_by (command_of chips payload (IsBad dev block)) dev d refl refl (has_size dev d, tt) (omega arith)
 
   good_count : (dev : ℕ) → dev < length chips → IsGood (command_of chips payload (Stats dev))
-  good_count dev below = let d = has_device chips dev legal below in good_by (command_of chips payload (Stats dev)) dev d refl refl (has_size dev d)
+  good_count dev below =
+      let d = has_device chips dev legal below in
+      good_by (command_of chips payload (Stats dev)) dev d refl refl (has_size dev d, tt) (omega arith)
 
   good : (line : CommandLine) → length payload ≤ 2048 → IsCommand chips payload line → IsGood (command_of chips payload line)
   good (RawWrite dev) fits h = good_write dev true h.0 h.1 fits

@@ -1,7 +1,6 @@
--- Which commands can be run: `nandwrite -p` of one unit and `nanddump` of one page, both also with
--- `-n`, `flash_erase -N` of a device, `isbad` and `stats`.
-use Rattle.std.specs.Prelude.{ℕ, ◌≤◌, ◌≡◌, Bool, true, false, List, length, ◌*◌, ◌%◌, ◌<◌}
-use Rattle.command_model.specs.Command.{block_size}
+-- Which commands can be run.
+use Rattle.std.specs.Prelude.{ℕ, ◌+◌, ◌≤◌, ◌≡◌, Bool, false, List, length, ◌<◌, ⊤}
+use Rattle.command_model.specs.Command.{device_bytes}
 use Rattle.nand_model.specs.declared.geometry.Geometry.{Geometry}
 use Rattle.nand_model.specs.declared.words.Command.{Command}
 use Rattle.nand_model.specs.declared.words.Command.TheVariants.{FlashErase, NandWrite, NandDump, NandTest, MarkBad, IsBad, Stats}
@@ -10,37 +9,41 @@ use Rattle.nand_model.specs.declared.words.Command.TheVariants.{FlashErase, Nand
 abbrev pub IsDeviceSize : ℕ → Type 0
 IsDeviceSize blocks = (1 ≤ blocks) × (blocks ≤ 32768)
 
--- flash_erase -N of all blocks
-pub record ErasesAll (blocks : ℕ) (no_scan : Bool) (start count : ℕ) : Type 0 where
+-- flash_erase of blocks of the device, where count 0 means to the end
+pub record ErasesBlocks (blocks start count : ℕ) : Type 0 where
   pub size : IsDeviceSize blocks
-  pub unscanned : no_scan ≡ true
-  pub from_first : start ≡ 0
-  pub to_end : count ≡ 0
+  pub first : start < blocks
+  pub last : start + count ≤ blocks
 
--- nandwrite -p of at least one byte and at most one page, from the first page on
-pub record WritesOneUnit (g : Geometry) (blocks : ℕ) (mark oob pad : Bool) (off : ℕ) (bytes : List ℕ) : Type 0 where
+-- nandwrite from a page of the device on, of data that a plan may have
+pub record WritesPages (g : Geometry) (blocks off : ℕ) (bytes : List ℕ) : Type 0 where
   pub size : IsDeviceSize blocks
-  pub unmarked : mark ≡ false
-  pub body_only : oob ≡ false
-  pub padded : pad ≡ true
-  pub from_first : off ≡ 0
-  pub some : 1 ≤ length bytes
-  pub one : length bytes ≤ g.page
+  pub first : off < device_bytes g blocks
+  pub few : length bytes ≤ 4294967295
 
--- nanddump of one page of the device, whatever becomes of bad blocks
-pub record DumpsOnePage (g : Geometry) (blocks off len : ℕ) (oob : Bool) : Type 0 where
+-- nanddump of pages of the device, where length 0 means to the end
+pub record DumpsPages (g : Geometry) (blocks off len : ℕ) : Type 0 where
   pub size : IsDeviceSize blocks
-  pub whole : off % g.page ≡ 0
-  pub in_device : off < blocks * block_size g
-  pub one : len ≡ g.page
-  pub body_only : oob ≡ false
+  pub first : off < device_bytes g blocks
+  pub last : off + len ≤ device_bytes g blocks
 
--- a command that can be run on a device of a chip with these sizes
+-- the numbers of a command are such as a plan may have, on a device of a chip with these sizes
+abbrev pub Fits : Geometry → Command → Type 0
+Fits g (FlashErase dev blocks no_scan start count) = ErasesBlocks blocks start count
+Fits g (NandWrite dev blocks mark raw oob pad off bytes) = WritesPages g blocks off bytes
+Fits g (NandDump dev blocks off len raw oob bad) = DumpsPages g blocks off len
+Fits g (NandTest dev blocks keep mark seed passes off len) = ⊥
+Fits g (MarkBad dev blocks block) = IsDeviceSize blocks
+Fits g (IsBad dev blocks block) = IsDeviceSize blocks
+Fits g (Stats dev blocks) = IsDeviceSize blocks
+
+-- a command that asks for an operation and for no mark, as chips without tables need it
+abbrev pub AsksUnmarked : Command → Type 0
+AsksUnmarked (NandWrite dev blocks mark raw oob pad off bytes) = (mark ≡ false) × (1 ≤ length bytes)
+AsksUnmarked (NandTest dev blocks keep mark seed passes off len) = ⊥
+AsksUnmarked (MarkBad dev blocks block) = ⊥
+AsksUnmarked _ = ⊤
+
+-- a command that can be run in a session, on a device of a chip with these sizes
 abbrev pub CanRun : Geometry → Command → Type 0
-CanRun g (FlashErase dev blocks no_scan start count) = ErasesAll blocks no_scan start count
-CanRun g (NandWrite dev blocks mark raw oob pad off bytes) = WritesOneUnit g blocks mark oob pad off bytes
-CanRun g (NandDump dev blocks off len raw oob bad) = DumpsOnePage g blocks off len oob
-CanRun g (NandTest dev blocks keep mark seed passes off len) = ⊥
-CanRun g (MarkBad dev blocks block) = ⊥
-CanRun g (IsBad dev blocks block) = IsDeviceSize blocks
-CanRun g (Stats dev blocks) = IsDeviceSize blocks
+CanRun g command = Fits g command × AsksUnmarked command

@@ -23,7 +23,7 @@ use Rattle.run_laws.proofs.Traces.{geometry_after}
 use Rattle.run_laws.proofs.Courses.{AtPlace, EndOf, by_log, Holds}
 use Rattle.run_laws.proofs.Faithful.{log_of}
 use Rattle.command_model.specs.Runnable.{CanRun}
-use Rattle.tool_steps.proofs.Scripts.{asks_first}
+use Rattle.tool_steps.proofs.Asks.{asks_first}
 use Rattle.session_steps.specs.declared.session.Session.{Session}
 use Rattle.session_steps.specs.Standing.{standing}
 use Rattle.session_steps.specs.Mirrors.{IsUnderWay, Mirrors}

@@ -6,7 +6,7 @@ use Rattle.nand_model.specs.Chip.{ChipState}
 use Rattle.nand_model.specs.declared.words.Command.{Command}
 use Rattle.nand_model.specs.declared.words.Flip.{Flip}
 use Rattle.nand_model.specs.Partitions.{part_of, command_device}
-use Rattle.command_model.specs.Runnable.{CanRun, ErasesAll, DumpsOnePage}
+use Rattle.command_model.specs.Runnable.{CanRun}
 use Rattle.command_model.specs.Command.{command_blocks}
 use Rattle.command_model.specs.Boot.{Boot, AreAscending}
 use Rattle.run_model.specs.Course.{sizes_of}
@@ -43,14 +43,14 @@ alone zero zero a b l h g = absurd (omega arith)
 alone zero (suc j) a b l h g = cc
 alone (suc i) j a b l h g = cc
 
-erases : ErasesAll 1 true 0 0
-erases = record { size = (omega arith, omega arith); unscanned = refl; from_first = refl; to_end = refl }
+erases : (dev : ℕ) → CanRun small_sizes (erasing dev)
+erases dev = (record { size = (omega arith, omega arith); first = omega arith; last = omega arith }, tt)
 
-asks : (1 ≤ 1) × (1 ≤ 32768)
-asks = (omega arith, omega arith)
+asks : (dev : ℕ) → CanRun small_sizes (asking dev)
+asks dev = ((omega arith, omega arith), tt)
 
-dumps : DumpsOnePage small_sizes 1 0 2048 false
-dumps = record { size = (omega arith, omega arith); whole = refl; in_device = omega arith; one = refl; body_only = refl }
+dumps : CanRun small_sizes (dumping 0)
+dumps = (record { size = (omega arith, omega arith); first = omega arith; last = omega arith }, tt)
 
 -- the commands of all sessions are such
 abbrev AllAre : (Command → Type 0) → List (ℕ × List Command) → Type 0
@@ -105,7 +105,7 @@ module _ {W : Type 0} where
     small_can : CanStart (boot_of [] small_sessions) pair
     small_can = can_start [] small_sessions (λ k d h. absurd (omega arith)) (omega arith)
         (small_all (IsOfDevice small_parts) (λ dev h. device dev h (erasing dev) refl refl) (λ dev h. device dev h (asking dev) refl refl))
-        (small_all (λ c. CanRun (sizes_of (boot_of [] small_sessions) pair c) c) (λ dev h. erases) (λ dev h. asks)) ascending (omega arith)
+        (small_all (λ c. CanRun (sizes_of (boot_of [] small_sessions) pair c) c) (λ dev h. erases dev) (λ dev h. asks dev)) ascending (omega arith)
       where
         device : (dev : ℕ) → dev < 2 → (command : Command) → command_device command ≡ dev → command_blocks command ≡ 1 → IsOfDevice small_parts command
         device zero h command e n = (first_block 0, ap (part_of small_parts) e, n)

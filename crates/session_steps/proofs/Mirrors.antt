@@ -15,7 +15,7 @@ use Rattle.command_model.specs.Runnable.{CanRun}
 use Rattle.tool_steps.specs.Steps.{after_last, step_of, is_over}
 use Rattle.tool_steps.specs.declared.step.Step.{Step}
 use Rattle.tool_steps.specs.declared.step.Step.TheVariants.{Done as Finished}
-use Rattle.tool_steps.proofs.Scripts.{asks_first}
+use Rattle.tool_steps.proofs.Asks.{asks_first}
 use Rattle.tool_steps.specs.Work.{left_of}
 use Rattle.tool_steps.specs.declared.tool.Tool.{Tool}
 use Rattle.session_steps.specs.declared.session.Session.{Session}

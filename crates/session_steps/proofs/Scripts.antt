@@ -8,7 +8,7 @@ use Rattle.nand_model.specs.declared.words.Reply.{Reply}
 use Rattle.command_model.specs.Command.{Next, Do, Over, next_step}
 use Rattle.command_model.specs.Session.{SessionRun, without_finished}
 use Rattle.tool_steps.specs.Steps.{is_over}
-use Rattle.tool_steps.proofs.Scripts.{asks_first}
+use Rattle.tool_steps.proofs.Asks.{asks_first}
 use Rattle.session_steps.specs.Mirrors.{CanAllRun}
 
 -- the session of a course before the first of these commands

@@ -10,7 +10,8 @@ use Rattle.command_model.specs.Command.{Script, End, Ask, Over, next_in, next_st
 use Rattle.command_model.specs.Session.{SessionRun, without_finished, with_reply, next_op_of, op_of_next}
 use Rattle.command_model.specs.Runnable.{CanRun}
 use Rattle.tool_steps.specs.Steps.{is_over}
-use Rattle.tool_steps.proofs.Scripts.{asks_first, after_replies-append}
+use Rattle.tool_steps.proofs.Asks.{asks_first}
+use Rattle.tool_steps.proofs.Scripts.{after_replies-append}
 use Rattle.session_steps.specs.Standing.{Standing, outcomes_by, commands_by, op_asked, put_down, begun, IsBetween, First}
 use Rattle.session_steps.specs.Mirrors.{IsUnderWay, CanAllRun, Shows}
 use Rattle.session_steps.proofs.Scripts.{none_finished, not_finished, one_finished}

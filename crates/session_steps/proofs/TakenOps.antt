@@ -1,24 +1,23 @@
 -- Commands that can be run ask for operations of their own device that a chip without tables takes.
-use Rattle.std.proofs.Common.{◌≡◌, ℕ, zero, suc, ◌+◌, ◌-◌, ◌*◌, Bool, true, false, List, [], ◌∷◌, ◌++◌, length, replicate, Some, sym, subst, arith, length-append}
-use Rattle.std.specs.Prelude.{⊤, if◌then◌else◌}
+use Rattle.std.proofs.Common.{◌≡◌, ◌≤◌, ℕ, zero, suc, ◌+◌, ◌-◌, ◌*◌, ◌/◌, ◌%◌, Bool, true, false, List, [], ◌∷◌, ◌++◌, length, take, drop, replicate, Some, sym, subst, arith, length-append, length-drop}
+use Rattle.std.specs.Prelude.{⊤, if◌then◌else◌, ◌==◌}
 use Rattle.std.proofs.lemmas.List.{length-replicate, length-take}
 use Rattle.nand_model.specs.declared.geometry.Geometry.{Geometry}
 use Rattle.nand_model.specs.declared.words.Command.{Command}
 use Rattle.nand_model.specs.declared.words.Command.TheVariants.{FlashErase, NandWrite, NandDump, NandTest, MarkBad, IsBad as AskBad, Stats as AskStats}
 use Rattle.nand_model.specs.declared.words.Op.{Op}
+use Rattle.nand_model.specs.declared.words.Op.TheVariants.{Mark, RawRead, Read}
 use Rattle.nand_model.specs.declared.words.Reply.{Reply}
 use Rattle.nand_model.specs.declared.words.Reply.TheVariants.{Done, BadBlock, MarkerByte, ProgramFailed}
 use Rattle.nand_model.specs.Sizes.{parity_start}
 use Rattle.nand_model.specs.Partitions.{device_of, command_device}
-use Rattle.command_model.specs.Command.{Script, End, Ask, next_in, after_replies, script_of, erase_blocks, write_unit, write_blocks, after_write, says_bad, is_dump_bad}
+use Rattle.command_model.specs.Command.{Script, End, Ask, next_in, after_replies, script_of, erase_blocks, erase_and_mark, write_unit, write_pages, write_blocks, after_write, says_bad, is_dump_bad, unit_size, unit_count, units_of, count_or_rest, block_size, WriteMode, WriteCounts, DumpMode, DumpCounts, dump_pages, dump_block, dump_blocks}
 use Rattle.command_model.specs.Session.{SessionRun, next_op_of, op_of_next}
 use Rattle.command_model.specs.Laws.{AsksOnly}
 use Rattle.command_model.proofs.Devices.{own_device}
 use Rattle.command_model.specs.Taken.{IsTaken}
-use Rattle.tool_steps.specs.declared.dumping.Dumping.{Dumping}
-use Rattle.command_model.specs.Runnable.{CanRun}
-use Rattle.tool_steps.specs.Work.{write_mode, unwritten, later_blocks, program_unit, page_passed, page_read, read_left, look_left}
-use Rattle.tool_steps.proofs.Scripts.{parity_start-low, dump_at, first_script, script_of-first, write_pages-one}
+use Rattle.command_model.specs.Runnable.{AsksUnmarked, CanRun}
+use Rattle.tool_steps.proofs.Scripts.{parity_start-low}
 use Rattle.session_steps.specs.Standing.{First}
 use Rattle.session_steps.specs.Mirrors.{CanAllRun}
 
@@ -27,9 +26,16 @@ abbrev AsksTaken : Geometry → Script → Type 0
 AsksTaken g (End outcome) = ⊤
 AsksTaken g (Ask op go_on) = IsTaken g op × ((reply : Reply) → AsksTaken g (go_on reply))
 
-erase_taken : (g : Geometry) (dev left block erased bad failed : ℕ) → AsksTaken g (erase_blocks dev true left block erased bad failed)
-erase_taken g dev zero block erased bad failed = tt
-erase_taken g dev (suc left) block erased bad failed = (tt, λ r. erase_taken g dev left (block + 1) _ bad _)
+either_taken : (g : Geometry) (b : Bool) (x y : Script) → AsksTaken g x → AsksTaken g y → AsksTaken g (if b then x else y)
+either_taken g true x y h k = h
+either_taken g false x y h k = k
+
+-- flash_erase
+erase_taken : (g : Geometry) (dev : ℕ) (no_scan : Bool) (left block erased bad failed : ℕ) → AsksTaken g (erase_blocks dev no_scan left block erased bad failed)
+erase_taken g dev no_scan zero block erased bad failed = tt
+erase_taken g dev no_scan (suc left) block erased bad failed =
+    either_taken g no_scan _ _ (tt, λ r. erase_taken g dev no_scan left (block + 1) _ _ _)
+    (tt, λ r. either_taken g (says_bad r) _ _ (erase_taken g dev no_scan left (block + 1) _ _ _) (tt, λ s. erase_taken g dev no_scan left (block + 1) _ _ _))
 
 after_write_taken : (g : Geometry) (r : Reply) (good failed skipped marker : Script)
     → AsksTaken g good → AsksTaken g failed → AsksTaken g skipped → AsksTaken g marker
@@ -40,65 +46,99 @@ after_write_taken g BadBlock good failed skipped marker a b c d = c
 after_write_taken g MarkerByte good failed skipped marker a b c d = d
 after_write_taken g _ good failed skipped marker a b c d = a
 
-module _ (g : Geometry) (unit : List ℕ) (dev : ℕ) (page_long : length unit ≡ g.page) where
-  unit_taken : (raw : Bool) (page : ℕ) → IsTaken g (write_unit g (write_mode dev raw) page unit)
-  unit_taken true page = omega (arith, length-append unit (replicate g.spare 0xff), length-replicate {A = ℕ} g.spare 0xff)
-  unit_taken false page = record {
-    body_length = omega (arith, length-take g.page unit);
-    free_length = omega (arith, length-replicate {A = ℕ} (parity_start g - 2) 0xff, parity_start-low g);
-  }
+-- units of one length
+abbrev AreLong : ℕ → List (List ℕ) → Type 0
+AreLong size [] = ⊤
+AreLong size (unit ∷ units) = (length unit ≡ size) × AreLong size units
 
-  module _ (raw : Bool) where
-    abbrev later : (block rest skipped failed : ℕ) → Script
-    later = later_blocks g (write_mode dev raw) unit
+units_long : (size n : ℕ) (bytes : List ℕ) → AreLong size (units_of size n bytes)
+units_long size zero bytes = tt
+units_long size (suc n) bytes = (
+  omega (arith, length-append (take size bytes) (replicate (size - length bytes) 0xff), length-take size bytes, length-replicate {A = ℕ} (size - length bytes) 0xff),
+  units_long size n (drop size bytes),
+)
 
-    abbrev program : (block rest skipped failed : ℕ) → Script
-    program = program_unit g (write_mode dev raw) unit
+parities-in : (g : Geometry) → parity_start g ≤ g.spare
+parities-in g = omega arith
 
-    program_taken : (block rest skipped failed : ℕ) → ((skipped failed : ℕ) → AsksTaken g (later block rest skipped failed))
-        → AsksTaken g (program block rest skipped failed)
-    program_taken block rest skipped failed next = (
-      unit_taken raw (block * g.pages_per_block),
-      λ r. after_write_taken g r _ _ _ _ tt (tt, λ s. next skipped (failed + 1)) (next (skipped + 1) failed) tt,
-    )
+unit_taken : (g : Geometry) (m : WriteMode) (page : ℕ) (unit : List ℕ) → length unit ≡ unit_size g m.oob → IsTaken g (write_unit g m page unit)
+unit_taken g m page unit long = by_mode m.raw m.oob long
+  where
+    by_mode : (raw oob : Bool) → length unit ≡ unit_size g oob → IsTaken g (write_unit g (record { dev = m.dev; mark = m.mark; raw = raw; oob = oob }) page unit)
+    by_mode true true h = h
+    by_mode true false h = omega (arith, h, length-append unit (replicate g.spare 0xff), length-replicate {A = ℕ} g.spare 0xff)
+    by_mode false true h = record {
+      body_length = omega (arith, h, length-take g.page unit);
+      free_length = omega (
+        arith,
+        h,
+        length-take (g.page + parity_start g - (g.page + 2)) (drop (g.page + 2) unit),
+        length-drop (g.page + 2) unit,
+        parity_start-low g,
+        parities-in g,
+      );
+    }
+    by_mode false false h = record {
+      body_length = omega (arith, h, length-take g.page unit);
+      free_length = omega (arith, length-replicate {A = ℕ} (parity_start g - 2) 0xff, parity_start-low g);
+    }
 
-    scanned_taken : (bad : Bool) (block rest skipped failed : ℕ) → ((skipped failed : ℕ) → AsksTaken g (later block rest skipped failed))
-        → AsksTaken g (if bad then later block rest (skipped + 1) failed else program block rest skipped failed)
-    scanned_taken true block rest skipped failed next = next (skipped + 1) failed
-    scanned_taken false block rest skipped failed next = program_taken block rest skipped failed next
+module _ (g : Geometry) (m : WriteMode) (unmarked : m.mark ≡ false) where
+  erased_taken : (block : ℕ) (rest : Script) → AsksTaken g rest → AsksTaken g (erase_and_mark m block rest)
+  erased_taken block rest h = (tt, λ r. subst (λ b. AsksTaken g (if b then Ask (Mark m.dev block) (λ s. rest) else rest)) (sym unmarked) h)
 
-    write_taken : (left block skipped failed : ℕ) → AsksTaken g (write_blocks g (write_mode dev raw) left block 0 (unit ∷ []) (unwritten skipped failed))
-    write_taken zero block skipped failed = tt
-    write_taken (suc left) block skipped failed =
-        let Taken : Reply → Script → Type 0 = λ r s. AsksTaken g (if says_bad r then later block left (skipped + 1) failed else s) in (
-          tt,
-          λ r. subst (Taken r) (sym (write_pages-one g (write_mode dev raw) unit block left skipped failed))
-              (scanned_taken (says_bad r) block left skipped failed (λ s f. write_taken left (block + 1) s f)),
-        )
+  -- nandwrite without marks
+  pages_taken : (block : ℕ) (taken : List (List ℕ)) (c : WriteCounts) (next_block : List (List ℕ) → WriteCounts → Script)
+      → ((us : List (List ℕ)) (d : WriteCounts) → AreLong (unit_size g m.oob) us → AsksTaken g (next_block us d)) → AreLong (unit_size g m.oob) taken
+      → (in_block place : ℕ) (units : List (List ℕ)) → AreLong (unit_size g m.oob) units → AsksTaken g (write_pages g m block taken c next_block in_block place units)
+  pages_taken block taken c next_block next all in_block place [] long = tt
+  pages_taken block taken c next_block next all in_block place (unit ∷ units) long =
+      either_taken g (place == g.pages_per_block) _ _ (next (unit ∷ units) _ long) (
+        unit_taken g m (block * g.pages_per_block + place) unit long.0,
+        λ r. after_write_taken g r _ _ _ _
+            (pages_taken block taken c next_block next all (in_block + 1) (place + 1) units long.1)
+            (erased_taken block _ (next taken _ all)) (next taken _ all) tt,
+      )
 
-read_taken : (g : Geometry) (d : Dumping) (raw : Bool) → IsTaken g (page_read (record d { raw = raw }))
-read_taken g d true = tt
-read_taken g d false = tt
+  blocks_taken : (left block place : ℕ) (units : List (List ℕ)) (c : WriteCounts) → AreLong (unit_size g m.oob) units
+      → AsksTaken g (write_blocks g m left block place units c)
+  blocks_taken left block place [] c long = tt
+  blocks_taken zero block place (unit ∷ units) c long = tt
+  blocks_taken (suc left) block place (unit ∷ units) c long = (
+    tt,
+    λ r. either_taken g (says_bad r) _ _ (blocks_taken left (block + 1) 0 (unit ∷ units) _ long)
+        (pages_taken block (unit ∷ units) c (λ us d. write_blocks g m left (block + 1) 0 us d) (λ us d h. blocks_taken left (block + 1) 0 us d h) long 0 place
+        (unit ∷ units) long),
+  )
 
-looked_taken : (g : Geometry) (d : Dumping) (bad : Bool) → AsksTaken g (if bad then End (page_passed g d) else read_left g d)
-looked_taken g d true = tt
-looked_taken g d false = (read_taken g d d.raw, λ r. tt)
+module _ (g : Geometry) (m : DumpMode) where
+  -- nanddump
+  reads_taken : (left page : ℕ) (c : DumpCounts) (go_on : DumpCounts → Script) → ((d : DumpCounts) → AsksTaken g (go_on d)) → AsksTaken g (dump_pages g m left page c go_on)
+  reads_taken zero page c go_on h = h c
+  reads_taken (suc left) page c go_on h = (by_raw m.raw, λ r. reads_taken left (page + 1) _ go_on h)
+    where
+      by_raw : (b : Bool) → IsTaken g (if b then RawRead m.dev page else Read m.dev page)
+      by_raw true = tt
+      by_raw false = tt
 
-dump_taken : (g : Geometry) (d : Dumping) (all_blocks : Bool) → AsksTaken g (if all_blocks then read_left g d else look_left g d)
-dump_taken g d true = (read_taken g d d.raw, λ r. tt)
-dump_taken g d false = (tt, λ r. looked_taken g d (says_bad r))
+  block_taken : (n page : ℕ) (c : DumpCounts) (go_on : DumpCounts → Script) → ((d : DumpCounts) → AsksTaken g (go_on d)) → AsksTaken g (dump_block g m n page c go_on)
+  block_taken n page c go_on h = either_taken g (is_dump_bad m.bad) _ _ (reads_taken n page c go_on h)
+      (tt, λ r. either_taken g (says_bad r) _ _ (h _) (reads_taken n page c go_on h))
 
-first_taken : (g : Geometry) (command : Command) → CanRun g command → AsksTaken g (first_script g command)
-first_taken g (FlashErase dev blocks no_scan start count) h = erase_taken g dev (suc (blocks - 1)) 0 0 0 0
-first_taken g (NandWrite dev blocks mark raw oob pad off bytes) h =
-    write_taken g (bytes ++ replicate (g.page - length bytes) 0xff) dev
-    (omega (arith, length-append bytes (replicate (g.page - length bytes) 0xff), length-replicate {A = ℕ} (g.page - length bytes) 0xff, h.one))
-    raw (suc (blocks - 1)) 0 0 0
-first_taken g (NandDump dev blocks off len raw oob bad) h = dump_taken g (dump_at g dev off raw bad) (is_dump_bad bad)
-first_taken g (NandTest dev blocks keep mark seed passes off len) h = absurd h
-first_taken g (MarkBad dev blocks block) h = absurd h
-first_taken g (AskBad dev blocks block) h = (tt, λ r. tt)
-first_taken g (AskStats dev blocks) h = (tt, λ r. tt)
+  dump_taken : (blocks left page : ℕ) (c : DumpCounts) → AsksTaken g (dump_blocks g m blocks left page c)
+  dump_taken zero left page c = tt
+  dump_taken (suc blocks) left page c = block_taken _ page c _ (λ d. dump_taken blocks _ _ d)
+
+all_taken : (g : Geometry) (command : Command) → AsksUnmarked command → AsksTaken g (script_of g command)
+all_taken g (FlashErase dev blocks no_scan start count) h = erase_taken g dev no_scan (count_or_rest count start blocks) start 0 0 0
+all_taken g (NandWrite dev blocks mark raw oob pad off bytes) h =
+    blocks_taken g (record { dev = dev; mark = mark; raw = raw; oob = oob }) h.0 (blocks - off / block_size g) (off / block_size g) (off / g.page % g.pages_per_block)
+    (units_of (unit_size g oob) (unit_count g oob bytes) bytes) (record { pages = 0; skipped = 0; failed = 0 }) (units_long (unit_size g oob) (unit_count g oob bytes) bytes)
+all_taken g (NandDump dev blocks off len raw oob bad) h = dump_taken g (record { dev = dev; raw = raw; oob = oob; bad = bad }) _ _ _ _
+all_taken g (NandTest dev blocks keep mark seed passes off len) h = absurd h
+all_taken g (MarkBad dev blocks block) h = absurd h
+all_taken g (AskBad dev blocks block) h = (tt, λ r. tt)
+all_taken g (AskStats dev blocks) h = (tt, λ r. tt)
 
 taken_later : (g : Geometry) (replies : List Reply) (script : Script) → AsksTaken g script → AsksTaken g (after_replies replies script)
 taken_later g [] script h = h
@@ -129,7 +169,6 @@ next_taken sizes run op runnable e = by_commands run.commands runnable e
     by_commands [] h e = cc
     by_commands (command ∷ commands) h e =
         let runs : CanRun (sizes command) command = h 0 command (omega arith) in
-        let taken : AsksTaken (sizes command) (script_of (sizes command) command) =
-        subst (AsksTaken (sizes command)) (sym (script_of-first (sizes command) command runs)) (first_taken (sizes command) command runs) in
+        let taken : AsksTaken (sizes command) (script_of (sizes command) command) = all_taken (sizes command) command runs.1 in
         asked_taken (sizes command) (command_device command) (after_replies run.replies (script_of (sizes command) command)) op
         (own_later (command_device command) run.replies _ (own_device (sizes command) command)) (taken_later (sizes command) run.replies _ taken) e

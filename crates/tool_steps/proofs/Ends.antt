@@ -1,183 +1,212 @@
 -- Commands end after at most their cost.
-use Rattle.std.proofs.Common.{◌≡◌, ℕ, zero, suc, ◌+◌, ◌-◌, ◌*◌, ◌≤◌, Bool, true, false, List, [], ◌∷◌, ◌++◌, length, replicate, refl, sym, subst, arith}
-use Rattle.std.specs.Prelude.{if◌then◌else◌}
-use Rattle.std.proofs.Math.Nat.{zero-div, sub-zero}
+use Rattle.std.proofs.Common.{◌≡◌, ℕ, zero, suc, ◌+◌, ◌-◌, ◌*◌, ◌/◌, ◌%◌, ◌<◌, ◌≤◌, ◌⊎◌, inl, inr, Bool, true, false, List, [], ◌∷◌, length, drop, min, refl, sym, ap, subst, arith}
+use Rattle.std.specs.Prelude.{if◌then◌else◌, ◌==◌}
+use Rattle.std.proofs.Math.Nat.{mod-lt}
+use Rattle.std.proofs.lemmas.Bool.{eqb-false, cases_Bool}
+use Rattle.nand_model.proofs.Bounds.{pages-some}
 use Rattle.nand_model.specs.declared.geometry.Geometry.{Geometry}
 use Rattle.nand_model.specs.declared.words.Op.{Op}
-use Rattle.nand_model.specs.declared.words.Ending.TheVariants.{Whole, NoSpace, MarkerByte as AtMarkerByte}
 use Rattle.nand_model.specs.declared.words.Outcome.{Outcome}
-use Rattle.nand_model.specs.declared.words.Outcome.TheVariants.{NandWrite as Written, IsBad as AskedBad}
 use Rattle.nand_model.specs.declared.words.Command.{Command}
 use Rattle.nand_model.specs.declared.words.Command.TheVariants.{FlashErase, NandWrite, NandDump, NandTest, MarkBad, IsBad as AskBad, Stats as AskStats}
 use Rattle.nand_model.specs.declared.words.Reply.{Reply}
-use Rattle.nand_model.specs.declared.words.Reply.TheVariants.{BadBlock, MarkerByte, ProgramFailed}
-use Rattle.command_model.specs.Command.{block_size, Script, End, Ask, next_in, after_replies, cost_of, erase_blocks, write_unit, write_blocks, says_bad, is_dump_bad, stats_outcome}
+use Rattle.nand_model.specs.declared.words.Reply.TheVariants.{Done, BadBlock, MarkerByte, ProgramFailed}
+use Rattle.nand_model.specs.declared.words.Ending.TheVariants.{MarkerByte as AtMarkerByte}
+use Rattle.command_model.specs.Command.{Script, End, Ask, next_in, after_replies, after_write, block_size, cost_of, count_or_rest, script_of, written_end, erase_blocks, erase_and_mark, says_bad, unit_count, unit_size, units_of, WriteMode, WriteCounts, write_unit, write_pages, write_blocks, DumpMode, DumpCounts, is_dump_bad, dump_pages, dump_block, dump_blocks}
 use Rattle.command_model.specs.Laws.{IsOver, trouble_of, is_trouble, troubles, CommandsEnd}
-use Rattle.tool_steps.specs.declared.dumping.Dumping.{Dumping}
-use Rattle.tool_steps.specs.Work.{write_mode, unwritten, later_blocks, program_unit, page_dumped, page_passed, page_read, read_left, look_left}
-use Rattle.command_model.specs.Runnable.{CanRun, WritesOneUnit}
+use Rattle.command_model.specs.Runnable.{Fits}
 use Rattle.command_model.specs.Cost.{troubled_blocks}
+use Rattle.command_model.proofs.Troubles.{troubles_are_few}
 use Rattle.tool_steps.specs.Steps.{EndsAtLast}
-use Rattle.tool_steps.proofs.Scripts.{write_pages-one, dump_at, first_script, short_cost, script_of-first, cost_of-short}
+use Rattle.tool_steps.specs.Writing.{write_from_start}
 
 -- a command that is over stays over
 pub over_stays : (replies : List Reply) (outcome : Outcome) → IsOver (next_in (after_replies replies (End outcome)))
 over_stays [] outcome = tt
 over_stays (r ∷ replies) outcome = tt
 
-pub erase_ends : (dev left block erased bad failed : ℕ) (replies : List Reply) → left ≤ length replies
-    → IsOver (next_in (after_replies replies (erase_blocks dev true left block erased bad failed)))
-erase_ends dev zero block erased bad failed replies h = over_stays replies _
-erase_ends dev (suc left) block erased bad failed [] h = absurd (omega arith)
-erase_ends dev (suc left) block erased bad failed (r ∷ replies) h = erase_ends dev left (block + 1) _ bad _ replies (omega arith)
+-- a script is over once there are this many replies
+abbrev pub Ends : Script → ℕ → Type 0
+Ends script n = (replies : List Reply) → n ≤ length replies → IsOver (next_in (after_replies replies script))
+
+pub ends_over : (outcome : Outcome) (n : ℕ) → Ends (End outcome) n
+ends_over outcome n replies h = over_stays replies outcome
+
+pub ends_ask : (op : Op) (go_on : Reply → Script) (n : ℕ) → ((r : Reply) → Ends (go_on r) n) → Ends (Ask op go_on) (suc n)
+ends_ask op go_on n h [] few = absurd (omega arith)
+ends_ask op go_on n h (r ∷ replies) few = h r replies (omega arith)
+
+pub ends_later : (script : Script) (n m : ℕ) → n ≤ m → Ends script n → Ends script m
+ends_later script n m less h replies few = h replies (omega arith)
+
+pub ends_either : (b : Bool) (x y : Script) (n : ℕ) → Ends x n → Ends y n → Ends (if b then x else y) n
+ends_either true x y n h k = h
+ends_either false x y n h k = k
+
+-- flash_erase: a question and an erase for each block
+erase_ends : (dev : ℕ) (no_scan : Bool) (left block erased bad failed : ℕ) → Ends (erase_blocks dev no_scan left block erased bad failed) (2 * left)
+erase_ends dev no_scan zero block erased bad failed = ends_over _ _
+erase_ends dev no_scan (suc left) block erased bad failed =
+    let next : (erased bad failed : ℕ) → Ends (erase_blocks dev no_scan left (block + 1) erased bad failed) (2 * left) =
+    λ e b f. erase_ends dev no_scan left (block + 1) e b f in
+    ends_either no_scan _ _ (2 * suc left)
+    (ends_later _ (suc (2 * left)) (2 * suc left) (omega arith) (ends_ask _ _ (2 * left) (λ r. next _ _ _)))
+    (ends_later _ (suc (suc (2 * left))) (2 * suc left) (omega arith) (ends_ask _ _ (suc (2 * left)) (λ r. ends_either (says_bad r) _ _ (suc (2 * left))
+    (ends_later _ (2 * left) (suc (2 * left)) (omega arith) (next _ _ _)) (ends_ask _ _ (2 * left) (λ s. next _ _ _)))))
+
+module _ (g : Geometry) (m : DumpMode) where
+  pages_end : (left page : ℕ) (c : DumpCounts) (go_on : DumpCounts → Script) (n : ℕ) → ((d : DumpCounts) → Ends (go_on d) n) → Ends (dump_pages g m left page c go_on) (left + n)
+  pages_end zero page c go_on n h = ends_later _ n (0 + n) (omega arith) (h c)
+  pages_end (suc left) page c go_on n h =
+      ends_later _ (suc (left + n)) (suc left + n) (omega arith) (ends_ask _ _ (left + n) (λ r. pages_end left (page + 1) _ go_on n h))
+
+  block_ends : (left page : ℕ) (c : DumpCounts) (go_on : DumpCounts → Script) (n : ℕ) → ((d : DumpCounts) → Ends (go_on d) n) → Ends (dump_block g m left page c go_on) (suc (left + n))
+  block_ends left page c go_on n h =
+      ends_either (is_dump_bad m.bad) _ _ (suc (left + n)) (ends_later _ (left + n) (suc (left + n)) (omega arith) (pages_end left page c go_on n h))
+      (ends_ask _ _ (left + n) (λ r. ends_either (says_bad r) _ _ (left + n) (ends_later _ n (left + n) (omega arith) (h _)) (pages_end left page c go_on n h)))
+
+  -- nanddump: a question for each block, and a read of each page
+  dump_ends : (blocks left page : ℕ) (c : DumpCounts) → Ends (dump_blocks g m blocks left page c) (left + blocks)
+  dump_ends zero left page c = ends_over _ _
+  dump_ends (suc blocks) left page c =
+      let here : ℕ = min left (g.pages_per_block - page % g.pages_per_block) in
+      ends_later _ (suc (min left (g.pages_per_block - page % g.pages_per_block) + (left - min left (g.pages_per_block - page % g.pages_per_block) + blocks))) (left + suc blocks)
+      (omega arith) (block_ends here page c _ (left - here + blocks) (λ d. dump_ends blocks _ _ d))
 
 -- a script is over once there are this many replies, with no more than so much trouble in them
 abbrev EndsIn : Script → ℕ → ℕ → Type 0
-EndsIn script weak count = (replies : List Reply) → troubles replies script ≤ weak → count ≤ length replies → IsOver (next_in (after_replies replies script))
+EndsIn script weak n = (replies : List Reply) → troubles replies script ≤ weak → n ≤ length replies → IsOver (next_in (after_replies replies script))
 
--- a written page that failed or was refused, with its code or without
-trouble_of-unit : (g : Geometry) (dev page : ℕ) (raw : Bool) (unit : List ℕ) (r : Reply)
-    → trouble_of (write_unit g (write_mode dev raw) page unit) r ≡ is_trouble r
-trouble_of-unit g dev page true unit r = refl
-trouble_of-unit g dev page false unit r = refl
+in_either : (b : Bool) (x y : Script) (weak n : ℕ) → (b ≡ true → EndsIn x weak n) → (b ≡ false → EndsIn y weak n) → EndsIn (if b then x else y) weak n
+in_either true x y weak n h k = h refl
+in_either false x y weak n h k = k refl
 
-module _ (g : Geometry) (unit : List ℕ) (dev : ℕ) (raw : Bool) where
-  abbrev later : (block rest skipped failed : ℕ) → Script
-  later = later_blocks g (write_mode dev raw) unit
+in_ask : (op : Op) (go_on : Reply → Script) (weak n : ℕ) → ((r : Reply) → trouble_of op r ≡ 0) → ((r : Reply) → EndsIn (go_on r) weak n) → EndsIn (Ask op go_on) weak (suc n)
+in_ask op go_on weak n none h [] trouble few = absurd (omega arith)
+in_ask op go_on weak n none h (r ∷ replies) trouble few = let z = none r in h r replies (omega (arith, z)) (omega arith)
 
-  abbrev program : (block rest skipped failed : ℕ) → Script
-  program = program_unit g (write_mode dev raw) unit
+in_later : (script : Script) (weak n m : ℕ) → n ≤ m → EndsIn script weak n → EndsIn script weak m
+in_later script weak n m less h replies trouble few = h replies trouble (omega arith)
 
-  abbrev from_block : (left block skipped failed : ℕ) → Script
-  from_block left block skipped failed = write_blocks g (write_mode dev raw) left block 0 (unit ∷ []) (unwritten skipped failed)
+-- a page that was answered
+answered_ends : (r : Reply) (good failed skipped marker : Script) (weak n : ℕ) → EndsIn good weak n → ((w : ℕ) → weak ≡ suc w → EndsIn failed w n)
+    → ((w : ℕ) → weak ≡ suc w → EndsIn skipped w n) → ((replies : List Reply) → IsOver (next_in (after_replies replies marker)))
+    → (replies : List Reply) → is_trouble r + troubles replies (after_write r good failed skipped marker) ≤ weak → n ≤ length replies
+    → IsOver (next_in (after_replies replies (after_write r good failed skipped marker)))
+answered_ends Done good failed skipped marker weak n a b c d replies trouble few = a replies (omega arith) few
+answered_ends ProgramFailed good failed skipped marker weak n a b c d replies trouble few = b (weak - 1) (omega arith) replies (omega arith) few
+answered_ends BadBlock good failed skipped marker weak n a b c d replies trouble few = c (weak - 1) (omega arith) replies (omega arith) few
+answered_ends MarkerByte good failed skipped marker weak n a b c d replies trouble few = d replies
+answered_ends _ good failed skipped marker weak n a b c d replies trouble few = a replies (omega arith) few
 
-  trouble_in : (block : ℕ) (r : Reply) → trouble_of (write_unit g (write_mode dev raw) (block * g.pages_per_block) unit) r ≡ is_trouble r
-  trouble_in block r = trouble_of-unit g dev (block * g.pages_per_block) raw unit r
+module _ (g : Geometry) (m : WriteMode) where
+  unit_trouble : (page : ℕ) (unit : List ℕ) (r : Reply) → trouble_of (write_unit g m page unit) r ≡ is_trouble r
+  unit_trouble page unit r = by_raw m.raw _ _ refl refl
+    where
+      by_raw : (b : Bool) (x y : Op) → trouble_of x r ≡ is_trouble r → trouble_of y r ≡ is_trouble r → trouble_of (if b then x else y) r ≡ is_trouble r
+      by_raw true x y h k = h
+      by_raw false x y h k = k
 
-  -- the pages of a block, where the later blocks end in time
-  program_ends : (block rest skipped failed : ℕ) → ((skipped failed weak : ℕ) → EndsIn (later block rest skipped failed) weak (rest + 1 + 2 * weak))
-      → (weak : ℕ) → EndsIn (program block rest skipped failed) weak (rest + 1 + 2 * weak)
-  program_ends block rest skipped failed ends weak [] trouble h = absurd (omega arith)
-  program_ends block rest skipped failed ends weak (ProgramFailed ∷ []) trouble h = absurd (omega (arith, trouble_in block ProgramFailed))
-  program_ends block rest skipped failed ends weak (ProgramFailed ∷ (s ∷ replies)) trouble h =
-      ends skipped (failed + 1) (weak - 1) replies (omega (arith, trouble_in block ProgramFailed)) (omega (arith, trouble_in block ProgramFailed))
-  program_ends block rest skipped failed ends weak (BadBlock ∷ replies) trouble h =
-      ends (skipped + 1) failed (weak - 1) replies (omega (arith, trouble_in block BadBlock)) (omega (arith, trouble_in block BadBlock))
-  program_ends block rest skipped failed ends weak (MarkerByte ∷ replies) trouble h = over_stays replies _
-  program_ends block rest skipped failed ends weak (_ ∷ replies) trouble h = over_stays replies _
+  -- the replies to the rest of the blocks and of the units, and to what is written again
+  abbrev bound : (rest units weak : ℕ) → ℕ
+  bound rest units weak = rest + units + (g.pages_per_block + 2) * weak
 
-  scanned_ends : (block rest skipped failed : ℕ) → ((skipped failed weak : ℕ) → EndsIn (later block rest skipped failed) weak (rest + 1 + 2 * weak))
-      → (bad : Bool) (weak : ℕ)
-      → EndsIn (if bad then later block rest (skipped + 1) failed else program block rest skipped failed) weak (rest + 1 + 2 * weak)
-  scanned_ends block rest skipped failed ends true weak = ends (skipped + 1) failed weak
-  scanned_ends block rest skipped failed ends false weak = program_ends block rest skipped failed ends weak
+  erased_ends : (block : ℕ) (rest : Script) (weak n : ℕ) → EndsIn rest weak n → EndsIn (erase_and_mark m block rest) weak (suc (suc n))
+  erased_ends block rest weak n h =
+      in_ask _ _ weak (suc n) (λ r. refl) (λ r. in_either m.mark _ rest weak (suc n) (λ e. in_ask _ _ weak n (λ s. refl) (λ s. h))
+      (λ e. in_later rest weak n (suc n) (omega arith) h))
 
-  -- nandwrite of one unit: a question for each block, and a program and an erase for each trouble
-  write_ends : (left block skipped failed weak : ℕ) → EndsIn (from_block left block skipped failed) weak (left + 1 + 2 * weak)
-  write_ends zero block skipped failed weak replies trouble h = over_stays replies _
-  write_ends (suc left) block skipped failed weak [] trouble h = absurd (omega arith)
-  write_ends (suc left) block skipped failed weak (r ∷ replies) trouble h =
-      let Ends : Script → Type 0 = λ s. troubles replies (if says_bad r then later block left (skipped + 1) failed else s) ≤ weak
-      → IsOver (next_in (after_replies replies (if says_bad r then later block left (skipped + 1) failed else s))) in
-      subst Ends (sym (write_pages-one g (write_mode dev raw) unit block left skipped failed))
-      (λ t. scanned_ends block left skipped failed (λ s f w. write_ends left (block + 1) s f w) (says_bad r) weak replies t (omega arith))
-      (omega arith)
+  module _ (block rest : ℕ) (taken : List (List ℕ)) (c : WriteCounts) (next_block : List (List ℕ) → WriteCounts → Script)
+      (next_ends : (us : List (List ℕ)) (d : WriteCounts) (weak : ℕ) → EndsIn (next_block us d) weak (bound rest (length us) weak)) where
+    -- the units of a block, after `place` pages of it at most
+    block_units_end : (in_block place : ℕ) (units : List (List ℕ)) → place ≤ g.pages_per_block → length taken ≤ length units + place → (weak : ℕ)
+        → EndsIn (write_pages g m block taken c next_block in_block place units) weak (bound rest (length units) weak)
+    block_units_end in_block place [] below few weak = λ replies trouble enough. over_stays replies _
+    block_units_end in_block place (unit ∷ units) below few weak =
+        in_either (place == g.pages_per_block) _ _ weak (bound rest (suc (length units)) weak) (λ e. next_ends (unit ∷ units) _ weak)
+        (λ e. let apart = eqb-false place g.pages_per_block e in
+        in_later _ weak (suc (bound rest (length units) weak)) (bound rest (suc (length units)) weak) (omega arith)
+        (page_ends (omega arith) (block_units_end (in_block + 1) (place + 1) units (omega arith) (omega arith) weak)))
+      where
+        page_ends : place < g.pages_per_block → EndsIn (write_pages g m block taken c next_block (in_block + 1) (place + 1) units) weak (bound rest (length units) weak)
+            → EndsIn (Ask (write_unit g m (block * g.pages_per_block + place) unit) (λ r. after_write r
+            (write_pages g m block taken c next_block (in_block + 1) (place + 1) units)
+            (erase_and_mark m block (next_block taken (record c { failed = c.failed + 1 })))
+            (next_block taken (record c { skipped = c.skipped + 1 }))
+            (written_end (record c { pages = c.pages + in_block }) AtMarkerByte))) weak (suc (bound rest (length units) weak))
+        page_ends lower good [] trouble enough = absurd (omega arith)
+        page_ends lower good (r ∷ replies) trouble enough =
+            let is : trouble_of (write_unit g m (block * g.pages_per_block + place) unit) r ≡ is_trouble r = unit_trouble (block * g.pages_per_block + place) unit r in
+            answered_ends r _ _ _ _ weak (bound rest (length units) weak) good
+            (λ w e. subst (λ k. EndsIn (erase_and_mark m block (next_block taken (record c { failed = c.failed + 1 }))) w (bound rest (length units) k)) (sym e)
+            (in_later _ w (suc (suc (bound rest (length taken) w))) (bound rest (length units) (suc w)) (omega (arith, lower, few))
+            (erased_ends block (next_block taken (record c { failed = c.failed + 1 })) w (bound rest (length taken) w) (next_ends taken _ w))))
+            (λ w e. subst (λ k. EndsIn (next_block taken (record c { skipped = c.skipped + 1 })) w (bound rest (length units) k)) (sym e)
+            (in_later _ w (bound rest (length taken) w) (bound rest (length units) (suc w)) (omega (arith, lower, few)) (next_ends taken _ w)))
+            (λ rs. over_stays rs _)
+            replies (omega (arith, is)) (omega arith)
 
--- a command of one operation
-ask_ends : (op : Op) (outcome : Reply → Outcome) (replies : List Reply) → 1 ≤ length replies
-    → IsOver (next_in (after_replies replies (Ask op (λ r. End (outcome r)))))
-ask_ends op outcome [] h = absurd (omega arith)
-ask_ends op outcome (r ∷ replies) h = over_stays replies (outcome r)
+  -- nandwrite: a question for each block, a write for each unit, and what each trouble costs
+  write_ends : (left block place : ℕ) (units : List (List ℕ)) (c : WriteCounts) → place ≤ g.pages_per_block → (weak : ℕ)
+      → EndsIn (write_blocks g m left block place units c) weak (bound left (length units) weak)
+  write_ends left block place [] c below weak = λ replies trouble enough. over_stays replies _
+  write_ends zero block place (unit ∷ units) c below weak = λ replies trouble enough. over_stays replies _
+  write_ends (suc left) block place (unit ∷ units) c below weak =
+      in_later _ weak (suc (bound left (length (unit ∷ units)) weak)) (bound (suc left) (length (unit ∷ units)) weak) (omega arith)
+      (in_ask _ _ weak (bound left (length (unit ∷ units)) weak) (λ r. refl) (λ r. in_either (says_bad r) _ _ weak (bound left (length (unit ∷ units)) weak)
+      (λ e. write_ends left (block + 1) 0 (unit ∷ units) _ (omega arith) weak)
+      (λ e. block_units_end block left (unit ∷ units) c (λ us d. write_blocks g m left (block + 1) 0 us d)
+      (λ us d w. write_ends left (block + 1) 0 us d (omega arith) w) 0 place (unit ∷ units) below (omega arith) weak)))
 
--- a dump of one page: a question for its block, and its read
-dump_ends : (g : Geometry) (d : Dumping) (all_blocks : Bool) (replies : List Reply) → 2 ≤ length replies
-    → IsOver (next_in (after_replies replies (if all_blocks then read_left g d else look_left g d)))
-dump_ends g d true replies h = ask_ends (page_read d) (page_dumped g d) replies (omega arith)
-dump_ends g d false [] h = absurd (omega arith)
-dump_ends g d false (r ∷ replies) h = looked (says_bad r)
-  where
-    looked : (bad : Bool) → IsOver (next_in (after_replies replies (if bad then End (page_passed g d) else read_left g d)))
-    looked true = over_stays replies (page_passed g d)
-    looked false = ask_ends (page_read d) (page_dumped g d) replies (omega arith)
+length-units_of : (size n : ℕ) (bytes : List ℕ) → length (units_of size n bytes) ≡ n
+length-units_of size zero bytes = refl
+length-units_of size (suc n) bytes = ap suc (length-units_of size n (drop size bytes))
 
--- a first script ends in time
-first_ends : (g : Geometry) (command : Command) (weak : ℕ) → CanRun g command → EndsIn (first_script g command) weak (short_cost g command weak)
-first_ends g (FlashErase dev blocks no_scan start count) weak h replies trouble few = erase_ends dev (suc (blocks - 1)) 0 0 0 0 replies (omega (arith, h.size.0))
-first_ends g (NandWrite dev blocks mark raw oob pad off bytes) weak h replies trouble few =
-    write_ends g (bytes ++ replicate (g.page - length bytes) 0xff) dev raw (suc (blocks - 1)) 0 0 0 weak replies trouble (omega (arith, h.size.0))
-first_ends g (NandDump dev blocks off len raw oob bad) weak h replies trouble few = dump_ends g (dump_at g dev off raw bad) (is_dump_bad bad) replies few
-first_ends g (NandTest dev blocks keep mark seed passes off len) weak h replies trouble few = absurd h
-first_ends g (MarkBad dev blocks block) weak h replies trouble few = absurd h
-first_ends g (AskBad dev blocks block) weak h replies trouble few = ask_ends _ AskedBad replies few
-first_ends g (AskStats dev blocks) weak h replies trouble few = ask_ends _ stats_outcome replies few
+nandwrite_ends : (g : Geometry) (m : WriteMode) (blocks off : ℕ) (bytes : List ℕ) (weak : ℕ)
+    → EndsIn (write_from_start g m blocks off bytes) weak (bound g m (blocks - off / block_size g) (unit_count g m.oob bytes) weak)
+nandwrite_ends g m blocks off bytes weak =
+    subst (λ (n : ℕ). EndsIn (write_from_start g m blocks off bytes) weak (bound g m (blocks - off / block_size g) n weak))
+    (length-units_of (unit_size g m.oob) (unit_count g m.oob bytes) bytes)
+    (write_ends g m (blocks - off / block_size g) (off / block_size g) (off / g.page % g.pages_per_block)
+    (units_of (unit_size g m.oob) (unit_count g m.oob bytes) bytes) (record { pages = 0; skipped = 0; failed = 0 })
+    (let below = mod-lt (off / g.page) (pages-some g) in omega (arith, below)) weak)
 
--- a command that can be run ends after at most its cost
-pub command_ends : (g : Geometry) (command : Command) → CanRun g command → CommandsEnd g command
-command_ends g command h weak replies =
-    let Ends : Script → Type 0 = λ s. troubles replies s ≤ weak → cost_of g command weak ≤ length replies → IsOver (next_in (after_replies replies s)) in
-    subst Ends (sym (script_of-first g command h))
-    (λ trouble few. first_ends g command weak h replies trouble (rw (← cost_of-short g command weak h) few))
+-- a command whose operations no trouble makes more
+steady_ends : (g : Geometry) (command : Command) (n : ℕ) → Ends (script_of g command) n → ((weak : ℕ) → n ≤ cost_of g command weak) → CommandsEnd g command
+steady_ends g command n h few weak replies trouble enough = let f = few weak in h replies (omega (arith, f))
 
--- a command that is over makes no trouble
-over_troubles : (replies : List Reply) (outcome : Outcome) → troubles replies (End outcome) ≡ 0
-over_troubles [] outcome = refl
-over_troubles (r ∷ replies) outcome = refl
+steady_ends_at_last : (g : Geometry) (command : Command) (n weak : ℕ) → Ends (script_of g command) n → n ≤ cost_of g command weak → EndsAtLast g command weak
+steady_ends_at_last g command n weak h few replies enough = h replies (omega (arith, few))
 
-module _ (g : Geometry) (unit : List ℕ) (dev : ℕ) (raw : Bool) where
-  -- at most one page of a block is in trouble
-  program_troubles : (block rest skipped failed : ℕ)
-      → ((skipped failed : ℕ) (replies : List Reply) → troubles replies (later g unit dev raw block rest skipped failed) ≤ rest)
-      → (replies : List Reply) → troubles replies (program g unit dev raw block rest skipped failed) ≤ rest + 1
-  program_troubles block rest skipped failed few [] = omega arith
-  program_troubles block rest skipped failed few (ProgramFailed ∷ []) = omega (arith, trouble_in g unit dev raw block ProgramFailed)
-  program_troubles block rest skipped failed few (ProgramFailed ∷ (s ∷ replies)) =
-      omega (arith, trouble_in g unit dev raw block ProgramFailed, few skipped (failed + 1) replies)
-  program_troubles block rest skipped failed few (BadBlock ∷ replies) =
-      omega (arith, trouble_in g unit dev raw block BadBlock, few (skipped + 1) failed replies)
-  program_troubles block rest skipped failed few (MarkerByte ∷ replies) =
-      rw (over_troubles replies (Written 0 skipped failed AtMarkerByte)) (omega (arith, trouble_in g unit dev raw block MarkerByte))
-  program_troubles block rest skipped failed few (r ∷ replies) =
-      rw (over_troubles replies (Written 1 skipped failed Whole)) (omega (arith, trouble_in g unit dev raw block r))
+one_ends : (op : Op) (outcome : Reply → Outcome) → Ends (Ask op (λ r. End (outcome r))) 1
+one_ends op outcome = ends_ask op (λ r. End (outcome r)) 0 (λ r. ends_over (outcome r) 0)
 
-  scanned_troubles : (block rest skipped failed : ℕ)
-      → ((skipped failed : ℕ) (replies : List Reply) → troubles replies (later g unit dev raw block rest skipped failed) ≤ rest)
-      → (bad : Bool) (replies : List Reply)
-      → troubles replies (if bad then later g unit dev raw block rest (skipped + 1) failed else program g unit dev raw block rest skipped failed) ≤ rest + 1
-  scanned_troubles block rest skipped failed few true replies = omega (arith, few (skipped + 1) failed replies)
-  scanned_troubles block rest skipped failed few false replies = program_troubles block rest skipped failed few replies
+same-le : (n : ℕ) → n ≤ n
+same-le n = omega arith
 
-  write_troubles : (left block skipped failed : ℕ) (replies : List Reply) → troubles replies (from_block g unit dev raw left block skipped failed) ≤ left
-  write_troubles zero block skipped failed replies = rw (over_troubles replies (Written 0 skipped failed NoSpace)) (omega arith)
-  write_troubles (suc left) block skipped failed [] = omega arith
-  write_troubles (suc left) block skipped failed (r ∷ replies) =
-      let Few : Script → Type 0 = λ s. 0 + troubles replies (if says_bad r then later g unit dev raw block left (skipped + 1) failed else s) ≤ suc left in
-      let few : troubles replies (if says_bad r then later g unit dev raw block left (skipped + 1) failed else program g unit dev raw block left skipped failed)
-      ≤ left + 1 = scanned_troubles block left skipped failed (λ s f. write_troubles left (block + 1) s f) (says_bad r) replies in
-      subst Few (sym (write_pages-one g (write_mode dev raw) unit block left skipped failed)) (omega (arith, few))
+-- a command ends after at most its cost
+pub command_ends : (g : Geometry) (command : Command) → Fits g command → CommandsEnd g command
+command_ends g (FlashErase dev blocks no_scan start count) h =
+    steady_ends g (FlashErase dev blocks no_scan start count) _ (erase_ends dev no_scan (count_or_rest count start blocks) start 0 0 0) (λ weak. same-le _)
+command_ends g (NandWrite dev blocks mark raw oob pad off bytes) h = λ weak.
+    nandwrite_ends g (record { dev = dev; mark = mark; raw = raw; oob = oob }) blocks off bytes weak
+command_ends g (NandDump dev blocks off len raw oob bad) h =
+    steady_ends g (NandDump dev blocks off len raw oob bad) _ (dump_ends g (record { dev = dev; raw = raw; oob = oob; bad = bad }) _ _ _ _) (λ weak. same-le _)
+command_ends g (NandTest dev blocks keep mark seed passes off len) h = absurd h
+command_ends g (MarkBad dev blocks block) h = steady_ends g (MarkBad dev blocks block) 1 (one_ends _ _) (λ weak. same-le 1)
+command_ends g (AskBad dev blocks block) h = steady_ends g (AskBad dev blocks block) 1 (one_ends _ _) (λ weak. same-le 1)
+command_ends g (AskStats dev blocks) h = steady_ends g (AskStats dev blocks) 1 (one_ends _ _) (λ weak. same-le 1)
 
--- where a nandwrite begins with the first block, each block of its device may be in trouble
-pub all_troubled : (g : Geometry) (dev blocks : ℕ) (mark raw oob pad : Bool) (off : ℕ) (bytes : List ℕ) → WritesOneUnit g blocks mark oob pad off bytes
-    → troubled_blocks g (NandWrite dev blocks mark raw oob pad off bytes) ≡ blocks
-all_troubled g dev blocks mark raw oob pad off bytes h = rw h.from_first (rw (zero-div (block_size g)) (sub-zero blocks))
-
-first_ends_at_last : (g : Geometry) (command : Command) → CanRun g command → (replies : List Reply)
-    → short_cost g command (troubled_blocks g command) ≤ length replies → IsOver (next_in (after_replies replies (first_script g command)))
-first_ends_at_last g (NandWrite dev blocks mark raw oob pad off bytes) h replies few =
-    let unit : List ℕ = bytes ++ replicate (g.page - length bytes) 0xff in
-    let trouble = write_troubles g unit dev raw (suc (blocks - 1)) 0 0 0 replies in
-    let all = all_troubled g dev blocks mark raw oob pad off bytes h in
-    let enough : blocks + 1 + (g.pages_per_block + 2) * blocks ≤ length replies =
-    subst (λ n. blocks + 1 + (g.pages_per_block + 2) * n ≤ length replies) all few in
-    write_ends g unit dev raw (suc (blocks - 1)) 0 0 0 (suc (blocks - 1)) replies trouble (omega (arith, h.size.0, enough))
-first_ends_at_last g (FlashErase dev blocks no_scan start count) h replies few = erase_ends dev (suc (blocks - 1)) 0 0 0 0 replies (omega (arith, h.size.0))
-first_ends_at_last g (NandDump dev blocks off len raw oob bad) h replies few = dump_ends g (dump_at g dev off raw bad) (is_dump_bad bad) replies few
-first_ends_at_last g (NandTest dev blocks keep mark seed passes off len) h replies few = absurd h
-first_ends_at_last g (MarkBad dev blocks block) h replies few = absurd h
-first_ends_at_last g (AskBad dev blocks block) h replies few = ask_ends _ AskedBad replies few
-first_ends_at_last g (AskStats dev blocks) h replies few = ask_ends _ stats_outcome replies few
-
--- a command that can be run ends whatever the replies are
-pub command_ends_at_last : (g : Geometry) (command : Command) → CanRun g command → EndsAtLast g command (troubled_blocks g command)
-command_ends_at_last g command h replies few =
-    let Ends : Script → Type 0 = λ s. IsOver (next_in (after_replies replies s)) in
-    subst Ends (sym (script_of-first g command h)) (first_ends_at_last g command h replies (rw (← cost_of-short g command (troubled_blocks g command) h) few))
+-- a command ends whatever the replies are
+pub command_ends_at_last : (g : Geometry) (command : Command) → Fits g command → EndsAtLast g command (troubled_blocks g command)
+command_ends_at_last g (FlashErase dev blocks no_scan start count) h =
+    steady_ends_at_last g (FlashErase dev blocks no_scan start count) _ 0 (erase_ends dev no_scan (count_or_rest count start blocks) start 0 0 0) (same-le _)
+command_ends_at_last g (NandWrite dev blocks mark raw oob pad off bytes) h = λ replies.
+    command_ends g (NandWrite dev blocks mark raw oob pad off bytes) h (blocks - off / block_size g) replies
+    (troubles_are_few g dev blocks mark raw oob pad off bytes replies)
+command_ends_at_last g (NandDump dev blocks off len raw oob bad) h =
+    steady_ends_at_last g (NandDump dev blocks off len raw oob bad) _ 0 (dump_ends g (record { dev = dev; raw = raw; oob = oob; bad = bad }) _ _ _ _) (same-le _)
+command_ends_at_last g (NandTest dev blocks keep mark seed passes off len) h = absurd h
+command_ends_at_last g (MarkBad dev blocks block) h = steady_ends_at_last g (MarkBad dev blocks block) 1 0 (one_ends _ _) (same-le 1)
+command_ends_at_last g (AskBad dev blocks block) h = steady_ends_at_last g (AskBad dev blocks block) 1 0 (one_ends _ _) (same-le 1)
+command_ends_at_last g (AskStats dev blocks) h = steady_ends_at_last g (AskStats dev blocks) 1 0 (one_ends _ _) (same-le 1)

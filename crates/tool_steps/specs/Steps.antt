@@ -4,10 +4,14 @@ use Rattle.nand_model.specs.declared.geometry.Geometry.{Geometry}
 use Rattle.nand_model.specs.declared.words.Reply.{Reply}
 use Rattle.nand_model.specs.declared.words.Command.{Command}
 use Rattle.nand_model.specs.declared.words.Command.TheVariants.{NandWrite}
-use Rattle.command_model.specs.Command.{Script, Next, Do, Over, next_in, after_replies, script_of, cost_of}
+use Rattle.command_model.specs.Command.{Script, End, Next, Do, Over, next_in, after_replies, script_of, cost_of}
 use Rattle.command_model.specs.Laws.{IsOver}
 use Rattle.tool_steps.specs.declared.step.Step.{Step}
 use Rattle.tool_steps.specs.declared.step.Step.TheVariants.{Do as Perform, Done as Finished}
+use Rattle.tool_steps.specs.declared.step.Turn.{Turn}
+use Rattle.tool_steps.specs.declared.step.Turn.TheVariants.{Ask as AskNow, End as EndNow}
+use Rattle.tool_steps.specs.declared.step.State.{State}
+use Rattle.tool_steps.specs.declared.step.State.TheVariants.{At, Over as IsAtEnd}
 
 -- the replies that a call hands over
 abbrev pub handed : Option Reply → List Reply
@@ -26,6 +30,17 @@ step_of (Over outcome) = Finished
 abbrev pub is_over : Next → Bool
 is_over (Do op) = false
 is_over (Over outcome) = true
+
+-- what is left of a command that stands so
+abbrev pub state_left : {P : Type 0} → (P → Script) → State P → Script
+state_left left (At place) = left place
+state_left left (IsAtEnd outcome) = End outcome
+
+-- a turn with which this is left comes to a script: its operation is asked for, or it is over with
+-- its outcome
+abbrev pub TurnsTo : Turn → (left script : Script) → Type 0
+TurnsTo (AskNow op) left script = (left ≡ script) × (next_in script ≡ Do op)
+TurnsTo (EndNow outcome) left script = script ≡ End outcome
 
 -- a tool has had these replies to a command's operations
 abbrev pub HasHad : Geometry → Command → List Reply → Script → Type 0

@@ -1,20 +1,23 @@
 // How many operations a command takes at most.
-ghost use Rattle.std.specs.Prelude.{◌≡◌, [], ◌+◌, ◌*◌, ◌^◌, ◌<◌, ◌≤◌, not};
+ghost use Rattle.std.specs.Prelude.{◌≡◌, [], ◌+◌, ◌-◌, ◌/◌, ◌*◌, ◌^◌, ◌<◌, ◌≤◌, not};
 ghost use Rattle.nand_model.specs.declared.geometry.Geometry.{Geometry as Sizes};
-ghost use Rattle.command_model.specs.Command.{cost_of, next_step};
+ghost use Rattle.command_model.specs.Command.{block_size, blocks_touched, cost_of, next_step, unit_count};
 ghost use Rattle.command_model.specs.Cost.{troubled_blocks};
 ghost use Rattle.command_model.specs.Laws.{CommandsEnd};
-ghost use Rattle.command_model.specs.Runnable.{CanRun};
+ghost use Rattle.command_model.specs.Runnable.{DumpsPages, Fits, WritesPages};
 ghost use Rattle.command_model.specs.Command.{command_blocks};
+ghost use Rattle.tool_steps.specs.Ranges.{range_pages};
 ghost use Rattle.tool_steps.specs.Steps.{asks_something, is_over, EndsAtLast};
 
+use crate::copies::{block_len, unit_len};
+use crate::ranges::pages_in_range;
 use nand_model::{Command, Geometry, Part};
 
 /// Whether a command asks for an operation: false exactly for a nandwrite of no data. It takes no
 /// memory.
 pub fn has_operation(command: &Command) -> bool
     ensures asked { result ≡ asks_something command.now }
-    ensures first { (g : Sizes) → CanRun g command.now → result
+    ensures first { (g : Sizes) → Fits g command.now → result
         ≡ not (is_over (next_step g command.now [])) }
 {
     match command {
@@ -34,21 +37,50 @@ pub fn has_operation(command: &Command) -> bool
 /// For a nandwrite with the number of the device's blocks from the one of its offset on as `weak`
 /// it bounds the operations whatever the replies are.
 pub fn cost(command: &Command, g: &Geometry, part: &Part, weak: u32) -> u64
-    requires runs { CanRun g.now command.now }
+    requires runs { Fits g.now command.now }
     requires blocks { command_blocks command.now ≡ part.now.count }
     ensures bound { result ≡ cost_of g.now command.now weak }
     ensures ends { CommandsEnd g.now command.now }
     ensures ends_at_last { EndsAtLast g.now command.now (troubled_blocks g.now command.now) }
 {
+    most(command, g, part.count, weak)
+}
+
+// The bound, by command.
+fn most(command: &Command, g: &Geometry, blocks: u32, weak: u32) -> u64
+    requires runs { Fits g.now command.now }
+    requires blocks { command_blocks command.now ≡ blocks }
+    ensures { result ≡ cost_of g.now command.now weak }
+{
     match command {
-        Command::FlashErase { .. } => 2 * u64::from(part.count),
-        Command::NandWrite { .. } => {
-            u64::from(part.count) + 1 + trouble_cost(g.pages_per_block, weak)
+        Command::FlashErase { start, count, .. } => {
+            let blocks = if *count == 0 { blocks - *start } else { *count };
+            2 * u64::from(blocks)
         }
-        Command::NandDump { .. } => 2,
+        Command::NandWrite {
+            oob,
+            off,
+            bytes,
+            ..
+        } => {
+            write_cost(g, blocks, *oob, *off, bytes.as_slice())
+                + trouble_cost(g.pages_per_block, weak)
+        }
+        Command::NandDump { off, len, .. } => dump_cost(g, blocks, *off, *len),
         Command::IsBad { .. } | Command::MarkBad { .. } | Command::Stats { .. } => 1,
         Command::NandTest { .. } => unreachable!(),
     }
+}
+
+// The operations of a nandwrite without trouble: a question for each block, and a write of each
+// unit.
+fn write_cost(g: &Geometry, blocks: u32, oob: bool, off: u64, bytes: &[u8]) -> u64
+    requires { WritesPages g.now blocks off bytes.now }
+    ensures cost { result ≡ (blocks - off / block_size g.now) + unit_count g.now oob bytes.now }
+    ensures small { result < 2 ^ 40 }
+{
+    let len = u64::from(unit_len(g, oob));
+    u64::from(blocks) - off / block_len(g) + (bytes.len() as u64 + (len - 1)) / len
 }
 
 // The operations that the troubles of a nandwrite cost: the rest of a block, with its erase and its
@@ -59,4 +91,16 @@ fn trouble_cost(pages_per_block: u32, weak: u32) -> u64
     ensures small { result < 2 ^ 40 }
 {
     (u64::from(pages_per_block) + 2) * u64::from(weak)
+}
+
+// The operations of a nanddump: a question for each block that it touches, and a read of each page.
+fn dump_cost(g: &Geometry, blocks: u32, off: u64, len: u64) -> u64
+    requires { DumpsPages g.now blocks off len }
+    ensures { let pages = range_pages g.now blocks off len in
+        result ≡ pages + blocks_touched g.now pages (off / g.now.page) }
+{
+    let pages = u64::from(pages_in_range(g, blocks, off, len));
+    let first = off / u64::from(g.page);
+    let per_block = u64::from(g.pages_per_block);
+    pages + ((first + pages + (per_block - 1)) / per_block - first / per_block)
 }

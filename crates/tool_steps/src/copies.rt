@@ -1,15 +1,16 @@
 // Bytes that a command copies: units, images, bodies and replies.
-ghost use Rattle.std.specs.Prelude.{◌≡◌, ◌≤◌, ◌-◌, ◌++◌, length, take, replicate, IfOk};
+ghost use Rattle.std.specs.Prelude.{◌≡◌, ◌≤◌, ◌<◌, ◌+◌, ◌-◌, ◌^◌, ◌++◌, length, take, drop, replicate, IfOk};
+ghost use Rattle.command_model.specs.Command.{block_size, unit_size};
 
-use nand_model::{Bytes, Reply};
+use nand_model::{Bytes, Geometry, Reply};
 use std::alloc::{AllocError, Global};
 
 // These bytes, and then 0xFF up to so many.
-pub fn padded(alloc: Global, bytes: &[u8], len: u32) -> Result<Bytes, AllocError>
+pub fn padded(alloc: Global, bytes: &[u8], len: usize) -> Result<Bytes, AllocError>
     requires { length bytes.now ≤ len }
     ensures { IfOk result (λ b. b ≡ bytes.now ++ replicate (len - length bytes.now) 0xff) }
 {
-    with_erased(alloc, bytes, len as usize - bytes.len())
+    with_erased(alloc, bytes, len - bytes.len())
 }
 
 // These bytes, and then so many 0xFF.
@@ -61,4 +62,28 @@ pub fn copy_of(alloc: Global, reply: &Reply) -> Result<Reply, AllocError>
             image: Bytes::from_slice(alloc, image.as_slice())?,
         },
     })
+}
+
+// At most `len` of these bytes, from `from` on.
+pub fn part_of(bytes: &[u8], from: usize, len: usize) -> &[u8]
+    requires { from + len < 2 ^ 64 }
+    ensures { result.now ≡ take len (drop from bytes.now) }
+{
+    let first = from.min(bytes.len());
+    let end = (from + len).min(bytes.len());
+    &bytes[first..end]
+}
+
+// The bytes of a page that a command handles: its body, with `-o` its spare too.
+pub fn unit_len(g: &Geometry, oob: bool) -> u32
+    ensures { result ≡ unit_size g.now oob }
+{
+    if oob { g.raw_len() } else { g.page }
+}
+
+// The bytes of the bodies of a block.
+pub fn block_len(g: &Geometry) -> u64
+    ensures { result ≡ block_size g.now }
+{
+    u64::from(g.pages_per_block) * u64::from(g.page)
 }

@@ -7,6 +7,7 @@ mod bound;
 mod copies;
 mod dumping;
 mod erasing;
+mod ranges;
 mod replies;
 mod step;
 #[cfg(test)]

@@ -1,5 +1,5 @@
 // What a tool does next.
-use nand_model::Op;
+use nand_model::{Op, Outcome};
 
 /// What a command does next.
 #[derive(Drop)]
@@ -8,4 +8,20 @@ pub enum Step {
     Do(Op),
     /// The command is over.
     Done,
+}
+
+// What comes of a reply to a command.
+#[derive(Drop)]
+pub enum Turn {
+    // This operation comes next.
+    Ask(Op),
+    // The command is over.
+    End(Outcome),
+}
+
+// Where a command stands, or the outcome with which it is over.
+#[derive(Drop)]
+pub enum State<P> {
+    At(P),
+    Over(Outcome),
 }

@@ -1,20 +1,21 @@
 // A command that is resumed at each reply.
-ghost use Rattle.std.specs.Prelude.{◌≡◌, ◌++◌, ℕ, List, true, option_copied, IfOk, OnOk, OnErr};
+ghost use Rattle.std.specs.Prelude.{◌≡◌, ◌++◌, List, true, option_copied, IfOk, OnOk, OnErr};
 ghost use Rattle.nand_model.specs.declared.geometry.Geometry.{Geometry as Sizes};
 ghost use Rattle.nand_model.specs.declared.words.Command.{Command as Ordered};
 ghost use Rattle.nand_model.specs.declared.words.Reply.{Reply as Replied};
 ghost use Rattle.command_model.specs.Command.{Over, next_in, script_of};
-ghost use Rattle.command_model.specs.Runnable.{CanRun};
-ghost use Rattle.tool_steps.specs.Steps.{handed, after_last, step_of, is_over, HasHad};
-ghost use Rattle.tool_steps.specs.Work.{script_left, unit_bytes};
+ghost use Rattle.command_model.specs.Runnable.{Fits, WritesPages};
+ghost use Rattle.tool_steps.specs.Steps.{handed, after_last, step_of, is_over, state_left, HasHad};
+ghost use Rattle.tool_steps.specs.Work.{work_left};
+ghost use Rattle.tool_steps.specs.Writing.{write_from_start, write_mode};
 
-use crate::Step;
-use crate::copies::padded;
 use crate::dumping::Dumping;
 use crate::erasing::Erasing;
-use crate::work::{State, Work};
+use crate::step::{State, Step, Turn};
+use crate::work::Work;
 use crate::writing::Writing;
-use nand_model::{Bytes, Command, Geometry, Outcome, Reply};
+use crate::{dumping, writing};
+use nand_model::{Command, Geometry, Outcome, Reply};
 use std::alloc::{AllocError, Global};
 
 /// A command that is resumed at each reply. What is left of it is a script: the end with the
@@ -23,8 +24,7 @@ use std::alloc::{AllocError, Global};
 pub struct Tool {
     alloc: Global,
     geometry: Geometry,
-    unit: Bytes,
-    state: State,
+    state: State<Work>,
 }
 
 impl Tool {
@@ -32,16 +32,13 @@ impl Tool {
 
     /// The command at its start, on a device of a chip with these sizes.
     pub fn start(alloc: Global, command: &Command, g: &Geometry) -> Result<Tool, AllocError>
-        requires { CanRun g.now command.now }
+        requires { Fits g.now command.now }
         ensures { IfOk result (λ tool. left_of tool ≡ script_of g.now command.now) }
     {
-        let state = first_state(command, g);
-        let unit = unit_of(alloc, command, g)?;
         Ok(Tool {
             alloc,
             geometry: *g,
-            unit,
-            state,
+            state: first_state(alloc, command, g)?,
         })
     }
 
@@ -71,20 +68,19 @@ impl Tool {
             (left_of self.new ≡ after_last (option_copied last.entry) (left_of self.old)) }
         ensures no_memory { OnErr result (self.new ≡ self.old) }
     {
-        if let State::At(work) = &self.state {
-            if let Some(reply) = last {
-                let later = work.after(self.alloc, &self.geometry, reply)?;
-                let step = step_at(self.alloc, &self.geometry, self.unit.as_slice(), &later)?;
-                self.state = later;
-                return Ok(step);
+        let State::At(work) = &mut self.state else {
+            return Ok(Step::Done);
+        };
+        let Some(reply) = last else {
+            return Ok(Step::Do(work.op(self.alloc, &self.geometry)?));
+        };
+        match work.answered(self.alloc, &self.geometry, reply)? {
+            Turn::Ask(op) => Ok(Step::Do(op)),
+            Turn::End(outcome) => {
+                self.state = State::Over(outcome);
+                Ok(Step::Done)
             }
         }
-        step_at(
-            self.alloc,
-            &self.geometry,
-            self.unit.as_slice(),
-            &self.state,
-        )
     }
 
     /// Whether `next` with this argument answers `Done`. It takes no memory.
@@ -95,7 +91,7 @@ impl Tool {
         match (&self.state, last) {
             (State::Over(_), _) => true,
             (State::At(_), None) => false,
-            (State::At(work), Some(reply)) => work.ends_at(reply),
+            (State::At(work), Some(reply)) => work.ends_at(&self.geometry, reply),
         }
     }
 
@@ -123,77 +119,84 @@ impl Tool {
     }
 }
 
-// The step of a command that stands here.
-fn step_at(alloc: Global, g: &Geometry, unit: &[u8], state: &State) -> Result<Step, AllocError>
-    ensures { IfOk result (λ step. step
-        ≡ step_of (next_in (script_left g.now unit.now state.now))) }
-{
-    match state {
-        State::At(work) => Ok(Step::Do(work.op(alloc, g, unit)?)),
-        State::Over(_) => Ok(Step::Done),
-    }
-}
-
 // Where a command begins.
-fn first_state(command: &Command, g: &Geometry) -> State
-    requires { CanRun g.now command.now }
-    ensures { script_left g.now (unit_bytes g.now command.now) result
-        ≡ script_of g.now command.now }
+fn first_state(alloc: Global, command: &Command, g: &Geometry) -> Result<State<Work>, AllocError>
+    requires { Fits g.now command.now }
+    ensures { IfOk result (λ state. state_left (work_left g.now) state
+        ≡ script_of g.now command.now) }
 {
     match command {
-        Command::FlashErase { dev, blocks, .. } => State::At(Work::Erasing(Erasing {
-            dev: *dev,
-            block: 0,
-            rest: *blocks - 1,
-            erased: 0,
-            failed: 0,
-        })),
+        Command::FlashErase {
+            dev,
+            blocks,
+            no_scan,
+            start,
+            count,
+        } => Ok(State::At(Work::Erasing(Erasing::start(*dev, *blocks, *no_scan, *start, *count)))),
         Command::NandWrite {
             dev,
             blocks,
+            mark,
             raw,
-            ..
-        } => State::At(Work::Scanning(Writing {
-            dev: *dev,
-            raw: *raw,
-            block: 0,
-            rest: *blocks - 1,
-            skipped: 0,
-            failed: 0,
-        })),
-        Command::NandDump {
-            dev,
+            oob,
             off,
-            raw,
-            bad,
+            bytes,
             ..
         } => {
-            let page = (*off / u64::from(g.page)) as u32;
-            let dumping = Dumping {
+            let called = writing::Called {
                 dev: *dev,
-                page,
+                mark: *mark,
                 raw: *raw,
+                oob: *oob,
+            };
+            first_write(alloc, g, called, *blocks, *off, bytes.as_slice())
+        }
+        Command::NandDump {
+            dev,
+            blocks,
+            off,
+            len,
+            raw,
+            oob,
+            bad,
+        } => {
+            let called = dumping::Called {
+                dev: *dev,
+                raw: *raw,
+                oob: *oob,
                 bad: *bad,
             };
-            State::At(dumping.first())
+            let dumping = Dumping::start(alloc, g, called, *blocks, *off, *len)?;
+            Ok(State::At(Work::Dumping(dumping)))
         }
-        Command::IsBad { dev, block, .. } => State::At(Work::Asking {
+        Command::MarkBad { dev, block, .. } => Ok(State::At(Work::Marking {
             dev: *dev,
             block: *block,
-        }),
-        Command::Stats { dev, .. } => State::At(Work::Counting { dev: *dev }),
+        })),
+        Command::IsBad { dev, block, .. } => Ok(State::At(Work::Asking {
+            dev: *dev,
+            block: *block,
+        })),
+        Command::Stats { dev, .. } => Ok(State::At(Work::Counting { dev: *dev })),
         Command::NandTest { .. } => unreachable!(),
-        Command::MarkBad { .. } => unreachable!(),
     }
 }
 
-// The unit of a nandwrite, filled up with 0xFF; no bytes for other commands.
-fn unit_of(alloc: Global, command: &Command, g: &Geometry) -> Result<Bytes, AllocError>
-    requires { CanRun g.now command.now }
-    ensures { IfOk result (λ unit. unit ≡ unit_bytes g.now command.now) }
+// Where a nandwrite begins.
+fn first_write(
+    alloc: Global,
+    g: &Geometry,
+    called: writing::Called,
+    blocks: u32,
+    off: u64,
+    bytes: &[u8],
+) -> Result<State<Work>, AllocError>
+    requires { WritesPages g.now blocks off bytes.now }
+    ensures { IfOk result (λ state. state_left (work_left g.now) state
+        ≡ write_from_start g.now (write_mode called) blocks off bytes.now) }
 {
-    match command {
-        Command::NandWrite { bytes, .. } => padded(alloc, bytes.as_slice(), g.page),
-        _ => Bytes::filled(alloc, 0xff, 0),
+    match Writing::start(alloc, g, called, blocks, off, bytes)? {
+        State::At(writing) => Ok(State::At(Work::Writing(writing))),
+        State::Over(outcome) => Ok(State::Over(outcome)),
     }
 }

@@ -1,68 +1,49 @@
 // Where a command stands between two replies.
-ghost use Rattle.std.specs.Prelude.{◌≡◌, ◌<◌, ℕ, List, [], ◌∷◌, IfOk};
+ghost use Rattle.std.specs.Prelude.{◌≡◌, [], ◌∷◌, IfOk, OnErr};
 
 use crate::copies::copy_of;
 use crate::dumping::Dumping;
 use crate::erasing::Erasing;
-use crate::replies::{counted, tells_bad};
+use crate::replies::counted;
+use crate::step::{State, Turn};
 use crate::writing::Writing;
 use nand_model::{Geometry, Op, Outcome, Reply};
 use std::alloc::{AllocError, Global};
 
-/// What a command that is not over waits for.
-#[derive(Clone, Copy)]
+/// A command that is not over, and what it waits for.
+#[derive(Drop)]
 pub enum Work {
-    /// flash_erase: the erase of a block.
+    /// flash_erase.
     Erasing(Erasing),
-    /// nandwrite: whether a block is bad.
-    Scanning(Writing),
-    /// nandwrite: the program of the unit into the first page of a block.
-    Programming(Writing),
-    /// nandwrite: the erase of a block whose program failed.
-    Clearing(Writing),
-    /// nanddump: whether the page's block is bad.
-    Looking(Dumping),
-    /// nanddump: the read of the page.
-    Reading(Dumping),
+    /// nandwrite.
+    Writing(Writing),
+    /// nanddump.
+    Dumping(Dumping),
+    /// markbad: the mark of a block.
+    Marking { dev: u32, block: u32 },
     /// isbad: the state of a block.
     Asking { dev: u32, block: u32 },
     /// stats: the statistics of a device.
     Counting { dev: u32 },
 }
 
-/// Where a command stands.
-#[derive(Drop)]
-pub enum State {
-    At(Work),
-    Over(Outcome),
-}
-
 impl Work {
     ghost use Rattle.command_model.specs.Command.{Do, after_replies, next_in};
-    ghost use Rattle.nand_model.specs.declared.geometry.Geometry.{Geometry as Sizes};
-    ghost use Rattle.tool_steps.specs.Steps.{is_over};
-    ghost use Rattle.tool_steps.specs.Work.{work_left, script_left};
+    ghost use Rattle.tool_steps.specs.Steps.{is_over, TurnsTo};
+    ghost use Rattle.tool_steps.specs.Work.{work_left};
 
     /// The operation whose reply is waited for.
-    pub fn op(&self, alloc: Global, g: &Geometry, unit: &[u8]) -> Result<Op, AllocError>
-        ensures { IfOk result (λ op. next_in (work_left g.now unit.now self.now) ≡ Do op) }
+    pub fn op(&self, alloc: Global, g: &Geometry) -> Result<Op, AllocError>
+        ensures { IfOk result (λ op. next_in (work_left g.now self.now) ≡ Do op) }
     {
         match self {
-            Work::Erasing(erasing) => Ok(Op::Erase {
-                dev: erasing.dev,
-                block: erasing.block,
+            Work::Erasing(erasing) => Ok(erasing.op()),
+            Work::Writing(writing) => writing.op(alloc, g),
+            Work::Dumping(dumping) => Ok(dumping.op(g)),
+            Work::Marking { dev, block } => Ok(Op::Mark {
+                dev: *dev,
+                block: *block,
             }),
-            Work::Scanning(writing) => Ok(Op::IsBad {
-                dev: writing.dev,
-                block: writing.block,
-            }),
-            Work::Programming(writing) => writing.program(alloc, g, unit),
-            Work::Clearing(writing) => Ok(Op::Erase {
-                dev: writing.dev,
-                block: writing.block,
-            }),
-            Work::Looking(dumping) => Ok(dumping.question(g)),
-            Work::Reading(dumping) => Ok(dumping.read()),
             Work::Asking { dev, block } => Ok(Op::IsBad {
                 dev: *dev,
                 block: *block,
@@ -71,52 +52,41 @@ impl Work {
         }
     }
 
-    /// Where the command stands after the reply.
-    pub fn after(&self, alloc: Global, g: &Geometry, reply: &Reply) -> Result<State, AllocError>
-        ensures { IfOk result (λ state. (unit : List ℕ) → script_left g.now unit state
-            ≡ after_replies (reply.now ∷ []) (work_left g.now unit self.now)) }
+    /// The command takes the reply. Where memory runs out, it is as before.
+    pub fn answered(
+        &mut self,
+        alloc: Global,
+        g: &Geometry,
+        reply: &Reply,
+    ) -> Result<Turn, AllocError>
+        ensures turn { IfOk result (λ turn. TurnsTo turn (work_left g.now self.new)
+            (after_replies (reply.now ∷ []) (work_left g.now self.old))) }
+        ensures no_memory { OnErr result (self.new ≡ self.old) }
     {
         match self {
-            Work::Erasing(erasing) => Ok(erasing.after(reply)),
-            Work::Scanning(writing) => Ok(writing.scanned(reply)),
-            Work::Programming(writing) => Ok(writing.programmed(reply)),
-            Work::Clearing(writing) => Ok(writing.cleared(reply)),
-            Work::Looking(dumping) => dumping.looked(alloc, g, reply),
-            Work::Reading(dumping) => Ok(State::Over(dumping.outcome(alloc, g, reply)?)),
-            Work::Asking { .. } => Ok(State::Over(Outcome::IsBad {
+            Work::Erasing(erasing) => Ok(erasing.answered(reply)),
+            Work::Writing(writing) => writing.answered(alloc, g, reply),
+            Work::Dumping(dumping) => dumping.answered(alloc, g, reply),
+            Work::Marking { .. } => Ok(Turn::End(Outcome::MarkBad {
                 reply: copy_of(alloc, reply)?,
             })),
-            Work::Counting { .. } => Ok(State::Over(counted(reply))),
+            Work::Asking { .. } => Ok(Turn::End(Outcome::IsBad {
+                reply: copy_of(alloc, reply)?,
+            })),
+            Work::Counting { .. } => Ok(Turn::End(counted(reply))),
         }
     }
 
-    /// Whether the command is over after the reply.
-    pub fn ends_at(&self, reply: &Reply) -> bool
-        ensures { (g : Sizes) (unit : List ℕ) → result
-            ≡ is_over (next_in (after_replies (reply.now ∷ []) (work_left g unit self.now))) }
+    /// Whether the command is over after the reply. It takes no memory.
+    pub fn ends_at(&self, g: &Geometry, reply: &Reply) -> bool
+        ensures { result
+            ≡ is_over (next_in (after_replies (reply.now ∷ []) (work_left g.now self.now))) }
     {
         match self {
-            Work::Erasing(erasing) => erasing.after(reply).is_over(),
-            Work::Scanning(writing) => writing.scanned(reply).is_over(),
-            Work::Programming(writing) => writing.programmed(reply).is_over(),
-            Work::Clearing(writing) => writing.cleared(reply).is_over(),
-            Work::Looking(_) => tells_bad(reply),
-            Work::Reading(_) | Work::Asking { .. } | Work::Counting { .. } => true,
+            Work::Erasing(erasing) => matches!(erasing.after(reply), State::Over(_)),
+            Work::Writing(writing) => writing.ends_at(g, reply),
+            Work::Dumping(dumping) => dumping.place.ends_at(reply),
+            Work::Marking { .. } | Work::Asking { .. } | Work::Counting { .. } => true,
         }
-    }
-}
-
-impl State {
-    ghost use Rattle.command_model.specs.Command.{next_in};
-    ghost use Rattle.nand_model.specs.declared.geometry.Geometry.{Geometry as Sizes};
-    ghost use Rattle.tool_steps.specs.Steps.{is_over};
-    ghost use Rattle.tool_steps.specs.Work.{script_left};
-
-    /// Whether the command is over.
-    pub fn is_over(&self) -> bool
-        ensures { (g : Sizes) (unit : List ℕ) → result
-            ≡ is_over (next_in (script_left g unit self.now)) }
-    {
-        matches!(self, State::Over(_))
     }
 }

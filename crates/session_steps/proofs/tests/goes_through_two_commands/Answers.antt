@@ -1,12 +1,11 @@
-use Rattle.std.proofs.Common.{◌≡◌, ℕ, zero, suc, ◌<◌, true, false, List, [], ◌∷◌, slice_index_or, refl, sym, ◌∙◌, subst, arith}
-use Rattle.std.proofs.Math.Nat.{zero-mod}
+use Rattle.std.proofs.Common.{◌≡◌, ℕ, zero, suc, ◌+◌, ◌<◌, ◌≤◌, true, false, List, [], ◌∷◌, slice_index_or, refl, sym, ◌∙◌, subst, arith}
 use Rattle.nand_model.specs.declared.geometry.Geometry.{Geometry}
 use Rattle.nand_model.specs.declared.words.BadMode.TheVariants.{DumpBad}
 use Rattle.nand_model.specs.declared.words.Command.{Command}
 use Rattle.nand_model.specs.declared.words.Command.TheVariants.{NandDump, IsBad}
 use Rattle.nand_model.specs.declared.words.Reply.{Reply}
 use Rattle.nand_model.specs.declared.words.Reply.TheVariants.{State}
-use Rattle.command_model.specs.Command.{Next, Do, Over, next_step}
+use Rattle.command_model.specs.Command.{device_bytes, Next, Do, Over, next_step}
 use Rattle.command_model.specs.Session.{SessionRun, without_finished, with_reply}
 use Rattle.command_model.specs.Runnable.{CanRun}
 use Rattle.nand_model.proofs.Bounds.{pages-some}
@@ -26,17 +25,17 @@ module _ (g : Geometry) (page : g.page ≡ 2048) where
   abbrev sizes : Command → Geometry
   sizes c = g
 
+  some_bytes : 0 < device_bytes g 16
+  some_bytes = rw page (omega (arith, pages-some g))
+
+  room : 0 + 2048 ≤ device_bytes g 16
+  room = rw page (omega (arith, pages-some g))
+
   dumps : CanRun g dumping
-  dumps = record {
-    size = (omega arith, omega arith);
-    whole = zero-mod g.page;
-    in_device = rw page (omega (arith, pages-some g));
-    one = sym page;
-    body_only = refl;
-  }
+  dumps = (record { size = (omega arith, omega arith); first = omega (arith, some_bytes); last = omega (arith, room) }, tt)
 
   both : (k : ℕ) (d : Command) → k < 2 → CanRun g (slice_index_or (asking ∷ dumping ∷ []) k d)
-  both zero d h = (omega arith, omega arith)
+  both zero d h = ((omega arith, omega arith), tt)
   both (suc zero) d h = dumps
   both (suc (suc k)) d h = absurd (omega arith)
 
