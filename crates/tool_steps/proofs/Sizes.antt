@@ -128,4 +128,9 @@ blocks_touched-one g first =
 
 -- data of at most a page fill one unit at most
 pub unit_count-one : (g : Geometry) (bytes : List ℕ) → length bytes ≤ g.page → unit_count g false bytes ≤ 1
-unit_count-one g bytes short = let some = page-some g in div-le_of_le-mul g.page (omega (arith, some))
+unit_count-one g bytes short = small g.page (length bytes) (page-some g) short
+  where
+    small : (page n : ℕ) → 1 ≤ page → n ≤ page → (n + (page - 1)) / page ≤ 1
+    small page n some few =
+        let below : (n + (page - 1)) / page < 2 = (div-lt_iff_lt-mul some).1 (omega arith) in
+        omega arith

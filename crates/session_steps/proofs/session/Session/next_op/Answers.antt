@@ -1,6 +1,8 @@
-use Rattle.std.proofs.Common.{◌≡◌, length, ◌∙◌}
+use Rattle.std.proofs.Common.{◌≡◌, length, sym, ◌∙◌}
 use Rattle.command_model.specs.Runnable.{CanRun}
 use Rattle.session_steps.proofs.Mirrors.{no_op, next_there, next_mirrors, next_op_if}
+use Rattle.session_steps.proofs.Steps.{shows_op}
+use Rattle.session_steps.specs.Standing.{standing}
 use Rattle.session_steps.proofs.session.Session.next_op.Goals as goal
 
 -- the place of the next command is the number of outcomes
@@ -24,3 +26,7 @@ returns-clause-mirrors c sizes run mirrors sized = next_mirrors sizes c.args.com
     (no_op c.in_ok-op.field-0 _ c.in_ok-op.ensures.op c.in_default.not-Some) sized
     (begin-requires c.before) c.get.ensures c.begin.ensures.begun c.begin.ensures.no_memory
     (c.begin.ensures.last ∙ c.put_outcome_down.ensures.last ∙ c.in_ok-op.ensures.taken)
+
+pub returns-in-Some-clause-op : goal.returns-in-Some-clause-op
+returns-in-Some-clause-op c sizes run mirrors sized = shows_op sizes c.args.commands.now (standing c.args.notes.now.notes c.args.self.now) run c.in-Some.op
+    mirrors.shows (sym c.in_ok-op.ensures.op ∙ c.in-Some.is)
