@@ -1,0 +1,12 @@
+//! What is kept of a plan's lines beside them, so that no rule of a line searches the lines before it.
+#![tactic(auto)]
+
+mod device;
+mod grow;
+mod lists;
+mod marks;
+
+pub use device::DeviceSize;
+pub use grow::{add_chip, add_defect};
+pub use lists::last;
+pub use marks::ChipMarks;
