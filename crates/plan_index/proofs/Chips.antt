@@ -1,6 +1,6 @@
 -- The marks of a chip.
-use Rattle.std.proofs.Common.{◌≡◌, ℕ, zero, suc, ◌+◌, ◌-◌, ◌*◌, ◌<◌, Bool, true, false, ◌||◌, cond, eqb, leb, List, [], ◌∷◌, ◌++◌, length, get_or, replicate, sym, ap, ◌∙◌, subst, refl, arith, inl, inr, ⊎_elim}
-use Rattle.std.specs.List.{list_any, list_all, sum_by, count_by, filter}
+use Rattle.std.proofs.Common.{◌≡◌, ℕ, zero, suc, ◌+◌, ◌-◌, Bool, false, ◌||◌, cond, eqb, leb, List, [], ◌∷◌, ◌++◌, length, get_or, replicate, sym, ap, ◌∙◌, subst, refl, arith, ⊎_elim}
+use Rattle.std.specs.List.{count_by, filter}
 use Rattle.std.proofs.lemmas.List.{get_or-replicate, get_or_past, length-replicate}
 use Rattle.std.proofs.lemmas.List.Sums.{sum_by-cons, length-filter}
 use Rattle.std.proofs.lemmas.List.Folds.{list_any-append}
@@ -11,11 +11,11 @@ use Rattle.nand_model.specs.declared.words.WeakKind.TheVariants.{Program, Erase}
 use Rattle.plan_grammar.specs.declared.lines.ChipLines.{ChipLines}
 use Rattle.plan_grammar.specs.declared.lines.DefectLine.{DefectLine}
 use Rattle.plan_grammar.specs.declared.lines.PartLine.{PartLine}
-use Rattle.plan_grammar.specs.Devices.{has_number, bad_table_blocks, bad_blocks, is_weak, weak_programs}
+use Rattle.plan_grammar.specs.Devices.{has_number, bad_table_blocks, is_weak}
 use Rattle.plan_grammar.specs.Hardware.{leaves_table_blocks}
 use Rattle.plan_index.specs.declared.marks.ChipMarks.{ChipMarks}
 use Rattle.plan_index.specs.Places.{Tells, flag_at}
-use Rattle.plan_index.specs.Chip.{IsMarked, is_used, is_filled}
+use Rattle.plan_index.specs.Chip.{IsMarked, is_used}
 
 -- two tests that agree count the same
 pub count_by_same : {A : Type 0} (p q : A → Bool) → ((x : A) → p x ≡ q x) → (xs : List A) → count_by p xs ≡ count_by q xs
@@ -43,11 +43,11 @@ leaves_is g flags xs ys n tells tables e =
     let f : ℕ = g.blocks - 4 in
     let test : ℕ → Bool = λ b. flag_at flags b || has_number ys b in
     let same : (b : ℕ) → test b ≡ has_number (xs ++ ys) b = λ b. ap (λ t. t || has_number ys b) (tells.flag_is b)
-        ∙ sym (list_any-append (λ m. eqb m b) xs ys) in
+    ∙ sym (list_any-append (λ m. eqb m b) xs ys) in
     let counted : n ≡ bad_table_blocks g (xs ++ ys) =
-        e ∙ length-filter test (f ∷ (f + 1) ∷ (f + 2) ∷ (f + 3) ∷ [])
-        ∙ count_by_same test (has_number (xs ++ ys)) same (f ∷ (f + 1) ∷ (f + 2) ∷ (f + 3) ∷ [])
-        ∙ ap (count_by (has_number (xs ++ ys))) (sym (four_from f)) in
+    e ∙ length-filter test (f ∷ (f + 1) ∷ (f + 2) ∷ (f + 3) ∷ [])
+    ∙ count_by_same test (has_number (xs ++ ys)) same (f ∷ (f + 1) ∷ (f + 2) ∷ (f + 3) ∷ [])
+    ∙ ap (count_by (has_number (xs ++ ys))) (sym (four_from f)) in
     ap (λ k. leb k 2) counted ∙ sym (ap (λ b. b || leb (bad_table_blocks g (xs ++ ys)) 2) tables)
 
 -- flags none of which is given
@@ -58,10 +58,10 @@ tells_none flags count test e none = record {
   flag_is = λ n. ap (λ fs. get_or fs n false) e ∙ at n ∙ sym (none n);
 }
   where
-  at : (n : ℕ) → get_or (replicate count false) n false ≡ false
-  at n = ⊎_elim (λ here. get_or-replicate count n false false here)
-      (λ past. get_or_past (replicate count false) n false (omega (arith, length-replicate count false, past)))
-      (cases_lt n count)
+    at : (n : ℕ) → get_or (replicate count false) n false ≡ false
+    at n = ⊎_elim (λ here. get_or-replicate count n false false here)
+        (λ past. get_or_past (replicate count false) n false (omega (arith, length-replicate count false, past)))
+        (cases_lt n count)
 
 count_none : (n : ℕ) → 0 ≡ count_by (λ (flag : Bool). flag) (replicate n false)
 count_none zero = refl
@@ -75,8 +75,8 @@ pub marked_none : (chip : ChipLines) (marks : ChipMarks) → chip.defects ≡ []
 marked_none chip marks defects parts bad programs erases used weak =
     let with_none : ChipLines = record { geometry = chip.geometry; defects = []; parts = [] } in
     let same : with_none ≡ chip =
-        ap (λ (ds : List DefectLine). record with_none { defects = ds }) (sym defects)
-        ∙ ap (λ (ps : List PartLine). record { geometry = chip.geometry; defects = chip.defects; parts = ps }) (sym parts) in
+    ap (λ (ds : List DefectLine). record with_none { defects = ds }) (sym defects)
+    ∙ ap (λ (ps : List PartLine). record { geometry = chip.geometry; defects = chip.defects; parts = ps }) (sym parts) in
     subst (λ (c : ChipLines). IsMarked c marks) same (record {
       bad = tells_none marks.bad.items chip.geometry.blocks (has_number []) bad (λ n. refl);
       different = refl;

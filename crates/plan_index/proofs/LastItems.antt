@@ -1,5 +1,5 @@
 -- Lists with another last item.
-use Rattle.std.proofs.Common.{◌≡◌, ℕ, zero, suc, ◌+◌, ◌-◌, ◌<◌, List, [], ◌∷◌, ◌++◌, Option, Some, None, Result, length, get_or, refl, sym, ap, ◌∙◌, arith}
+use Rattle.std.proofs.Common.{◌≡◌, ℕ, zero, suc, ◌-◌, List, [], ◌∷◌, Option, Some, None, length, get_or, refl, ap, arith}
 use Rattle.std.specs.Prelude.{slice_set, slice_get}
 use Rattle.plan_grammar.specs.Rules.{with_last, last_of}
 
@@ -32,9 +32,9 @@ last_of_none [] e = refl
 last_of_none (x ∷ []) e = absurd (cc e)
 last_of_none (x ∷ y ∷ xs) e = absurd (filled y xs e)
   where
-  filled : {A : Type 0} (y : A) (xs : List A) → last_of (y ∷ xs) ≡ None → ⊥
-  filled y [] e = cc e
-  filled y (z ∷ xs) e = filled z xs e
+    filled : {A : Type 0} (y : A) (xs : List A) → last_of (y ∷ xs) ≡ None → ⊥
+    filled y [] e = cc e
+    filled y (z ∷ xs) e = filled z xs e
 
 -- the last item of a list with another one
 pub last_of-with_last : {A : Type 0} (change : A → A) (xs : List A) (x : A) → last_of xs ≡ Some x →
@@ -42,12 +42,12 @@ pub last_of-with_last : {A : Type 0} (change : A → A) (xs : List A) (x : A) �
 last_of-with_last change [] x e = absurd (cc e)
 last_of-with_last change (y ∷ []) x e = ap (λ (o : Option _). some_of change o) e
   where
-  some_of : {A : Type 0} (change : A → A) → Option A → Option A
-  some_of change None = None
-  some_of change (Some x) = Some (change x)
+    some_of : {A : Type 0} (change : A → A) → Option A → Option A
+    some_of change None = None
+    some_of change (Some x) = Some (change x)
 last_of-with_last change (y ∷ z ∷ xs) x e = further change y z xs x (last_of-with_last change (z ∷ xs) x e)
   where
-  further : {A : Type 0} (change : A → A) (y z : A) (xs : List A) (x : A) → last_of (with_last change (z ∷ xs)) ≡ Some (change x)
-      → last_of (with_last change (y ∷ z ∷ xs)) ≡ Some (change x)
-  further change y z [] x e = e
-  further change y z (w ∷ ws) x e = e
+    further : {A : Type 0} (change : A → A) (y z : A) (xs : List A) (x : A) → last_of (with_last change (z ∷ xs)) ≡ Some (change x)
+        → last_of (with_last change (y ∷ z ∷ xs)) ≡ Some (change x)
+    further change y z [] x e = e
+    further change y z (w ∷ ws) x e = e

@@ -1,8 +1,8 @@
 -- Partitions that share blocks.
-use Rattle.std.proofs.Common.{◌≡◌, ℕ, zero, suc, ◌+◌, ◌-◌, ◌<◌, ◌≤◌, Bool, true, false, not, ◌&&◌, ◌||◌, cond, eqb, leb, ltb, length, List, [], ◌∷◌, ◌++◌, Ok, Err, sym, ap, ◌∙◌, subst, refl, arith, inl, inr, ⊎_elim}
+use Rattle.std.proofs.Common.{◌≡◌, ℕ, ◌+◌, ◌-◌, ◌<◌, ◌≤◌, Bool, true, false, not, ◌&&◌, ◌||◌, cond, eqb, leb, ltb, length, List, [], ◌∷◌, Ok, Err, sym, ap, ◌∙◌, subst, refl, arith, ⊎_elim}
 use Rattle.std.specs.List.{list_any, list_all, count_by}
 use Rattle.std.proofs.lemmas.List.Folds.{list_any-append, list_all-append}
-use Rattle.std.proofs.lemmas.Bool.{cases_Bool, cases_lt, and_parts, and_from, or_cases, or_left, or_right, or_from, or_parts, leb-true, ltb-true, le-leb, lt-ltb, false_from_ne_true, both_ways}
+use Rattle.std.proofs.lemmas.Bool.{cases_lt, and_parts, and_from, or_cases, or_left, or_right, or_from, or_parts, leb-true, ltb-true, le-leb, lt-ltb, false_from_ne_true, both_ways}
 use Rattle.std.proofs.lemmas.Bool.Decides.{nat_tests}
 use Rattle.nand_model.specs.Sizes.{page_count}
 use Rattle.nand_model.specs.declared.words.WeakKind.TheVariants.{Program, Erase}
@@ -13,7 +13,7 @@ use Rattle.plan_grammar.specs.Rules.{◌>>=◌, rule}
 use Rattle.plan_grammar.specs.Devices.{share_block, has_number, bad_blocks, is_weak}
 use Rattle.plan_grammar.specs.Hardware.{part_in_force}
 use Rattle.plan_index.specs.declared.marks.ChipMarks.{ChipMarks}
-use Rattle.plan_index.specs.Places.{Tells, flag_at, IsFreeRun, IsTakenRun, HasRun}
+use Rattle.plan_index.specs.Places.{Tells, IsFreeRun, IsTakenRun, HasRun}
 use Rattle.plan_index.specs.Chip.{IsMarked, has_block, is_used, is_filled, with_part_line, part_rules}
 
 -- partitions of which one has a block of this one share it
@@ -84,29 +84,32 @@ marked_part chip marks new start count m here short free as_long run bad program
     let more : ChipLines = with_part_line part chip in
     let some : 0 < part.count = some_count chip.geometry.blocks start count here in
     let apart : list_any (share_block part) chip.parts ≡ false =
-        apart_from_free part some chip.parts m.filled (λ n from below. sym (m.used.flag_is n) ∙ free n from below) in
-    (part_kept (ltb start chip.geometry.blocks && leb (start + count) chip.geometry.blocks) (list_any (share_block part) chip.parts)
-    (fits_chip chip.geometry.blocks start count here short) apart, record {
-      bad = subst (λ fs. Tells fs chip.geometry.blocks (has_number (bad_blocks chip))) (sym bad) m.bad;
-      different = m.different;
-      programs = subst (λ fs. Tells fs (page_count chip.geometry) (is_weak chip Program)) (sym programs) m.programs;
-      erases = subst (λ fs. Tells fs chip.geometry.blocks (is_weak chip Erase)) (sym erases) m.erases;
-      used = record {
-        count_is = as_long ∙ m.used.count_is;
-        flag_is = λ n. run n ∙ ap (λ b. b || has_block n part) (m.used.flag_is n)
-            ∙ sym (list_any-append (has_block n) chip.parts (part ∷ []) ∙ ap (λ b. is_used chip.parts n || b) (or_false (has_block n part)));
-      };
-      filled = list_all-append is_filled chip.parts (part ∷ [])
-          ∙ and_from (list_all is_filled chip.parts) (is_filled part && true) m.filled (and_from (is_filled part) true (lt-ltb 0 part.count some) refl);
-      weak = weak ∙ m.weak;
-      counted = m.counted ∙ ap (count_by (λ (b : Bool). b)) (sym programs);
-    })
+    apart_from_free part some chip.parts m.filled (λ n from below. sym (m.used.flag_is n) ∙ free n from below) in (
+      part_kept (ltb start chip.geometry.blocks && leb (start + count) chip.geometry.blocks) (list_any (share_block part) chip.parts)
+          (fits_chip chip.geometry.blocks start count here short) apart,
+      record {
+        bad = subst (λ fs. Tells fs chip.geometry.blocks (has_number (bad_blocks chip))) (sym bad) m.bad;
+        different = m.different;
+        programs = subst (λ fs. Tells fs (page_count chip.geometry) (is_weak chip Program)) (sym programs) m.programs;
+        erases = subst (λ fs. Tells fs chip.geometry.blocks (is_weak chip Erase)) (sym erases) m.erases;
+        used = record {
+          count_is = as_long ∙ m.used.count_is;
+          flag_is = λ n. run n ∙ ap (λ b. b || has_block n part) (m.used.flag_is n)
+              ∙ sym (list_any-append (has_block n) chip.parts (part ∷ []) ∙ ap (λ b. is_used chip.parts n || b) (or_false (has_block n part)));
+        };
+        filled = list_all-append is_filled chip.parts (part ∷ [])
+            ∙ and_from (list_all is_filled chip.parts) (is_filled part && true) m.filled (and_from (is_filled part) true (lt-ltb 0 part.count some) refl);
+        weak = weak ∙ m.weak;
+        counted = m.counted ∙ ap (count_by (λ (b : Bool). b)) (sym programs);
+      },
+    )
   where
-  some_count : (all from n : ℕ) → from < all → 0 < cond (eqb n 0) (all - from) n
-  some_count all from n less = grind (arith, nat_tests)
-  or_false : (b : Bool) → (b || false) ≡ b
-  or_false true = refl
-  or_false false = refl
+    some_count : (all from n : ℕ) → from < all → 0 < cond (eqb n 0) (all - from) n
+    some_count all from n less = grind (arith, nat_tests)
+
+    or_false : (b : Bool) → (b || false) ≡ b
+    or_false true = refl
+    or_false false = refl
 
 -- a partition that shares a block is refused
 pub refused_part : (chip : ChipLines) (marks : ChipMarks) (start count : ℕ) → IsMarked chip marks →

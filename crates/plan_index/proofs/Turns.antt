@@ -1,15 +1,15 @@
 -- Where a loop over a list stands.
-use Rattle.std.proofs.Common.{◌≡◌, ℕ, ◌+◌, ◌<◌, List, [], ◌∷◌, ◌++◌, length, get_or, take, drop, map, sym, ap, ◌∙◌, subst, refl, arith}
-use Rattle.std.proofs.lemmas.List.{take-append-drop, drop_more, get_or_read, length-map}
+use Rattle.std.proofs.Common.{◌≡◌, ◌+◌, ◌<◌, List, ◌∷◌, ◌++◌, length, get_or, take, drop, map, sym, ap, ◌∙◌, subst, arith}
+use Rattle.std.proofs.lemmas.List.{take-append-drop, drop_more, length-map}
 
 -- the list is what was seen, this item, and what is left
 pub splits_here : {A : Type 0} (all seen : List A) (x : A) → seen ≡ take (length seen) all → length seen < length all →
     x ≡ get_or all (length seen) x → all ≡ seen ++ x ∷ drop (length seen + 1) all
 splits_here all seen x front here item =
     let rest : drop (length seen) all ≡ get_or all (length seen) x ∷ drop (length seen + 1) all =
-        drop_more all (length seen) x here in
+    drop_more all (length seen) x here in
     let rest' : drop (length seen) all ≡ x ∷ drop (length seen + 1) all =
-        rest ∙ ap (λ y. y ∷ drop (length seen + 1) all) (sym item) in
+    rest ∙ ap (λ y. y ∷ drop (length seen + 1) all) (sym item) in
     sym (take-append-drop (length seen) all) ∙ ap (λ ys. ys ++ drop (length seen) all) (sym front)
     ∙ ap (λ ys. seen ++ ys) rest'
 

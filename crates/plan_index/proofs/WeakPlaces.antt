@@ -1,7 +1,7 @@
 -- The marks of a chip with one more weak place.
-use Rattle.std.proofs.Common.{◌≡◌, ℕ, zero, suc, ◌+◌, ◌-◌, ◌*◌, ◌<◌, ◌≤◌, Bool, true, false, not, ◌&&◌, ◌||◌, cond, eqb, ltb, List, [], ◌∷◌, ◌++◌, Ok, length, get_or, sym, ap, ◌∙◌, subst, refl, arith, length-set}
+use Rattle.std.proofs.Common.{◌≡◌, ℕ, ◌+◌, ◌<◌, ◌≤◌, Bool, true, false, not, ◌&&◌, ◌||◌, cond, eqb, ltb, List, [], ◌∷◌, ◌++◌, Ok, length, get_or, sym, ap, ◌∙◌, subst, refl, arith, length-set}
 use Rattle.std.specs.Prelude.{slice_set}
-use Rattle.std.specs.List.{list_any, list_all, sum_by, count_by, flat_map}
+use Rattle.std.specs.List.{list_any, count_by}
 use Rattle.std.proofs.lemmas.List.{append-nil}
 use Rattle.std.proofs.lemmas.List.Concat.{flat_map-append}
 use Rattle.std.proofs.lemmas.List.Sums.{sum_by_push, sum_by-set, count_by-le-length}
@@ -13,8 +13,7 @@ use Rattle.nand_model.specs.declared.words.WeakKind.{WeakKind}
 use Rattle.nand_model.specs.declared.words.WeakKind.TheVariants.{Program, Erase}
 use Rattle.plan_grammar.specs.declared.kind.PlanKind.{PlanKind}
 use Rattle.plan_grammar.specs.declared.lines.ChipLines.{ChipLines}
-use Rattle.plan_grammar.specs.declared.lines.DefectLine.{DefectLine}
-use Rattle.plan_grammar.specs.declared.lines.DefectLine.TheVariants.{Bad, Weak as WeakAt}
+use Rattle.plan_grammar.specs.declared.lines.DefectLine.TheVariants.{Weak as WeakAt}
 use Rattle.plan_grammar.specs.Devices.{has_number, are_different, bad_blocks, bad_in, weak_in, weak_places, is_weak, is_same_kind, is_program, weak_programs}
 use Rattle.plan_grammar.specs.declared.kind.PlanKind.TheVariants.{OutOfChip, Overlap}
 use Rattle.plan_grammar.specs.Rules.{◌>>=◌, rule}
@@ -80,7 +79,7 @@ marked_page chip marks new weak m kind here free bad programs erases used count 
     let clear : flag_at marks.programs.items weak.at ≡ false = not-true (flag_at marks.programs.items weak.at) free in
     let within : weak.at < length marks.programs.items = omega (arith, m.programs.count_is) in
     let one : weak_programs more ≡ weak_programs chip + 1 =
-        count_step chip weak ∙ ap (λ k. weak_programs chip + cond (is_program k) 1 0) kind in
+    count_step chip weak ∙ ap (λ k. weak_programs chip + cond (is_program k) 1 0) kind in
     record {
       bad = subst (λ fs. Tells fs chip.geometry.blocks (has_number (bad_blocks more))) (sym bad)
           (subst (λ bs. Tells marks.bad.items chip.geometry.blocks (has_number bs)) (same_bad chip weak) m.bad);
@@ -108,7 +107,7 @@ pub marked_block : (chip : ChipLines) (marks new : ChipMarks) (weak : Weak) → 
 marked_block chip marks new weak m kind here bad programs erases used count =
     let more : ChipLines = with_defect_line (WeakAt weak) chip in
     let none : weak_programs more ≡ weak_programs chip =
-        count_step chip weak ∙ ap (λ k. weak_programs chip + cond (is_program k) 1 0) kind ∙ omega arith in
+    count_step chip weak ∙ ap (λ k. weak_programs chip + cond (is_program k) 1 0) kind ∙ omega arith in
     record {
       bad = subst (λ fs. Tells fs chip.geometry.blocks (has_number (bad_blocks more))) (sym bad)
           (subst (λ bs. Tells marks.bad.items chip.geometry.blocks (has_number bs)) (same_bad chip weak) m.bad);

@@ -1,5 +1,5 @@
 -- What the marks of a chip tell, and the rules of lines that they decide.
-use Rattle.std.specs.Prelude.{◌≡◌, ℕ, ◌+◌, ◌≤◌, Bool, true, false, not, ◌&&◌, nat_lt, nat_le, count_by, List, [], ◌∷◌, ◌++◌, Result, Ok, Err}
+use Rattle.std.specs.Prelude.{◌≡◌, ℕ, ◌+◌, Bool, true, not, ◌&&◌, nat_lt, nat_le, count_by, List, [], ◌∷◌, ◌++◌, Result}
 use Rattle.std.specs.List.{list_all, list_any}
 use Rattle.nand_model.specs.Sizes.{page_count}
 use Rattle.nand_model.specs.declared.words.Weak.{Weak}

@@ -1,4 +1,5 @@
-//! What is kept of a plan's lines beside them, so that no rule of a line searches the lines before it.
+//! What is kept of a plan's lines beside them, so that no rule of a line searches the lines before
+//! it.
 #![tactic(auto)]
 
 mod device;
@@ -7,6 +8,6 @@ mod lists;
 mod marks;
 
 pub use device::DeviceSize;
-pub use grow::{add_chip, add_defect};
+pub use grow::{add_chip, add_command, add_defect, add_fault, add_part, add_session, set_schedule};
 pub use lists::last;
 pub use marks::ChipMarks;

@@ -58,13 +58,14 @@ impl ChipMarks {
         })
     }
 
-    /// Marks a line of bad blocks. `OutOfChip` comes exactly where a block is not the chip's, otherwise
-    /// `TooFewTableBlocks` where too few of its last four are good, otherwise `Overlap` where one is bad twice.
+    /// Marks a line of bad blocks. `OutOfChip` comes exactly where a block is not the chip's,
+    /// otherwise `TooFewTableBlocks` where too few of its last four are good, otherwise `Overlap`
+    /// where one is bad twice.
     pub fn add_bad(self, chip: &ChipLines, blocks: &BlockList) -> Result<ChipMarks, PlanKind>
         requires { IsMarked chip.now self }
         ensures { MatchResult result
             (λ marks. (bad_rules chip.now blocks.now ≡ Ok tt)
-                × IsMarked (with_defect_line (Bad blocks.now) chip.now) marks)
+            × IsMarked (with_defect_line (Bad blocks.now) chip.now) marks)
             (λ kind. bad_rules chip.now blocks.now ≡ Err kind) }
     {
         if !are_below(blocks, chip.geometry.blocks) {
@@ -79,12 +80,12 @@ impl ChipMarks {
         }
     }
 
-    /// Marks a weak place. `OutOfChip` comes exactly where the page or block is not the chip's, otherwise `Overlap`
-    /// where it is weak already.
+    /// Marks a weak place. `OutOfChip` comes exactly where the page or block is not the chip's,
+    /// otherwise `Overlap` where it is weak already.
     pub fn add_weak(self, chip: &ChipLines, weak: &Weak) -> Result<ChipMarks, PlanKind>
         requires { IsMarked chip.now self }
         ensures { MatchResult result (λ marks. (weak_rules chip.now weak.now ≡ Ok tt)
-                × IsMarked (with_defect_line (WeakAt weak.now) chip.now) marks)
+            × IsMarked (with_defect_line (WeakAt weak.now) chip.now) marks)
             (λ kind. weak_rules chip.now weak.now ≡ Err kind) }
     {
         match weak.kind {
@@ -98,7 +99,7 @@ impl ChipMarks {
         requires { IsMarked chip.now self }
         ensures { (weak : WeakPlace) → weak.kind ≡ Program → weak.at ≡ page → MatchResult result
             (λ marks. (weak_rules chip.now weak ≡ Ok tt)
-                × IsMarked (with_defect_line (WeakAt weak) chip.now) marks)
+            × IsMarked (with_defect_line (WeakAt weak) chip.now) marks)
             (λ kind. weak_rules chip.now weak ≡ Err kind) }
     {
         if page as usize >= self.programs.len() {
@@ -120,7 +121,7 @@ impl ChipMarks {
         requires { IsMarked chip.now self }
         ensures { (weak : WeakPlace) → weak.kind ≡ Erase → weak.at ≡ block → MatchResult result
             (λ marks. (weak_rules chip.now weak ≡ Ok tt)
-                × IsMarked (with_defect_line (WeakAt weak) chip.now) marks)
+            × IsMarked (with_defect_line (WeakAt weak) chip.now) marks)
             (λ kind. weak_rules chip.now weak ≡ Err kind) }
     {
         if block >= chip.geometry.blocks {
@@ -133,9 +134,9 @@ impl ChipMarks {
         Ok(ChipMarks { erases, ..self })
     }
 
-    /// Marks the blocks of a partition, of which a count of 0 means to the end, and gives it as it is in force.
-    /// `OutOfChip` comes exactly where it begins or ends past the chip's end, otherwise `Overlap` where it shares a
-    /// block with an earlier one.
+    /// Marks the blocks of a partition, of which a count of 0 means to the end, and gives it as it
+    /// is in force. `OutOfChip` comes exactly where it begins or ends past the chip's end,
+    /// otherwise `Overlap` where it shares a block with an earlier one.
     pub fn add_part(
         self,
         chip: &ChipLines,
@@ -144,8 +145,8 @@ impl ChipMarks {
     ) -> Result<(PartLine, ChipMarks), PlanKind>
         requires { IsMarked chip.now self }
         ensures { MatchResult result (λ made. (part_rules chip.now start count ≡ Ok tt)
-                × (made.0 ≡ part_in_force chip.now start count)
-                × IsMarked (with_part_line made.0 chip.now) made.1)
+            × (made.0 ≡ part_in_force chip.now start count)
+            × IsMarked (with_part_line made.0 chip.now) made.1)
             (λ kind. part_rules chip.now start count ≡ Err kind) }
     {
         let all = chip.geometry.blocks;
@@ -190,7 +191,8 @@ fn has_number(numbers: &BlockList, n: u32) -> bool
     numbers.iter().any(|number| *number == n)
 }
 
-// Whether a chip has enough good blocks for its tables, with the bad ones of these flags and of these blocks.
+// Whether a chip has enough good blocks for its tables, with the bad ones of these flags and of
+// these blocks.
 fn leaves_table_blocks(g: &Geometry, flags: &[bool], blocks: &BlockList) -> bool
     requires { length flags.now ≡ g.now.blocks }
     ensures { (xs : List ℕ) → Tells flags.now g.now.blocks (has_number xs)
@@ -217,7 +219,8 @@ fn take_place(flags: &mut [bool], place: u32) -> bool
     free
 }
 
-// Gives these places their flags, up to the first that has its flag already, and tells whether none had.
+// Gives these places their flags, up to the first that has its flag already, and tells whether none
+// had.
 fn take_places(flags: &mut [bool], places: &BlockList) -> bool
     requires { list_all (λ n. nat_lt n (length flags.old)) places.now ≡ true }
     ensures { (xs : List ℕ) → Tells flags.old (length flags.old) (has_number xs)
@@ -232,13 +235,14 @@ fn take_places(flags: &mut [bool], places: &BlockList) -> bool
     true
 }
 
-// The flags with these places too; None exactly where one of them has its flag already, or comes twice.
+// The flags with these places too; None exactly where one of them has its flag already, or comes
+// twice.
 fn with_places(flags: Vec<bool>, places: &BlockList) -> Option<Vec<bool>>
     requires { list_all (λ n. nat_lt n (length flags.items)) places.now ≡ true }
     ensures { (xs : List ℕ) → Tells flags.items (length flags.items) (has_number xs)
         → are_different xs ≡ true → MatchOption result (are_different (xs ++ places.now) ≡ false)
         (λ new. (are_different (xs ++ places.now) ≡ true)
-            × Tells new.items (length flags.items) (has_number (xs ++ places.now))) }
+        × Tells new.items (length flags.items) (has_number (xs ++ places.now))) }
 {
     let mut flags = flags;
     if take_places(&mut flags, places) {
@@ -248,11 +252,13 @@ fn with_places(flags: Vec<bool>, places: &BlockList) -> Option<Vec<bool>>
     }
 }
 
-// Gives so many places from one on their flags, up to the first that has its flag already, and tells whether none had.
+// Gives so many places from one on their flags, up to the first that has its flag already, and
+// tells whether none had.
 fn take_run(flags: &mut [bool], start: u32, count: u32) -> bool
     requires within { start + count ≤ length flags.old }
     requires fits { start + count < 2 ^ 32 }
-    ensures free { MatchBool result (IsFreeRun flags.old start count) (IsTakenRun flags.old start count) }
+    ensures free { MatchBool result (IsFreeRun flags.old start count)
+        (IsTakenRun flags.old start count) }
     ensures taken { OnTrue result (HasRun flags.old flags.new start (start + count)) }
     ensures len { length flags.new ≡ length flags.old }
 {
@@ -264,13 +270,14 @@ fn take_run(flags: &mut [bool], start: u32, count: u32) -> bool
     true
 }
 
-// The flags with so many places from one on too; None exactly where one of them has its flag already.
+// The flags with so many places from one on too; None exactly where one of them has its flag
+// already.
 fn with_run(flags: Vec<bool>, start: u32, count: u32) -> Option<Vec<bool>>
     requires within { start + count ≤ length flags.items }
     requires fits { start + count < 2 ^ 32 }
     ensures { MatchOption result (IsTakenRun flags.items start count)
         (λ new. IsFreeRun flags.items start count × (length new.items ≡ length flags.items)
-            × HasRun flags.items new.items start (start + count)) }
+        × HasRun flags.items new.items start (start + count)) }
 {
     let mut flags = flags;
     if take_run(&mut flags, start, count) {

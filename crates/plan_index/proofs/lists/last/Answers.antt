@@ -1,4 +1,4 @@
-use Rattle.std.proofs.Common.{◌≡◌, ◌-◌, suc, length, sym, arith}
+use Rattle.std.proofs.Common.{◌-◌, sym, arith}
 use Rattle.plan_index.proofs.LastItems.{last_of_at}
 use Rattle.plan_index.proofs.lists.last.Goals as goal
 

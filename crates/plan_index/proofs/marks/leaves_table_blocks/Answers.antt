@@ -1,10 +1,9 @@
-use Rattle.std.proofs.Common.{◌≡◌, ◌+◌, ◌-◌, ℕ, Bool, ◌||◌, ◌∷◌, [], List, refl, sym, ap, ◌∙◌, arith, rules, tests}
+use Rattle.std.proofs.Common.{◌+◌, ◌-◌, ℕ, Bool, ◌||◌, ◌∷◌, [], rules, tests}
 use Rattle.std.proofs.lemmas.Iterator.{YieldsList-from_slice}
 use Rattle.std.proofs.lemmas.Iterator.Consumers.{YieldsList-from_filter, YieldsList-at, count_from_yields_List}
-use Rattle.std.proofs.lemmas.List.Sums.{length-filter}
 use Rattle.std.proofs.lemmas.Bool.{ne_eqb}
 use Rattle.plan_grammar.specs.Devices.{has_number}
-use Rattle.plan_index.specs.Places.{Tells, flag_at}
+use Rattle.plan_index.specs.Places.{flag_at}
 use Rattle.plan_index.proofs.Chips.{leaves_is}
 use Rattle.plan_index.proofs.marks.leaves_table_blocks.Goals as goal
 

@@ -1,5 +1,4 @@
-use Rattle.std.proofs.Common.{◌≡◌, ℕ, ◌+◌, ◌<◌, ◌++◌, ◌∷◌, [], List, Bool, Bor, true, false, not, length, get_or, map, drop, sym, ap, ◌∙◌, subst, refl, arith, append_assoc, length-set}
-use Rattle.std.specs.Prelude.{slice_set}
+use Rattle.std.proofs.Common.{◌≡◌, ℕ, ◌++◌, Bor, true, false, not, length, map, sym, ap, ◌∙◌, subst, arith, length-set}
 use Rattle.std.proofs.lemmas.List.{map_push}
 use Rattle.std.proofs.lemmas.Iterator.Consumers.{YieldsList-from_deque, YieldsList-turn, YieldsList-so_far, YieldsList-end}
 use Rattle.plan_grammar.specs.Devices.{are_different, has_number}
@@ -30,11 +29,13 @@ loop-place-preserved c =
     let road = YieldsList-from_deque c.args.places.now c.into_iter-place-iterator.ensures.into_iter_gives in
     let turn = YieldsList-turn road c.loop-place.yielded _ c.loop-place.yielded_by _ _ c.in-Some.place c.in-Some.is c.next.ensures.steps in
     let small = below_at c.args.places.now (length c.args.flags.now) (length c.loop-place.yielded) c.in-Some.place.now c.requires turn.0 turn.1 in
-    let free : not (flag_at c.loop-place.flags c.in-Some.place.now) ≡ true = sym c.take_place.ensures.free ∙ c.if-not-take_place.false in
-    (ap length c.take_place.ensures.taken ∙ length-set c.loop-place.flags c.in-Some.place.now true ∙ c.loop-place.invariant.0, λ xs tells different.
-    let so_far = c.loop-place.invariant.1 xs tells different in
-    subst (λ ys. Tells c.take_place.new.flags (length c.args.flags.now) (has_number (xs ++ ys)) × (are_different (xs ++ ys) ≡ true)) (sym (map_push (λ (p : Bor ℕ). p.now) c.loop-place.yielded c.in-Some.place))
-    (place_taken xs (map (λ (p : Bor ℕ). p.now) c.loop-place.yielded) c.in-Some.place.now c.loop-place.flags c.take_place.new.flags (length c.args.flags.now) so_far.0 so_far.1 free small c.take_place.ensures.taken))
+    let free : not (flag_at c.loop-place.flags c.in-Some.place.now) ≡ true = sym c.take_place.ensures.free ∙ c.if-not-take_place.false in (
+      ap length c.take_place.ensures.taken ∙ length-set c.loop-place.flags c.in-Some.place.now true ∙ c.loop-place.invariant.0,
+      λ xs tells different.
+          let so_far = c.loop-place.invariant.1 xs tells different in
+          subst (λ ys. Tells c.take_place.new.flags (length c.args.flags.now) (has_number (xs ++ ys)) × (are_different (xs ++ ys) ≡ true)) (sym (map_push (λ (p : Bor ℕ). p.now) c.loop-place.yielded c.in-Some.place))
+          (place_taken xs (map (λ (p : Bor ℕ). p.now) c.loop-place.yielded) c.in-Some.place.now c.loop-place.flags c.take_place.new.flags (length c.args.flags.now) so_far.0 so_far.1 free small c.take_place.ensures.taken),
+    )
 
 pub returns : goal.returns
 returns c = λ xs tells different.

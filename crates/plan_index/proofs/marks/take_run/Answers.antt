@@ -1,4 +1,4 @@
-use Rattle.std.proofs.Common.{◌≡◌, ◌<◌, ◌≤◌, ◌∙◌, true, false, not, length, sym, ap, refl, arith, length-set}
+use Rattle.std.proofs.Common.{◌∙◌, true, length, sym, ap, refl, arith, length-set}
 use Rattle.std.proofs.lemmas.Bool.{not-false}
 use Rattle.plan_index.specs.Places.{flag_at}
 use Rattle.plan_index.proofs.Runs.{run_none, run_more, after_run, free_more}
@@ -9,9 +9,12 @@ loop-place-init c = record { as_long = refl; free = λ n from below. absurd (ome
 
 pub returns-then-not-take_place-clause-free : goal.returns-then-not-take_place-clause-free
 returns-then-not-take_place-clause-free c =
-    let taken = not-false (flag_at c.loop-place.flags c.loop-place.place) (sym c.take_place.ensures.free ∙ c.if-not-take_place.true) in
-    (c.loop-place.place, omega arith, omega arith,
-    sym (after_run c.args.flags.now c.loop-place.flags c.args.start c.loop-place.place c.loop-place.invariant.taken) ∙ taken)
+    let taken = not-false (flag_at c.loop-place.flags c.loop-place.place) (sym c.take_place.ensures.free ∙ c.if-not-take_place.true) in (
+      c.loop-place.place,
+      omega arith,
+      omega arith,
+      sym (after_run c.args.flags.now c.loop-place.flags c.args.start c.loop-place.place c.loop-place.invariant.taken) ∙ taken,
+    )
 
 pub loop-place-preserved : goal.loop-place-preserved
 loop-place-preserved c = record {

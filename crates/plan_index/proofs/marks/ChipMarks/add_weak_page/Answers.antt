@@ -1,10 +1,8 @@
-use Rattle.std.proofs.Common.{◌≡◌, ◌<◌, ◌≤◌, ◌^◌, ℕ, Bool, true, false, not, ltb, Ok, length, sym, ap, ◌∙◌, subst, refl, arith, Fits}
+use Rattle.std.proofs.Common.{◌≡◌, ◌<◌, true, not, ltb, length, sym, ap, ◌∙◌, subst, refl, arith}
 use Rattle.std.specs.Prelude.{slice_set}
 use Rattle.std.proofs.lemmas.List.{with_items_is, length-set}
 use Rattle.std.proofs.lemmas.Bool.{lt-ltb, not-true}
-use Rattle.nand_model.specs.declared.words.Weak.{Weak}
 use Rattle.nand_model.specs.declared.words.WeakKind.{WeakKind}
-use Rattle.nand_model.specs.declared.words.WeakKind.TheVariants.{Program}
 use Rattle.nand_model.specs.Sizes.{page_count}
 use Rattle.plan_grammar.specs.Devices.{is_weak}
 use Rattle.plan_grammar.specs.Hardware.{place_count}
@@ -18,7 +16,7 @@ overflow_add-result c =
     let flags = c.args.self.programs.items in
     let here : c.args.page < length flags = omega (arith, c.args.self.programs.ok.0) in
     let free : not (flag_at flags c.args.page) ≡ true =
-        subst (λ fs. not (flag_at fs c.args.page) ≡ true) c.deref_mut.ensures.value (sym c.take_place.ensures.free ∙ c.if-not-take_place.false) in
+    subst (λ fs. not (flag_at fs c.args.page) ≡ true) c.deref_mut.ensures.value (sym c.take_place.ensures.free ∙ c.if-not-take_place.false) in
     let few = few_flags flags c.args.page here (not-true (flag_at flags c.args.page) free) in
     omega (arith, few, m.weak, m.counted, c.args.self.programs.small)
 
@@ -28,14 +26,15 @@ returns c = λ weak kind at.
     let flags = c.args.self.programs.items in
     let there : weak.at < page_count c.args.chip.now.geometry = omega (arith, at, m.programs.count_is, c.args.self.programs.ok.0) in
     let free : not (flag_at flags weak.at) ≡ true =
-        subst (λ n. not (flag_at flags n) ≡ true) (sym at)
-        (subst (λ fs. not (flag_at fs c.args.page) ≡ true) c.deref_mut.ensures.value (sym c.take_place.ensures.free ∙ c.if-not-take_place.false)) in
+    subst (λ n. not (flag_at flags n) ≡ true) (sym at)
+    (subst (λ fs. not (flag_at fs c.args.page) ≡ true) c.deref_mut.ensures.value (sym c.take_place.ensures.free ∙ c.if-not-take_place.false)) in
     let taken : c.take_place.new.flags ≡ slice_set flags weak.at true =
-        c.take_place.ensures.taken ∙ ap (λ fs. slice_set fs c.args.page true) c.deref_mut.ensures.value
-        ∙ ap (λ n. slice_set flags n true) (sym at) in
+    c.take_place.ensures.taken ∙ ap (λ fs. slice_set fs c.args.page true) c.deref_mut.ensures.value
+    ∙ ap (λ n. slice_set flags n true) (sym at) in
     let as_long : length c.take_place.new.flags ≡ c.args.self.programs.len =
-        ap length taken ∙ length-set flags weak.at true ∙ sym c.args.self.programs.ok.0 in
-    let stored = with_items_is c.args.self.programs c.take_place.new.flags as_long ∙ taken in
-    (weak_kept c.args.chip.now weak (subst (λ (k : WeakKind). ltb weak.at (place_count c.args.chip.now.geometry k) ≡ true) (sym kind) (lt-ltb _ _ there))
-    (subst (λ (k : WeakKind). not (is_weak c.args.chip.now k weak.at) ≡ true) (sym kind) (subst (λ b. not b ≡ true) (m.programs.flag_is weak.at) free)),
-    marked_page c.args.chip.now c.args.self _ weak m kind there free refl stored refl refl refl)
+    ap length taken ∙ length-set flags weak.at true ∙ sym c.args.self.programs.ok.0 in
+    let stored = with_items_is c.args.self.programs c.take_place.new.flags as_long ∙ taken in (
+      weak_kept c.args.chip.now weak (subst (λ (k : WeakKind). ltb weak.at (place_count c.args.chip.now.geometry k) ≡ true) (sym kind) (lt-ltb _ _ there))
+          (subst (λ (k : WeakKind). not (is_weak c.args.chip.now k weak.at) ≡ true) (sym kind) (subst (λ b. not b ≡ true) (m.programs.flag_is weak.at) free)),
+      marked_page c.args.chip.now c.args.self _ weak m kind there free refl stored refl refl refl,
+    )
