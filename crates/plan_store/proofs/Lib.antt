@@ -1,0 +1,4 @@
+pub mod Geometries
+pub mod Controllers
+pub mod Found
+pub mod Refused

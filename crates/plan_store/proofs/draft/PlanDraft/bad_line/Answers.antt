@@ -1,0 +1,30 @@
+use Rattle.std.proofs.Common.{◌≡◌, List, [], ◌∷◌, ◌++◌, Ok, refl, sym, ap, ◌∙◌, subst}
+use Rattle.plan_grammar.specs.declared.lines.PlanLines.{PlanLines}
+use Rattle.plan_grammar.specs.declared.lines.ChipLines.{ChipLines}
+use Rattle.plan_grammar.specs.declared.lines.DefectLine.{DefectLine}
+use Rattle.plan_grammar.specs.declared.lines.DefectLine.TheVariants.{Bad}
+use Rattle.plan_store.specs.declared.hardware.HardwareIndex.{HardwareIndex}
+use Rattle.plan_store.specs.Hardware.{HardwareInStep}
+use Rattle.plan_store.proofs.Controllers.{marks_of, open_at, step_defect}
+use Rattle.plan_store.proofs.Found.{open_found}
+use Rattle.plan_store.proofs.draft.PlanDraft.bad_line.Goals as goal
+
+pub add_bad-requires : goal.add_bad-requires
+add_bad-requires c =
+    let h = open_found c.self.inside.lines c.in_ok-chip.chip.now c.in_ok-chip.ensures in
+    marks_of _ c.in_ok-chip.chip.now c.self.inside.hardware.marks
+    (open_at c.self.inside.lines.controllers h.0.chips c.in_ok-chip.chip.now h.0.controller_is h.0.chip_is) c.self.invariant.hardware.marks
+
+pub invariant_of-result : goal.invariant_of-result
+invariant_of-result c =
+    let h = open_found c.self.inside.lines c.in_ok-chip.chip.now c.in_ok-chip.ensures in
+    let new : HardwareIndex = record {
+      pages = c.self.inside.hardware.pages;
+      marks = c.in_ok-hardware.field-0;
+      devices = c.self.inside.hardware.devices;
+    } in
+    record {
+      hardware = subst (λ (plan : PlanLines). HardwareInStep plan.controllers new) (sym c.in_ok-add_defect.ensures)
+          (step_defect c.self.inside.lines.controllers c.self.inside.hardware new h.0.chips c.in_ok-chip.chip.now (Bad _)
+          c.self.invariant.hardware h.0.controller_is h.0.chip_is h.1 c.in_ok-hardware.ensures.1 refl refl);
+    }

@@ -1,0 +1,30 @@
+use Rattle.std.proofs.Common.{◌≡◌, ◌+◌, ◌≤◌, ◌<◌, Bool, true, ◌&&◌, ltb, leb, List, [], ◌∷◌, ◌++◌, Ok, refl, sym, ap, ◌∙◌, subst}
+use Rattle.std.proofs.lemmas.Bool.{and_parts, leb-true, ltb-true}
+use Rattle.plan_grammar.specs.declared.kind.PlanKind.TheVariants.{WrongPlace, TooLarge}
+use Rattle.plan_grammar.specs.declared.lines.PlanLines.{PlanLines}
+use Rattle.plan_grammar.specs.declared.lines.ChipLines.{ChipLines}
+use Rattle.plan_grammar.specs.Limits.{most_chips, most_pages}
+use Rattle.plan_grammar.specs.Rules.{last_of}
+use Rattle.plan_store.specs.declared.hardware.HardwareIndex.{HardwareIndex}
+use Rattle.plan_store.specs.Hardware.{HardwareInStep}
+use Rattle.plan_store.proofs.Controllers.{step_chip}
+use Rattle.plan_store.proofs.Found.{there_found, rule_true}
+use Rattle.plan_store.proofs.draft.PlanDraft.chip_line.Goals as goal
+
+pub invariant_of-result : goal.invariant_of-result
+invariant_of-result c =
+    let new : HardwareIndex = record {
+      pages = c.self.inside.hardware.pages + c.page_count.result;
+      marks = c.in_ok-hardware.field-0;
+      devices = c.self.inside.hardware.devices;
+    } in
+    let chip : ChipLines = record { geometry = c.in_ok-geometry.geometry; defects = c.new.result; parts = c.new-2.result } in
+    let found = there_found (last_of c.self.inside.lines.controllers) WrongPlace c.in_ok-last_chips.field-0.now c.in_ok-last_chips.ensures in
+    let fits : c.chip_fits.result ≡ true = rule_true c.chip_fits.result TooLarge c.in_ok-rule-3.field-0 (sym c.in_ok-rule-3.ensures) in
+    let both = and_parts (ltb c.len-chips.result most_chips) (leb new.pages most_pages) (sym c.chip_fits.ensures ∙ fits) in
+    record {
+      hardware = subst (λ (plan : PlanLines). HardwareInStep plan.controllers new) (sym c.in_ok-add_chip.ensures)
+          (step_chip c.self.inside.lines.controllers c.self.inside.hardware new c.in_ok-last_chips.field-0.now chip
+          c.self.invariant.hardware found c.new-2.ensures (subst (λ n. n < most_chips) c.len-chips.ensures (ltb-true c.len-chips.result most_chips both.0)) c.in_ok-hardware.ensures
+          (ap (λ n. c.self.inside.hardware.pages + n) c.page_count.ensures.pages) (leb-true new.pages most_pages both.1) refl);
+    }

@@ -1,0 +1,40 @@
+use Rattle.std.proofs.Common.{◌≡◌, List, [], ◌∷◌, ◌++◌, Ok, Err, refl, sym, ap, ◌∙◌, subst}
+use Rattle.nand_model.specs.declared.words.Weak.{Weak}
+use Rattle.plan_grammar.specs.declared.lines.PlanLines.{PlanLines}
+use Rattle.plan_grammar.specs.declared.lines.DefectLine.TheVariants.{Weak as WeakAt}
+use Rattle.plan_grammar.specs.Hardware.{weak_line}
+use Rattle.plan_store.specs.declared.hardware.HardwareIndex.{HardwareIndex}
+use Rattle.plan_store.specs.Hardware.{HardwareInStep}
+use Rattle.plan_store.proofs.Controllers.{marks_of, open_at, step_defect}
+use Rattle.std.proofs.lemmas.Result.{err_from_is_err_and}
+use Rattle.plan_store.proofs.Refused.{weak_refused}
+use Rattle.plan_store.proofs.Found.{open_found}
+use Rattle.plan_store.proofs.draft.PlanDraft.weak_line.Goals as goal
+
+pub add_weak-requires : goal.add_weak-requires
+add_weak-requires c =
+    let h = open_found c.self.inside.lines c.in_ok-chip.chip.now c.in_ok-chip.ensures in
+    marks_of _ c.in_ok-chip.chip.now c.self.inside.hardware.marks
+    (open_at c.self.inside.lines.controllers h.0.chips c.in_ok-chip.chip.now h.0.controller_is h.0.chip_is) c.self.invariant.hardware.marks
+
+pub returns-in_err-hardware : goal.returns-in_err-hardware
+returns-in_err-hardware c =
+    let p = err_from_is_err_and c.from_residual-in_err-hardware.result c.from_residual-in_err-hardware.ensures.1 in
+    rw (p.1, p.2) (subst (λ (plan : PlanLines). weak_line plan c.args.words ≡ Err c.in_err-hardware.field-0.0) c.self.view_is (weak_refused c.self.inside.lines c.args.words c.in_ok-chip.chip.now c.in_ok-kind.kind.now c.in_ok-kind.at.now
+    c.in_ok-kind.after.now c.in_ok-kind.torn.now _ _ c.in_ok-chip.ensures c.in_ok-kind.ensures
+    (sym c.weak_kind.ensures ∙ c.in_ok-ok_or.ensures.ok_part) (sym c.in_ok-small_number.ensures)
+    (sym c.in_ok-small_number-2.ensures) c.in_ok-tear.ensures c.in_err-hardware.ensures))
+
+pub invariant_of-result : goal.invariant_of-result
+invariant_of-result c =
+    let h = open_found c.self.inside.lines c.in_ok-chip.chip.now c.in_ok-chip.ensures in
+    let new : HardwareIndex = record {
+      pages = c.self.inside.hardware.pages;
+      marks = c.in_ok-hardware.field-0;
+      devices = c.self.inside.hardware.devices;
+    } in
+    record {
+      hardware = subst (λ (plan : PlanLines). HardwareInStep plan.controllers new) (sym c.in_ok-add_defect.ensures)
+          (step_defect c.self.inside.lines.controllers c.self.inside.hardware new h.0.chips c.in_ok-chip.chip.now (WeakAt _)
+          c.self.invariant.hardware h.0.controller_is h.0.chip_is h.1 c.in_ok-hardware.ensures.1 refl refl);
+    }

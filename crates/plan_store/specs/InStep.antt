@@ -1,0 +1,7 @@
+-- What is kept beside a plan's lines tells them.
+use Rattle.plan_store.specs.declared.draft.PlanDraft.TheInside.{Inside}
+use Rattle.plan_store.specs.Hardware.{HardwareInStep}
+
+-- what is kept is of these lines
+pub record InStep (draft : Inside) : Type 0 where
+  pub hardware : HardwareInStep draft.lines.controllers draft.hardware

@@ -1,0 +1,2 @@
+pub mod Hardware
+pub mod InStep

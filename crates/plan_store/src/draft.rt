@@ -1,0 +1,271 @@
+// A plan to which line after line is added.
+ghost use Rattle.std.specs.Prelude.{◌≡◌, ◌≤◌, ◌&&◌, ◌||◌, ◌==◌, ◌∷◌, ◌++◌, [], length, nat_lt, nat_le, OnOk};
+ghost use Rattle.plan_grammar.specs.Limits.{most_chips, most_pages};
+ghost use Rattle.nand_model.specs.Sizes.{page_count};
+ghost use Rattle.plan_grammar.specs.Rules.{is_empty};
+ghost use Rattle.plan_grammar.specs.Grammar.{no_lines};
+ghost use Rattle.plan_grammar.specs.Hardware.{header_line, controller_line, chip_line, bad_line, weak_line, part_line, is_version, is_hardware, has_chip};
+ghost use Rattle.plan_grammar.specs.Faults.{boot_line};
+ghost use Rattle.plan_grammar.specs.Sessions.{session_line};
+ghost use Rattle.plan_words.specs.Answer.{Answers};
+
+use crate::hardware::HardwareIndex;
+use crate::geometry::sizes;
+use crate::places::{has_chip, is_hardware, last_chip, last_chips, open_chip, rule, running_boot};
+use nand_model::{Geometry, ItemList, Weak};
+use plan_grammar::{BootLines, ChipLines, DefectLine, PlanKind, PlanLines, SessionLines};
+use plan_index::{ChipMarks, DeviceSize, add_chip, add_defect, add_part, add_session};
+use plan_words::{
+    LineError, Words, four_words, number, one_word, small_number, small_numbers, tear, two_words,
+    weak_kind,
+};
+use std::alloc::{AllocError, Global};
+use std::marker::Model;
+
+/// A plan to which line after line is added. Contracts see it as its lines.
+#[derive(Drop)]
+pub struct PlanDraft {
+    pub(crate) lines: PlanLines,
+    pub(crate) hardware: HardwareIndex,
+}
+
+impl Model for PlanDraft {
+    ghost use Rattle.plan_grammar.specs.declared.lines.PlanLines.{PlanLines};
+
+    ghost Value = { PlanLines };
+
+    ghost use Rattle.plan_store.specs.InStep.{InStep};
+
+    ghost view = { λ d. d.lines };
+
+    ghost invariant = { λ d. InStep d };
+}
+
+impl PlanDraft {
+    /// A plan without lines. It takes no memory.
+    pub fn new(alloc: Global) -> PlanDraft
+        ensures { result ≡ no_lines }
+    {
+        PlanDraft {
+            lines: PlanLines {
+                begun: false,
+                controllers: ItemList::new(alloc),
+                payloads: ItemList::new(alloc),
+                boots: ItemList::new(alloc),
+            },
+            hardware: HardwareIndex::new(alloc),
+        }
+    }
+
+    /// The header, `nandlab 1`: the first line with words.
+    #[tactic(auto, unfolding(plan_grammar::specs::Hardware::header_line))]
+    pub fn header_line(self, words: Words<'_>) -> Result<PlanDraft, LineError>
+        ensures { Answers result (header_line self words.entry) }
+    {
+        let mut draft = self;
+        rule(!draft.lines.begun, PlanKind::WrongPlace)?;
+        rule(is_version(words), PlanKind::BadWords)?;
+        draft.lines.begun = true;
+        Ok(draft)
+    }
+
+    /// `controller`, after the header or a controller that has a chip.
+    #[tactic(auto, unfolding(plan_grammar::specs::Hardware::controller_line))]
+    pub fn controller_line(self, alloc: Global, words: Words<'_>) -> Result<PlanDraft, LineError>
+        ensures { Answers result (controller_line self words.entry) }
+    {
+        let mut draft = self;
+        rule(may_begin_controller(&draft.lines), PlanKind::WrongPlace)?;
+        rule(words.is_empty(), PlanKind::BadWords)?;
+        rule(draft.lines.controllers.len() < 8, PlanKind::TooLarge)?;
+        draft.lines.controllers.append(ItemList::new(alloc))?;
+        Ok(draft)
+    }
+
+    /// `chip PAGE SPARE PPB BLOCKS T BBT` and optionally `THRESHOLD`, in a controller.
+    #[tactic(auto, unfolding(plan_grammar::specs::Hardware::chip_line))]
+    pub fn chip_line(self, alloc: Global, words: Words<'_>) -> Result<PlanDraft, LineError>
+        ensures { Answers result (chip_line self words.entry) }
+    {
+        let PlanDraft {
+            mut lines,
+            mut hardware,
+        } = self;
+        rule(is_hardware(&lines), PlanKind::WrongPlace)?;
+        let chips = last_chips(&lines)?.len();
+        rule(has_chip_words(words.len()), PlanKind::BadWords)?;
+        let numbers = small_numbers(alloc, words)?.into_vec();
+        let geometry = sizes(&numbers)?;
+        hardware.pages += page_count(&geometry);
+        rule(chip_fits(chips, hardware.pages), PlanKind::TooLarge)?;
+        let chip = ChipLines {
+            geometry,
+            defects: ItemList::new(alloc),
+            parts: ItemList::new(alloc),
+        };
+        hardware.marks = ChipMarks::new(alloc, &chip)?;
+        add_chip(&mut lines, chip)?;
+        Ok(PlanDraft { lines, hardware })
+    }
+
+    /// `bad BLOCK` and further BLOCKs, after a chip, before its parts.
+    #[tactic(auto, unfolding(plan_grammar::specs::Hardware::bad_line))]
+    pub fn bad_line(self, alloc: Global, words: Words<'_>) -> Result<PlanDraft, LineError>
+        ensures { Answers result (bad_line self words.entry) }
+    {
+        let PlanDraft {
+            mut lines,
+            mut hardware,
+        } = self;
+        let chip = open_chip(&lines)?;
+        rule(!words.is_empty(), PlanKind::BadWords)?;
+        let blocks = small_numbers(alloc, words)?;
+        hardware.marks = hardware.marks.add_bad(chip, &blocks)?;
+        add_defect(&mut lines, DefectLine::Bad(blocks))?;
+        Ok(PlanDraft { lines, hardware })
+    }
+
+    /// `weak program PAGE AFTER TEAR` or `weak erase BLOCK AFTER TEAR`, after a chip, before its parts.
+    #[tactic(auto, unfolding(plan_grammar::specs::Hardware::weak_line, plan_grammar::specs::Hardware::weak_form, plan_grammar::specs::Hardware::weak_words))]
+    pub fn weak_line(self, alloc: Global, words: Words<'_>) -> Result<PlanDraft, LineError>
+        ensures { Answers result (weak_line self words.entry) }
+    {
+        let PlanDraft {
+            mut lines,
+            mut hardware,
+        } = self;
+        let chip = open_chip(&lines)?;
+        let (kind, at, after, torn) = four_words(words)?;
+        let weak = Weak {
+            kind: weak_kind(kind).ok_or(PlanKind::BadWords)?,
+            at: small_number(at)?,
+            after: small_number(after)?,
+            tear: tear(alloc, torn)?,
+        };
+        hardware.marks = hardware.marks.add_weak(chip, &weak)?;
+        add_defect(&mut lines, DefectLine::Weak(weak))?;
+        Ok(PlanDraft { lines, hardware })
+    }
+
+    /// `part START COUNT`, after a chip.
+    #[tactic(auto, unfolding(plan_grammar::specs::Hardware::part_line, plan_grammar::specs::Hardware::part_form, plan_grammar::specs::Hardware::part_words))]
+    pub fn part_line(self, words: Words<'_>) -> Result<PlanDraft, LineError>
+        ensures { Answers result (part_line self words.entry) }
+    {
+        let PlanDraft {
+            mut lines,
+            mut hardware,
+        } = self;
+        rule(is_hardware(&lines), PlanKind::WrongPlace)?;
+        let chip = last_chip(&lines)?;
+        let (start, count) = two_words(words)?;
+        let start = small_number(start)?;
+        let count = small_number(count)?;
+        let (part, marks) = hardware.marks.add_part(chip, start, count)?;
+        let device = DeviceSize {
+            controller: lines.controllers.len() - 1,
+            geometry: chip.geometry,
+            blocks: part.count,
+            weak: marks.weak_programs,
+        };
+        hardware.marks = marks;
+        push_device(&mut hardware.devices, device)?;
+        add_part(&mut lines, part)?;
+        Ok(PlanDraft { lines, hardware })
+    }
+
+    /// `boot`, where the last controller has a chip.
+    #[tactic(auto, unfolding(plan_grammar::specs::Faults::boot_line))]
+    pub fn boot_line(self, alloc: Global, words: Words<'_>) -> Result<PlanDraft, LineError>
+        ensures { Answers result (boot_line self words.entry) }
+    {
+        let mut draft = self;
+        rule(has_chip(&draft.lines), PlanKind::WrongPlace)?;
+        rule(words.is_empty(), PlanKind::BadWords)?;
+        rule(draft.lines.boots.len() < 64, PlanKind::TooLarge)?;
+        let boot = BootLines {
+            faults: ItemList::new(alloc),
+            sessions: ItemList::new(alloc),
+            schedule: ItemList::new(alloc),
+        };
+        draft.lines.boots.append(boot)?;
+        Ok(draft)
+    }
+
+    /// `session C`, in a boot.
+    #[tactic(auto, unfolding(plan_grammar::specs::Sessions::session_line, plan_grammar::specs::Sessions::session_form))]
+    pub fn session_line(self, alloc: Global, words: Words<'_>) -> Result<PlanDraft, LineError>
+        ensures { Answers result (session_line self words.entry) }
+    {
+        let mut draft = self;
+        let sessions = running_boot(&draft.lines)?.sessions.len();
+        let controller = number(one_word(words)?)?;
+        rule(has_controller(&draft.lines, controller), PlanKind::OutOfChip)?;
+        rule(sessions < 64, PlanKind::TooLarge)?;
+        let session = SessionLines {
+            controller: controller as u32,
+            commands: ItemList::new(alloc),
+        };
+        add_session(&mut draft.lines, session)?;
+        Ok(draft)
+    }
+}
+
+/// The greatest number of pages of all chips.
+const MOST_PAGES: u32 = 524_288;
+
+// Whether there is a controller of this number.
+fn has_controller(lines: &PlanLines, controller: u64) -> bool
+    ensures { result ≡ nat_lt controller (length lines.now.controllers) }
+{
+    controller < lines.controllers.len() as u64
+}
+
+// Adds a device.
+fn push_device(devices: &mut Vec<DeviceSize>, device: DeviceSize) -> Result<(), AllocError>
+    ensures { OnOk result (devices.new.items ≡ devices.old.items ++ device ∷ []) }
+{
+    devices.push(device)?;
+    Ok(())
+}
+
+// A chip's line has six or seven words.
+fn has_chip_words(count: usize) -> bool
+    ensures { result ≡ (count == 6 || count == 7) }
+{
+    count == 6 || count == 7
+}
+
+// Whether a controller of so many chips has room for another one, with which all chips have so many pages.
+fn chip_fits(chips: usize, pages: u32) -> bool
+    ensures { result ≡ (nat_lt chips most_chips && nat_le pages most_pages) }
+{
+    chips < 8 && pages <= MOST_PAGES
+}
+
+// The pages of a chip.
+fn page_count(g: &Geometry) -> u32
+    ensures pages { result ≡ page_count g.now }
+    ensures few { result ≤ 524288 }
+{
+    g.blocks * g.pages_per_block
+}
+
+// Whether a controller may begin.
+fn may_begin_controller(lines: &PlanLines) -> bool
+    ensures { result ≡ (lines.now.begun && is_hardware lines.now
+        && (is_empty lines.now.controllers || has_chip lines.now)) }
+{
+    lines.begun && is_hardware(lines) && (lines.controllers.len() == 0 || has_chip(lines))
+}
+
+// The only word is a number of value 1.
+#[tactic(auto, unfolding(plan_grammar::specs::Forms::one_word))]
+fn is_version(words: Words<'_>) -> bool
+    ensures { result ≡ is_version words.entry }
+{
+    match one_word(words) {
+        Ok(word) => lab_text::number(word) == Some(1),
+        Err(_) => false,
+    }
+}

@@ -1,0 +1,50 @@
+// The sizes of a chip's line.
+ghost use Rattle.std.specs.Prelude.{◌≡◌};
+ghost use Rattle.plan_grammar.specs.Hardware.{geometry as geometry_of_line, sizes};
+
+use nand_model::{Geometry, GeometryError, ItemList};
+use plan_grammar::PlanKind;
+
+// The sizes of numbers, with the threshold or 0.
+fn geometry_of(
+    page: u32,
+    spare: u32,
+    pages_per_block: u32,
+    blocks: u32,
+    t: u32,
+    bbt: u32,
+    threshold: u32,
+) -> Result<Geometry, PlanKind>
+    ensures { result
+        ≡ geometry_of_line page spare pages_per_block blocks t bbt threshold }
+{
+    match Geometry::new(page, spare, pages_per_block, blocks, t, bbt, threshold) {
+        Ok(geometry) => Ok(geometry),
+        Err(error) => match error {
+            GeometryError::BadSize => Err(PlanKind::BadSize),
+            GeometryError::SpareTooSmall => Err(PlanKind::SpareTooSmall),
+        },
+    }
+}
+
+/// The sizes of six numbers, or of seven with the threshold.
+#[tactic(auto, unfolding(plan_grammar::specs::Hardware::sizes))]
+pub fn sizes(numbers: &[u32]) -> Result<Geometry, PlanKind>
+    ensures { result ≡ sizes numbers.now }
+{
+    match numbers {
+        [page, spare, pages_per_block, blocks, t, bbt] => {
+            geometry_of(*page, *spare, *pages_per_block, *blocks, *t, *bbt, 0)
+        }
+        [page, spare, pages_per_block, blocks, t, bbt, threshold] => geometry_of(
+            *page,
+            *spare,
+            *pages_per_block,
+            *blocks,
+            *t,
+            *bbt,
+            *threshold,
+        ),
+        _ => Err(PlanKind::BadWords),
+    }
+}

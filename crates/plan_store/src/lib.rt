@@ -1,0 +1,9 @@
+//! A plan to which line after line is added, each by its rules.
+#![tactic(auto)]
+
+mod draft;
+mod geometry;
+mod hardware;
+mod places;
+
+pub use draft::PlanDraft;
