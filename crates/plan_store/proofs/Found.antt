@@ -1,14 +1,11 @@
 -- What is known where rules were kept.
-use Rattle.std.proofs.Common.{◌≡◌, ℕ, Bool, true, false, List, [], ◌∷◌, Option, Some, None, Result, Ok, Err, refl, sym, ap, ◌∙◌, subst}
+use Rattle.std.proofs.Common.{◌≡◌, Bool, true, false, List, [], ◌∷◌, Option, Some, None, Result, Ok, Err, refl, subst}
 use Rattle.plan_grammar.specs.declared.kind.PlanKind.{PlanKind}
 use Rattle.plan_grammar.specs.declared.kind.PlanKind.TheVariants.{WrongPlace}
 use Rattle.plan_grammar.specs.declared.lines.PlanLines.{PlanLines}
 use Rattle.plan_grammar.specs.declared.lines.ChipLines.{ChipLines}
-use Rattle.plan_grammar.specs.declared.lines.BootLines.{BootLines}
 use Rattle.plan_grammar.specs.Rules.{◌>>=◌, rule, there, is_empty, last_of}
 use Rattle.plan_grammar.specs.Hardware.{is_hardware, last_chips, last_chip, open_chip}
-use Rattle.plan_grammar.specs.Faults.{last_boot, open_boot}
-use Rattle.plan_grammar.specs.Sessions.{running_boot}
 
 abbrev good : {A : Type 0} → A → Result A PlanKind
 good x = Ok x
@@ -66,6 +63,7 @@ open_found plan chip e =
     let first = rule_kept (is_hardware plan) WrongPlace (λ u. last_chip plan >>= λ (c : ChipLines). rule (is_empty c.parts) WrongPlace >>= λ u. Ok c) chip e in
     let second = step_kept (last_chip plan) (λ (c : ChipLines). rule (is_empty c.parts) WrongPlace >>= λ u. Ok c) chip first.1 in
     let third = rule_kept (is_empty second.0.parts) WrongPlace (λ u. Ok second.0) chip second.2 in
-    let same : second.0 ≡ chip = let whole : good second.0 ≡ good chip = third.1 in cc whole in
-    (last_found plan chip (subst (λ (c : ChipLines). last_chip plan ≡ Ok c) same second.1),
-    subst (λ (c : ChipLines). c.parts ≡ []) same (empty_is second.0.parts third.0))
+    let same : second.0 ≡ chip = let whole : good second.0 ≡ good chip = third.1 in cc whole in (
+      last_found plan chip (subst (λ (c : ChipLines). last_chip plan ≡ Ok c) same second.1),
+      subst (λ (c : ChipLines). c.parts ≡ []) same (empty_is second.0.parts third.0),
+    )

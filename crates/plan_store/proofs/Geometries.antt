@@ -1,11 +1,10 @@
 -- The sizes of a chip's line, made or refused.
-use Rattle.std.proofs.Common.{◌≡◌, ℕ, Bool, true, false, Option, Some, None, Result, Ok, Err, refl, sym, ap, ◌∙◌, subst}
+use Rattle.std.proofs.Common.{◌≡◌, ℕ, Bool, true, false, Option, Some, Ok, Err, refl, sym, ap, subst}
 use Rattle.std.proofs.Props.{props}
 use Rattle.code_model.specs.Code.{code_512}
 use Rattle.nand_model.specs.Layout.{IsGeometry, is_geometry, has_sizes, has_room, threshold_in_force}
 use Rattle.nand_model.specs.declared.geometry.Geometry.{Geometry}
 use Rattle.nand_model.proofs.Bounds.{geometry_made}
-use Rattle.plan_grammar.specs.declared.kind.PlanKind.{PlanKind}
 use Rattle.plan_grammar.specs.declared.kind.PlanKind.TheVariants.{BadSize, SpareTooSmall}
 use Rattle.plan_grammar.specs.Rules.{◌>>=◌, rule, there}
 use Rattle.plan_grammar.specs.Hardware.{geometry, geometry_of, geometry_if}

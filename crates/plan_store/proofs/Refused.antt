@@ -1,13 +1,13 @@
 -- Lines whose last rules are broken.
-use Rattle.std.proofs.Common.{◌≡◌, ℕ, ◌+◌, Bool, true, false, not, ◌&&◌, ltb, leb, List, Option, Some, None, Result, Ok, Err, refl, sym, ap, ◌∙◌, subst}
+use Rattle.std.proofs.Common.{◌≡◌, ℕ, ◌+◌, Bool, true, false, not, ◌&&◌, ltb, leb, List, Some, Result, Ok, Err, refl, ap}
 use Rattle.std.specs.List.{list_any}
 use Rattle.nand_model.specs.declared.words.Weak.{Weak}
 use Rattle.plan_grammar.specs.declared.kind.PlanKind.{PlanKind}
-use Rattle.plan_grammar.specs.declared.kind.PlanKind.TheVariants.{BadWords, OutOfChip, Overlap}
+use Rattle.plan_grammar.specs.declared.kind.PlanKind.TheVariants.{OutOfChip, Overlap}
 use Rattle.plan_grammar.specs.declared.lines.PlanLines.{PlanLines}
 use Rattle.plan_grammar.specs.declared.lines.ChipLines.{ChipLines}
 use Rattle.plan_grammar.specs.declared.lines.DefectLine.TheVariants.{Weak as WeakAt}
-use Rattle.plan_grammar.specs.Rules.{◌>>=◌, rule, there}
+use Rattle.plan_grammar.specs.Rules.{◌>>=◌, rule}
 use Rattle.plan_grammar.specs.Forms.{four_words, two_words, weak_kind, small_number, tear}
 use Rattle.plan_grammar.specs.Devices.{is_weak, share_block}
 use Rattle.plan_grammar.specs.Hardware.{weak_line, weak_form, weak_words, open_chip, place_count, with_defect, part_line, part_form, part_words, part_in_force, with_part, is_hardware, last_chip}

@@ -1,5 +1,5 @@
 -- What is kept of controllers tells their lines.
-use Rattle.std.specs.Prelude.{◌≡◌, ℕ, ◌≤◌, true, nat_le, List, length, map, sum_by, Option, Some, None}
+use Rattle.std.specs.Prelude.{◌≡◌, ◌≤◌, true, nat_le, List, length, map, sum_by, Option, Some, None}
 use Rattle.std.specs.List.{list_all}
 use Rattle.plan_grammar.specs.declared.lines.ChipLines.{ChipLines}
 use Rattle.plan_grammar.specs.Limits.{most_controllers, most_chips, most_pages}

@@ -9,8 +9,8 @@ ghost use Rattle.plan_grammar.specs.Faults.{boot_line};
 ghost use Rattle.plan_grammar.specs.Sessions.{session_line};
 ghost use Rattle.plan_words.specs.Answer.{Answers};
 
-use crate::hardware::HardwareIndex;
 use crate::geometry::sizes;
+use crate::hardware::HardwareIndex;
 use crate::places::{has_chip, is_hardware, last_chip, last_chips, open_chip, rule, running_boot};
 use nand_model::{Geometry, ItemList, Weak};
 use plan_grammar::{BootLines, ChipLines, DefectLine, PlanKind, PlanLines, SessionLines};
@@ -125,8 +125,9 @@ impl PlanDraft {
         Ok(PlanDraft { lines, hardware })
     }
 
-    /// `weak program PAGE AFTER TEAR` or `weak erase BLOCK AFTER TEAR`, after a chip, before its parts.
-    #[tactic(auto, unfolding(plan_grammar::specs::Hardware::weak_line, plan_grammar::specs::Hardware::weak_form, plan_grammar::specs::Hardware::weak_words))]
+    /// `weak program PAGE AFTER TEAR` or `weak erase BLOCK AFTER TEAR`, after a chip, before its
+    /// parts.
+    #[tactic(auto, unfolding(plan_grammar::specs::Hardware::weak_line, plan_grammar::specs::Hardware::weak_form, plan_grammar::specs::Hardware::weak_words,))]
     pub fn weak_line(self, alloc: Global, words: Words<'_>) -> Result<PlanDraft, LineError>
         ensures { Answers result (weak_line self words.entry) }
     {
@@ -148,7 +149,7 @@ impl PlanDraft {
     }
 
     /// `part START COUNT`, after a chip.
-    #[tactic(auto, unfolding(plan_grammar::specs::Hardware::part_line, plan_grammar::specs::Hardware::part_form, plan_grammar::specs::Hardware::part_words))]
+    #[tactic(auto, unfolding(plan_grammar::specs::Hardware::part_line, plan_grammar::specs::Hardware::part_form, plan_grammar::specs::Hardware::part_words,))]
     pub fn part_line(self, words: Words<'_>) -> Result<PlanDraft, LineError>
         ensures { Answers result (part_line self words.entry) }
     {
@@ -193,14 +194,17 @@ impl PlanDraft {
     }
 
     /// `session C`, in a boot.
-    #[tactic(auto, unfolding(plan_grammar::specs::Sessions::session_line, plan_grammar::specs::Sessions::session_form))]
+    #[tactic(auto, unfolding(plan_grammar::specs::Sessions::session_line, plan_grammar::specs::Sessions::session_form,))]
     pub fn session_line(self, alloc: Global, words: Words<'_>) -> Result<PlanDraft, LineError>
         ensures { Answers result (session_line self words.entry) }
     {
         let mut draft = self;
         let sessions = running_boot(&draft.lines)?.sessions.len();
         let controller = number(one_word(words)?)?;
-        rule(has_controller(&draft.lines, controller), PlanKind::OutOfChip)?;
+        rule(
+            has_controller(&draft.lines, controller),
+            PlanKind::OutOfChip,
+        )?;
         rule(sessions < 64, PlanKind::TooLarge)?;
         let session = SessionLines {
             controller: controller as u32,
@@ -236,7 +240,8 @@ fn has_chip_words(count: usize) -> bool
     count == 6 || count == 7
 }
 
-// Whether a controller of so many chips has room for another one, with which all chips have so many pages.
+// Whether a controller of so many chips has room for another one, with which all chips have so many
+// pages.
 fn chip_fits(chips: usize, pages: u32) -> bool
     ensures { result ≡ (nat_lt chips most_chips && nat_le pages most_pages) }
 {

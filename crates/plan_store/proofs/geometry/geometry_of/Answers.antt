@@ -1,4 +1,4 @@
-use Rattle.std.proofs.Common.{◌≡◌, Bool, true, false, Result, Ok, Err, sym, ap, ◌∙◌}
+use Rattle.std.proofs.Common.{◌≡◌, Result, Ok, Err, sym, ap, ◌∙◌}
 use Rattle.std.proofs.lemmas.Bool.{true_from_ne_false}
 use Rattle.code_model.specs.Code.{code_512}
 use Rattle.nand_model.specs.Layout.{has_sizes, has_room}
@@ -22,9 +22,9 @@ returns-in-Ok c =
     let a = c.args in
     let e = c.in-Ok.ensures in
     let sizes = true_from_ne_false (has_sizes a.page a.spare a.pages_per_block a.blocks a.t a.bbt a.threshold)
-        (λ no. not_refused c.in-Ok.geometry BadSize (e.bad_size.1 no)) in
+    (λ no. not_refused c.in-Ok.geometry BadSize (e.bad_size.1 no)) in
     let room = true_from_ne_false (has_room (code_512 a.t) a.page a.spare a.bbt)
-        (λ no. not_refused c.in-Ok.geometry SpareTooSmall (e.too_small.1 (sizes, no))) in
+    (λ no. not_refused c.in-Ok.geometry SpareTooSmall (e.too_small.1 (sizes, no))) in
     sym (geometry_good c.in-Ok.geometry a.page a.spare a.pages_per_block a.blocks a.t a.bbt a.threshold sizes room
     e.page e.spare e.pages_per_block e.blocks e.t e.bbt e.threshold)
 

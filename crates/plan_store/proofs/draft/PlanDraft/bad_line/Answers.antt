@@ -1,7 +1,5 @@
-use Rattle.std.proofs.Common.{◌≡◌, List, [], ◌∷◌, ◌++◌, Ok, refl, sym, ap, ◌∙◌, subst}
+use Rattle.std.proofs.Common.{refl, sym, subst}
 use Rattle.plan_grammar.specs.declared.lines.PlanLines.{PlanLines}
-use Rattle.plan_grammar.specs.declared.lines.ChipLines.{ChipLines}
-use Rattle.plan_grammar.specs.declared.lines.DefectLine.{DefectLine}
 use Rattle.plan_grammar.specs.declared.lines.DefectLine.TheVariants.{Bad}
 use Rattle.plan_store.specs.declared.hardware.HardwareIndex.{HardwareIndex}
 use Rattle.plan_store.specs.Hardware.{HardwareInStep}

@@ -11,7 +11,7 @@ pub invariant_of-draft : goal.invariant_of-draft
 invariant_of-draft c =
     let old : List (List ChipLines) = c.draft.inside.lines.controllers in
     let room : length old < 8 = subst (λ n. n < 8) c.len.ensures (ltb-true c.len.result 8
-        (rule_true (ltb c.len.result 8) TooLarge c.in_ok-rule-3.field-0 (sym c.in_ok-rule-3.ensures))) in
+    (rule_true (ltb c.len.result 8) TooLarge c.in_ok-rule-3.field-0 (sym c.in_ok-rule-3.ensures))) in
     record {
       hardware = subst (λ (cs : List (List ChipLines)). HardwareInStep cs c.draft.inside.hardware)
           (sym (c.in_ok-append.ensures.ok ∙ ap (λ (new : List ChipLines). old ++ new ∷ []) c.new.ensures))
