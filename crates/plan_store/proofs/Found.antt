@@ -4,8 +4,10 @@ use Rattle.plan_grammar.specs.declared.kind.PlanKind.{PlanKind}
 use Rattle.plan_grammar.specs.declared.kind.PlanKind.TheVariants.{WrongPlace}
 use Rattle.plan_grammar.specs.declared.lines.PlanLines.{PlanLines}
 use Rattle.plan_grammar.specs.declared.lines.ChipLines.{ChipLines}
+use Rattle.plan_grammar.specs.declared.lines.BootLines.{BootLines}
 use Rattle.plan_grammar.specs.Rules.{◌>>=◌, rule, there, is_empty, last_of}
 use Rattle.plan_grammar.specs.Hardware.{is_hardware, last_chips, last_chip, open_chip}
+use Rattle.plan_grammar.specs.Faults.{last_boot, open_boot}
 
 abbrev good : {A : Type 0} → A → Result A PlanKind
 good x = Ok x
@@ -67,3 +69,12 @@ open_found plan chip e =
       last_found plan chip (subst (λ (c : ChipLines). last_chip plan ≡ Ok c) same second.1),
       subst (λ (c : ChipLines). c.parts ≡ []) same (empty_is second.0.parts third.0),
     )
+
+-- the boot whose faults may stand here is the last
+pub open_boot_found : (plan : PlanLines) (boot : BootLines) → open_boot plan ≡ Ok boot → last_of plan.boots ≡ Some boot
+unfolding open_boot
+open_boot_found plan boot e =
+    let first = step_kept (last_boot plan) (λ (b : BootLines). rule (is_empty b.sessions) WrongPlace >>= λ u. Ok b) boot e in
+    let second = rule_kept (is_empty first.0.sessions) WrongPlace (λ u. Ok first.0) boot first.2 in
+    let same : first.0 ≡ boot = let whole : good first.0 ≡ good boot = second.1 in cc whole in
+    there_found (last_of plan.boots) WrongPlace boot (subst (λ (b : BootLines). last_boot plan ≡ Ok b) same first.1)

@@ -1,2 +1,4 @@
 pub mod Hardware
+pub mod FlipCount
+pub mod Flips
 pub mod InStep

@@ -1,23 +1,20 @@
 // A plan to which line after line is added.
 ghost use Rattle.std.specs.Prelude.{◌≡◌, ◌≤◌, ◌&&◌, ◌||◌, ◌==◌, ◌∷◌, ◌++◌, [], length, nat_lt, nat_le, OnOk};
 ghost use Rattle.plan_grammar.specs.Limits.{most_chips, most_pages};
-ghost use Rattle.nand_model.specs.Sizes.{page_count};
 ghost use Rattle.plan_grammar.specs.Rules.{is_empty};
 ghost use Rattle.plan_grammar.specs.Grammar.{no_lines};
 ghost use Rattle.plan_grammar.specs.Hardware.{header_line, controller_line, chip_line, bad_line, weak_line, part_line, is_version, is_hardware, has_chip};
-ghost use Rattle.plan_grammar.specs.Faults.{boot_line};
-ghost use Rattle.plan_grammar.specs.Sessions.{session_line};
 ghost use Rattle.plan_words.specs.Answer.{Answers};
 
+use crate::faults::page_count;
 use crate::geometry::sizes;
 use crate::hardware::HardwareIndex;
-use crate::places::{has_chip, is_hardware, last_chip, last_chips, open_chip, rule, running_boot};
+use crate::places::{has_chip, is_hardware, last_chip, last_chips, open_chip, rule};
 use nand_model::{Geometry, ItemList, Weak};
-use plan_grammar::{BootLines, ChipLines, DefectLine, PlanKind, PlanLines, SessionLines};
-use plan_index::{ChipMarks, DeviceSize, add_chip, add_defect, add_part, add_session};
+use plan_grammar::{ChipLines, DefectLine, PlanKind, PlanLines};
+use plan_index::{ChipMarks, DeviceSize, add_chip, add_defect, add_part};
 use plan_words::{
-    LineError, Words, four_words, number, one_word, small_number, small_numbers, tear, two_words,
-    weak_kind,
+    LineError, Words, four_words, one_word, small_number, small_numbers, tear, two_words, weak_kind,
 };
 use std::alloc::{AllocError, Global};
 use std::marker::Model;
@@ -27,6 +24,7 @@ use std::marker::Model;
 pub struct PlanDraft {
     pub(crate) lines: PlanLines,
     pub(crate) hardware: HardwareIndex,
+    pub(crate) flips: u32,
 }
 
 impl Model for PlanDraft {
@@ -54,6 +52,7 @@ impl PlanDraft {
                 boots: ItemList::new(alloc),
             },
             hardware: HardwareIndex::new(alloc),
+            flips: 0,
         }
     }
 
@@ -90,6 +89,7 @@ impl PlanDraft {
         let PlanDraft {
             mut lines,
             mut hardware,
+            flips,
         } = self;
         rule(is_hardware(&lines), PlanKind::WrongPlace)?;
         let chips = last_chips(&lines)?.len();
@@ -105,7 +105,11 @@ impl PlanDraft {
         };
         hardware.marks = ChipMarks::new(alloc, &chip)?;
         add_chip(&mut lines, chip)?;
-        Ok(PlanDraft { lines, hardware })
+        Ok(PlanDraft {
+            lines,
+            hardware,
+            flips,
+        })
     }
 
     /// `bad BLOCK` and further BLOCKs, after a chip, before its parts.
@@ -116,24 +120,30 @@ impl PlanDraft {
         let PlanDraft {
             mut lines,
             mut hardware,
+            flips,
         } = self;
         let chip = open_chip(&lines)?;
         rule(!words.is_empty(), PlanKind::BadWords)?;
         let blocks = small_numbers(alloc, words)?;
         hardware.marks = hardware.marks.add_bad(chip, &blocks)?;
         add_defect(&mut lines, DefectLine::Bad(blocks))?;
-        Ok(PlanDraft { lines, hardware })
+        Ok(PlanDraft {
+            lines,
+            hardware,
+            flips,
+        })
     }
 
     /// `weak program PAGE AFTER TEAR` or `weak erase BLOCK AFTER TEAR`, after a chip, before its
     /// parts.
-    #[tactic(auto, unfolding(plan_grammar::specs::Hardware::weak_line, plan_grammar::specs::Hardware::weak_form, plan_grammar::specs::Hardware::weak_words,))]
+    #[tactic(auto, unfolding(plan_grammar::specs::Hardware::weak_line, plan_grammar::specs::Hardware::weak_form, plan_grammar::specs::Hardware::weak_words))]
     pub fn weak_line(self, alloc: Global, words: Words<'_>) -> Result<PlanDraft, LineError>
         ensures { Answers result (weak_line self words.entry) }
     {
         let PlanDraft {
             mut lines,
             mut hardware,
+            flips,
         } = self;
         let chip = open_chip(&lines)?;
         let (kind, at, after, torn) = four_words(words)?;
@@ -145,17 +155,22 @@ impl PlanDraft {
         };
         hardware.marks = hardware.marks.add_weak(chip, &weak)?;
         add_defect(&mut lines, DefectLine::Weak(weak))?;
-        Ok(PlanDraft { lines, hardware })
+        Ok(PlanDraft {
+            lines,
+            hardware,
+            flips,
+        })
     }
 
     /// `part START COUNT`, after a chip.
-    #[tactic(auto, unfolding(plan_grammar::specs::Hardware::part_line, plan_grammar::specs::Hardware::part_form, plan_grammar::specs::Hardware::part_words,))]
+    #[tactic(auto, unfolding(plan_grammar::specs::Hardware::part_line, plan_grammar::specs::Hardware::part_form, plan_grammar::specs::Hardware::part_words))]
     pub fn part_line(self, words: Words<'_>) -> Result<PlanDraft, LineError>
         ensures { Answers result (part_line self words.entry) }
     {
         let PlanDraft {
             mut lines,
             mut hardware,
+            flips,
         } = self;
         rule(is_hardware(&lines), PlanKind::WrongPlace)?;
         let chip = last_chip(&lines)?;
@@ -172,58 +187,16 @@ impl PlanDraft {
         hardware.marks = marks;
         push_device(&mut hardware.devices, device)?;
         add_part(&mut lines, part)?;
-        Ok(PlanDraft { lines, hardware })
-    }
-
-    /// `boot`, where the last controller has a chip.
-    #[tactic(auto, unfolding(plan_grammar::specs::Faults::boot_line))]
-    pub fn boot_line(self, alloc: Global, words: Words<'_>) -> Result<PlanDraft, LineError>
-        ensures { Answers result (boot_line self words.entry) }
-    {
-        let mut draft = self;
-        rule(has_chip(&draft.lines), PlanKind::WrongPlace)?;
-        rule(words.is_empty(), PlanKind::BadWords)?;
-        rule(draft.lines.boots.len() < 64, PlanKind::TooLarge)?;
-        let boot = BootLines {
-            faults: ItemList::new(alloc),
-            sessions: ItemList::new(alloc),
-            schedule: ItemList::new(alloc),
-        };
-        draft.lines.boots.append(boot)?;
-        Ok(draft)
-    }
-
-    /// `session C`, in a boot.
-    #[tactic(auto, unfolding(plan_grammar::specs::Sessions::session_line, plan_grammar::specs::Sessions::session_form,))]
-    pub fn session_line(self, alloc: Global, words: Words<'_>) -> Result<PlanDraft, LineError>
-        ensures { Answers result (session_line self words.entry) }
-    {
-        let mut draft = self;
-        let sessions = running_boot(&draft.lines)?.sessions.len();
-        let controller = number(one_word(words)?)?;
-        rule(
-            has_controller(&draft.lines, controller),
-            PlanKind::OutOfChip,
-        )?;
-        rule(sessions < 64, PlanKind::TooLarge)?;
-        let session = SessionLines {
-            controller: controller as u32,
-            commands: ItemList::new(alloc),
-        };
-        add_session(&mut draft.lines, session)?;
-        Ok(draft)
+        Ok(PlanDraft {
+            lines,
+            hardware,
+            flips,
+        })
     }
 }
 
 /// The greatest number of pages of all chips.
 const MOST_PAGES: u32 = 524_288;
-
-// Whether there is a controller of this number.
-fn has_controller(lines: &PlanLines, controller: u64) -> bool
-    ensures { result ≡ nat_lt controller (length lines.now.controllers) }
-{
-    controller < lines.controllers.len() as u64
-}
 
 // Adds a device.
 fn push_device(devices: &mut Vec<DeviceSize>, device: DeviceSize) -> Result<(), AllocError>
@@ -246,14 +219,6 @@ fn chip_fits(chips: usize, pages: u32) -> bool
     ensures { result ≡ (nat_lt chips most_chips && nat_le pages most_pages) }
 {
     chips < 8 && pages <= MOST_PAGES
-}
-
-// The pages of a chip.
-fn page_count(g: &Geometry) -> u32
-    ensures pages { result ≡ page_count g.now }
-    ensures few { result ≤ 524288 }
-{
-    g.blocks * g.pages_per_block
 }
 
 // Whether a controller may begin.

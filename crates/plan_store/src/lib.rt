@@ -1,7 +1,9 @@
 //! A plan to which line after line is added, each by its rules.
 #![tactic(auto)]
 
+mod boots;
 mod draft;
+mod faults;
 mod geometry;
 mod hardware;
 mod places;

@@ -2,6 +2,7 @@ use Rattle.std.proofs.Common.{refl, sym, subst}
 use Rattle.plan_grammar.specs.declared.lines.PlanLines.{PlanLines}
 use Rattle.plan_grammar.specs.declared.lines.DefectLine.TheVariants.{Bad}
 use Rattle.plan_store.specs.declared.hardware.HardwareIndex.{HardwareIndex}
+use Rattle.plan_store.specs.FlipCount.{AreFlips}
 use Rattle.plan_store.specs.Hardware.{HardwareInStep}
 use Rattle.plan_store.proofs.Controllers.{marks_of, open_at, step_defect}
 use Rattle.plan_store.proofs.Found.{open_found}
@@ -22,6 +23,7 @@ invariant_of-result c =
       devices = c.self.inside.hardware.devices;
     } in
     record {
+      flips = subst (λ (plan : PlanLines). AreFlips plan.boots c.self.inside.flips) (sym c.in_ok-add_defect.ensures) c.self.invariant.flips;
       hardware = subst (λ (plan : PlanLines). HardwareInStep plan.controllers new) (sym c.in_ok-add_defect.ensures)
           (step_defect c.self.inside.lines.controllers c.self.inside.hardware new h.0.chips c.in_ok-chip.chip.now (Bad _)
           c.self.invariant.hardware h.0.controller_is h.0.chip_is h.1 c.in_ok-hardware.ensures.1 refl refl);

@@ -6,6 +6,7 @@ use Rattle.plan_grammar.specs.declared.lines.ChipLines.{ChipLines}
 use Rattle.plan_grammar.specs.Limits.{most_chips, most_pages}
 use Rattle.plan_grammar.specs.Rules.{last_of}
 use Rattle.plan_store.specs.declared.hardware.HardwareIndex.{HardwareIndex}
+use Rattle.plan_store.specs.FlipCount.{AreFlips}
 use Rattle.plan_store.specs.Hardware.{HardwareInStep}
 use Rattle.plan_store.proofs.Controllers.{step_chip}
 use Rattle.plan_store.proofs.Found.{there_found, rule_true}
@@ -23,6 +24,7 @@ invariant_of-result c =
     let fits : c.chip_fits.result ≡ true = rule_true c.chip_fits.result TooLarge c.in_ok-rule-3.field-0 (sym c.in_ok-rule-3.ensures) in
     let both = and_parts (ltb c.len-chips.result most_chips) (leb new.pages most_pages) (sym c.chip_fits.ensures ∙ fits) in
     record {
+      flips = subst (λ (plan : PlanLines). AreFlips plan.boots c.self.inside.flips) (sym c.in_ok-add_chip.ensures) c.self.invariant.flips;
       hardware = subst (λ (plan : PlanLines). HardwareInStep plan.controllers new) (sym c.in_ok-add_chip.ensures)
           (step_chip c.self.inside.lines.controllers c.self.inside.hardware new c.in_ok-last_chips.field-0.now chip
           c.self.invariant.hardware found c.new-2.ensures (subst (λ n. n < most_chips) c.len-chips.ensures (ltb-true c.len-chips.result most_chips both.0)) c.in_ok-hardware.ensures

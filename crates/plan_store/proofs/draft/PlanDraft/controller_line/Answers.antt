@@ -13,6 +13,7 @@ invariant_of-draft c =
     let room : length old < 8 = subst (λ n. n < 8) c.len.ensures (ltb-true c.len.result 8
     (rule_true (ltb c.len.result 8) TooLarge c.in_ok-rule-3.field-0 (sym c.in_ok-rule-3.ensures))) in
     record {
+      flips = c.draft.invariant.flips;
       hardware = subst (λ (cs : List (List ChipLines)). HardwareInStep cs c.draft.inside.hardware)
           (sym (c.in_ok-append.ensures.ok ∙ ap (λ (new : List ChipLines). old ++ new ∷ []) c.new.ensures))
           (step_controller old c.draft.inside.hardware room c.draft.invariant.hardware);

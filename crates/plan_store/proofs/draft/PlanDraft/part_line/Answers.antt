@@ -5,6 +5,7 @@ use Rattle.plan_grammar.specs.declared.lines.PartLine.{PartLine}
 use Rattle.plan_grammar.specs.Hardware.{part_line, with_part}
 use Rattle.plan_index.specs.declared.device.DeviceSize.{DeviceSize}
 use Rattle.plan_store.specs.declared.hardware.HardwareIndex.{HardwareIndex}
+use Rattle.plan_store.specs.FlipCount.{AreFlips}
 use Rattle.plan_store.specs.Hardware.{HardwareInStep}
 use Rattle.plan_store.proofs.Controllers.{marks_of, open_at, step_part, some_items}
 use Rattle.plan_store.proofs.Found.{last_found, rule_true}
@@ -38,6 +39,7 @@ invariant_of-result c =
       weak = c.in_ok-part.marks.weak_programs;
     } in
     record {
+      flips = subst (λ (plan : PlanLines). AreFlips plan.boots c.self.inside.flips) (sym c.in_ok-add_part.ensures) c.self.invariant.flips;
       hardware = subst (λ (plan : PlanLines). HardwareInStep plan.controllers new) (sym c.in_ok-add_part.ensures)
           (step_part c.self.inside.lines.controllers c.self.inside.hardware new h.chips c.in_ok-chip.chip.now c.in_ok-part.part
           size c.self.invariant.hardware h.controller_is h.chip_is m refl

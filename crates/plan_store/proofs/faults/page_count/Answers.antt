@@ -1,6 +1,6 @@
 use Rattle.std.proofs.Common.{arith}
 use Rattle.plan_store.proofs.Controllers.{few_pages}
-use Rattle.plan_store.proofs.draft.page_count.Goals as goal
+use Rattle.plan_store.proofs.faults.page_count.Goals as goal
 
 pub overflow_mul-result : goal.overflow_mul-result
 overflow_mul-result c = omega (arith, few_pages c.args.g.now)
