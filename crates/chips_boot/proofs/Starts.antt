@@ -22,7 +22,7 @@ use Rattle.command_model.specs.Boot.{AreAscending, geometry_for, geometry_of_chi
 use Rattle.plan_model.specs.Plan.{ChipPlan, items_of, new_chips}
 use Rattle.report_model.specs.Report.{line}
 use Rattle.report_model.proofs.Checked.{this_passes}
-use Rattle.command_model.specs.Runnable.{CanRun, IsDeviceSize}
+use Rattle.command_model.specs.Runnable.{Fits, IsDeviceSize}
 use Rattle.tool_steps.proofs.Sizes.{blocks_touched-one, unit_count-one}
 use Rattle.several_chip_plan.specs.SeveralChips.{IsChip, IsCommand, IsFlip, IsPageOffset, IsPlan, IsSeveralChipPlan, blocks_of, chip_of, chip_text, data_text, command_of, command_text, flip_text, geometry_of, plan_text, schedule_text, session_text, sizes_of, spaced_number}
 use Rattle.several_chip_plan.specs.declared.lines.ChipLines.{ChipLines}
@@ -125,7 +125,7 @@ module _ (chips : List ChipLines) (payload : List ℕ) (legal : All IsChip chips
   -- each command names its device's blocks, can be run, and takes few operations
   pub record IsGood (command : Command) : Type 0 where
     pub of_device : IsOfDevice (devices_by chips) command
-    pub runs : CanRun (sizes command) command
+    pub runs : Fits (sizes command) command
     pub cheap : cost_of (sizes command) command (troubled_blocks (sizes command) command) ≤ 1073
 
   -- the device of a command that names its blocks
@@ -142,7 +142,7 @@ module _ (chips : List ChipLines) (payload : List ℕ) (legal : All IsChip chips
 
   -- a command of a device that can be run on its chip
   good_by : (command : Command) (dev : ℕ) (d : HasDevice chips dev) → command_device command ≡ dev → command_blocks command ≡ blocks_of chips dev
-      → CanRun (sizes command) command → cost_of (sizes command) command (troubled_blocks (sizes command) command) ≤ 1073 → IsGood command
+      → Fits (sizes command) command → cost_of (sizes command) command (troubled_blocks (sizes command) command) ≤ 1073 → IsGood command
   good_by command dev d names size runs cheap = record { of_device = found_for command dev d names size; runs = runs; cheap = cheap }
 
   -- a device of these chips has few blocks
@@ -404,7 +404,7 @@ text_before plan =
 -- each command of a plan can be run on its chip
 pub can_run : (plan : PlanLines) → IsPlan plan → CanRunBoot (the_boot plan) (the_chips plan)
 can_run plan legal =
-    all_of_sessions plan.chips plan.payload legal.chips legal.payload_fits (λ command. CanRun (sizes plan.chips plan.payload legal.chips command) command) (λ command good. good.runs) 0
+    all_of_sessions plan.chips plan.payload legal.chips legal.payload_fits (λ command. Fits (sizes plan.chips plan.payload legal.chips command) command) (λ command good. good.runs) 0
     plan.sessions legal.commands
 
 -- a controller can be started on a plan

@@ -9,7 +9,8 @@ use Rattle.nand_model.specs.declared.words.Op.TheVariants.{Read, RawRead, Erase}
 use Rattle.nand_model.specs.declared.words.Reply.{Reply}
 use Rattle.nand_model.specs.declared.words.Reply.TheVariants.{Done, BadBlock, MarkerByte, ProgramFailed, EraseFailed}
 use Rattle.nand_model.specs.Partitions.{device_of, command_device}
-use Rattle.command_model.specs.Command.{Script, Ask, is_done, says_bad, one_if, erase_blocks, WriteMode, WriteCounts, write_unit, after_write, write_pages, write_blocks, DumpMode, DumpCounts, is_dump_bad, dump_pages, dump_block, dump_blocks, TestMode, TestCounts, read_bodies, after_change, write_bodies, different_bodies, test_worn, test_change, test_restore, test_compare, test_rewrite, test_block, test_blocks, test_passes, script_of}
+use Rattle.command_model.specs.Command.{Script, Ask, is_done, says_bad, one_if, erase_blocks, WriteMode, WriteCounts, write_unit, after_write, write_pages, write_blocks, DumpMode, DumpCounts, is_dump_bad, dump_pages, dump_block, dump_blocks, script_of}
+use Rattle.command_model.specs.NandTest.{TestMode, TestCounts, read_bodies, compare_bodies, after_change, write_bodies, pass_body, kept_body, test_worn, test_change, test_restore, test_rewrite, test_block, test_blocks, test_passes}
 use Rattle.command_model.specs.Laws.{AsksOnly}
 
 module _ (dev : ℕ) where
@@ -41,16 +42,21 @@ module _ (dev : ℕ) where
       either_asks no_scan _ _ erase (refl, λ r. either_asks (says_bad r) _ _ (erase_asks no_scan left (block + 1) erased (bad + 1) failed) erase)
 
   -- reads and writes of bodies
-  read_asks : (g : Geometry) (left page : ℕ) (bodies : List (List ℕ)) (c : TestCounts) (go_on : List (List ℕ) → TestCounts → Script) → ((bs : List (List ℕ)) (d : TestCounts) → AsksOnly dev (go_on bs d))
-      → AsksOnly dev (read_bodies g dev left page bodies c go_on)
-  read_asks g zero page bodies c go_on h = h bodies c
-  read_asks g (suc left) page bodies c go_on h = (refl, λ r. read_asks g left (page + 1) _ _ go_on h)
+  read_asks : (g : Geometry) (block left place : ℕ) (kept : List ℕ) (c : TestCounts) (go_on : List ℕ → TestCounts → Script)
+      → ((bytes : List ℕ) (d : TestCounts) → AsksOnly dev (go_on bytes d)) → AsksOnly dev (read_bodies g dev block left place kept c go_on)
+  read_asks g block zero place kept c go_on h = h kept c
+  read_asks g block (suc left) place kept c go_on h = (refl, λ r. read_asks g block left (place + 1) _ _ go_on h)
 
-  write_asks : (g : Geometry) (page : ℕ) (bodies : List (List ℕ)) (good worn refused : Script) → AsksOnly dev good → AsksOnly dev worn → AsksOnly dev refused
-      → AsksOnly dev (write_bodies g dev page bodies good worn refused)
-  write_asks g page [] good worn refused h w r = h
-  write_asks g page (body ∷ bodies) good worn refused h w r =
-      (refl, λ reply. after_change_asks reply _ worn refused (write_asks g (page + 1) bodies good worn refused h w r) w r)
+  compare_asks : (g : Geometry) (block : ℕ) (body : ℕ → List ℕ) (left place : ℕ) (differ : Bool) (c : TestCounts) (go_on : Bool → TestCounts → Script)
+      → ((b : Bool) (d : TestCounts) → AsksOnly dev (go_on b d)) → AsksOnly dev (compare_bodies g dev block body left place differ c go_on)
+  compare_asks g block body zero place differ c go_on h = h differ c
+  compare_asks g block body (suc left) place differ c go_on h = (refl, λ r. compare_asks g block body left (place + 1) _ _ go_on h)
+
+  write_asks : (g : Geometry) (block : ℕ) (body : ℕ → List ℕ) (left place : ℕ) (good worn refused : Script) → AsksOnly dev good → AsksOnly dev worn
+      → AsksOnly dev refused → AsksOnly dev (write_bodies g dev block body left place good worn refused)
+  write_asks g block body zero place good worn refused h w r = h
+  write_asks g block body (suc left) place good worn refused h w r =
+      (refl, λ reply. after_change_asks reply _ worn refused (write_asks g block body left (place + 1) good worn refused h w r) w r)
 
 module _ (g : Geometry) (m : WriteMode) where
   unit_device : (page : ℕ) (unit : List ℕ) → device_of (write_unit g m page unit) ≡ m.dev
@@ -106,32 +112,29 @@ module _ (g : Geometry) (m : TestMode) where
   worn_asks : (block : ℕ) (c : TestCounts) (next_block : TestCounts → Script) → ((d : TestCounts) → AsksOnly m.dev (next_block d)) → AsksOnly m.dev (test_worn m block c next_block)
   worn_asks block c next_block h = either_asks m.dev m.mark _ _ (refl, λ r. h _) (h _)
 
-  change_asks : (block : ℕ) (bodies : List (List ℕ)) (c : TestCounts) (next_block : TestCounts → Script) (done : Script) → ((d : TestCounts) → AsksOnly m.dev (next_block d)) → AsksOnly m.dev done
-      → AsksOnly m.dev (test_change g m block bodies c next_block done)
-  change_asks block bodies c next_block done h k = (
+  change_asks : (block : ℕ) (body : ℕ → List ℕ) (c : TestCounts) (next_block : TestCounts → Script) (done : Script) → ((d : TestCounts) → AsksOnly m.dev (next_block d)) → AsksOnly m.dev done
+      → AsksOnly m.dev (test_change g m block body c next_block done)
+  change_asks block body c next_block done h k = (
     refl,
     λ r. after_change_asks m.dev r _ _ _
-        (write_asks m.dev g (block * g.pages_per_block) bodies done _ _ k (worn_asks block c next_block h) (h _)) (worn_asks block c next_block h) (h _),
+        (write_asks m.dev g block body g.pages_per_block 0 done _ _ k (worn_asks block c next_block h) (h _)) (worn_asks block c next_block h) (h _),
   )
 
-  restore_asks : (block : ℕ) (kept : List (List ℕ)) (c : TestCounts) (next_block : TestCounts → Script) → ((d : TestCounts) → AsksOnly m.dev (next_block d)) → AsksOnly m.dev (test_restore g m block kept c next_block)
-  restore_asks block kept c next_block h = either_asks m.dev m.keep _ _ (change_asks block kept c next_block _ h (h _)) (h _)
+  restore_asks : (block : ℕ) (kept : List ℕ) (c : TestCounts) (next_block : TestCounts → Script) → ((d : TestCounts) → AsksOnly m.dev (next_block d)) → AsksOnly m.dev (test_restore g m block kept c next_block)
+  restore_asks block kept c next_block h = either_asks m.dev m.keep _ _ (change_asks block (kept_body g kept) c next_block _ h (h _)) (h _)
 
-  compare_asks : (block : ℕ) (written kept : List (List ℕ)) (c : TestCounts) (next_block : TestCounts → Script) → ((d : TestCounts) → AsksOnly m.dev (next_block d))
-      → AsksOnly m.dev (test_compare g m block written kept c next_block)
-  compare_asks block written kept c next_block h = read_asks m.dev g g.pages_per_block (block * g.pages_per_block) [] c _
-      (λ read d. either_asks m.dev (different_bodies written read == 0) _ _ (restore_asks block kept d next_block h) (worn_asks block _ next_block h))
-
-  rewrite_asks : (seed block : ℕ) (kept : List (List ℕ)) (c : TestCounts) (next_block : TestCounts → Script) → ((d : TestCounts) → AsksOnly m.dev (next_block d))
+  rewrite_asks : (seed block : ℕ) (kept : List ℕ) (c : TestCounts) (next_block : TestCounts → Script) → ((d : TestCounts) → AsksOnly m.dev (next_block d))
       → AsksOnly m.dev (test_rewrite g m seed block kept c next_block)
-  rewrite_asks seed block kept c next_block h = change_asks block _ c next_block _ h (compare_asks block _ kept c next_block h)
+  rewrite_asks seed block kept c next_block h = change_asks block (pass_body g seed block) c next_block _ h
+      (compare_asks m.dev g block (pass_body g seed block) g.pages_per_block 0 false c _
+      (λ differ d. either_asks m.dev differ _ _ (worn_asks block d next_block h) (restore_asks block kept d next_block h)))
 
   block_asks : (seed block : ℕ) (c : TestCounts) (next_block : TestCounts → Script) → ((d : TestCounts) → AsksOnly m.dev (next_block d)) → AsksOnly m.dev (test_block g m seed block c next_block)
   block_asks seed block c next_block h = (
     refl,
     λ r. either_asks m.dev (says_bad r) _ _ (h _)
         (either_asks m.dev m.keep _ _
-        (read_asks m.dev g g.pages_per_block (block * g.pages_per_block) [] c _ (λ kept d. rewrite_asks seed block kept d next_block h))
+        (read_asks m.dev g block g.pages_per_block 0 [] c _ (λ kept d. rewrite_asks seed block kept d next_block h))
         (rewrite_asks seed block [] c next_block h)),
   )
 

@@ -1,6 +1,6 @@
 -- Theorems about commands, each as a statement that a function's contract can carry.
-use Rattle.std.specs.Prelude.{ℕ, ◌+◌, List, [], ◌∷◌, ◌-◌, ◌/◌, ◌≤◌, Bool, ⊤, length, ◌≡◌}
-use Rattle.command_model.specs.Command.{Script, End, Ask, script_of, block_size, Next, Do, Over, after_replies, next_in, cost_of}
+use Rattle.std.specs.Prelude.{ℕ, ◌+◌, List, [], ◌∷◌, ◌≤◌, Bool, ⊤, length, ◌≡◌}
+use Rattle.command_model.specs.Command.{Script, End, Ask, script_of, Next, Do, Over, after_replies, next_in, cost_of}
 use Rattle.command_model.specs.Cost.{troubled_blocks}
 use Rattle.nand_model.specs.Partitions.{device_of}
 use Rattle.nand_model.specs.declared.words.Reply.{Reply}

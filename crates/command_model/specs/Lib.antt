@@ -1,4 +1,9 @@
 pub mod Taken
+pub mod Scripts
+pub mod FlashErase
+pub mod NandWrite
+pub mod NandDump
+pub mod NandTest
 pub mod Command
 pub mod Boot
 pub mod Session

@@ -1,5 +1,5 @@
 -- Which commands can be run.
-use Rattle.std.specs.Prelude.{ℕ, ◌+◌, ◌≤◌, ◌≡◌, Bool, false, List, length, ◌<◌, ⊤}
+use Rattle.std.specs.Prelude.{ℕ, ◌+◌, ◌≤◌, List, length, ◌<◌}
 use Rattle.command_model.specs.Command.{device_bytes}
 use Rattle.nand_model.specs.declared.geometry.Geometry.{Geometry}
 use Rattle.nand_model.specs.declared.words.Command.{Command}
@@ -27,23 +27,19 @@ pub record DumpsPages (g : Geometry) (blocks off len : ℕ) : Type 0 where
   pub first : off < device_bytes g blocks
   pub last : off + len ≤ device_bytes g blocks
 
+-- nandtest of blocks of the device, at least once, where length 0 means to the end
+pub record TestsBlocks (g : Geometry) (blocks passes off len : ℕ) : Type 0 where
+  pub size : IsDeviceSize blocks
+  pub some : 1 ≤ passes
+  pub first : off < device_bytes g blocks
+  pub last : off + len ≤ device_bytes g blocks
+
 -- the numbers of a command are such as a plan may have, on a device of a chip with these sizes
 abbrev pub Fits : Geometry → Command → Type 0
 Fits g (FlashErase dev blocks no_scan start count) = ErasesBlocks blocks start count
 Fits g (NandWrite dev blocks mark raw oob pad off bytes) = WritesPages g blocks off bytes
 Fits g (NandDump dev blocks off len raw oob bad) = DumpsPages g blocks off len
-Fits g (NandTest dev blocks keep mark seed passes off len) = ⊥
+Fits g (NandTest dev blocks keep mark seed passes off len) = TestsBlocks g blocks passes off len
 Fits g (MarkBad dev blocks block) = IsDeviceSize blocks
 Fits g (IsBad dev blocks block) = IsDeviceSize blocks
 Fits g (Stats dev blocks) = IsDeviceSize blocks
-
--- a command that asks for an operation and for no mark, as chips without tables need it
-abbrev pub AsksUnmarked : Command → Type 0
-AsksUnmarked (NandWrite dev blocks mark raw oob pad off bytes) = (mark ≡ false) × (1 ≤ length bytes)
-AsksUnmarked (NandTest dev blocks keep mark seed passes off len) = ⊥
-AsksUnmarked (MarkBad dev blocks block) = ⊥
-AsksUnmarked _ = ⊤
-
--- a command that can be run in a session, on a device of a chip with these sizes
-abbrev pub CanRun : Geometry → Command → Type 0
-CanRun g command = Fits g command × AsksUnmarked command

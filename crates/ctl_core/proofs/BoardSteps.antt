@@ -16,7 +16,7 @@ use Rattle.nand_model.specs.Partitions.{part_of, device_of}
 use Rattle.command_model.specs.Session.{SessionRun, next_op, next_op_of, with_reply}
 use Rattle.command_model.specs.Boot.{change_at}
 use Rattle.run_model.specs.Course.{session_run}
-use Rattle.command_model.specs.Runnable.{CanRun}
+use Rattle.command_model.specs.Runnable.{Fits}
 use Rattle.tool_steps.specs.Boot.{commands_at}
 use Rattle.session_steps.specs.declared.session.Session.{Session}
 use Rattle.session_steps.specs.Standing.{number_of, standing, commands_by, First, IsWaiting}
@@ -100,15 +100,15 @@ module _ {F C : Type 0} {flash : Ghosts F} (past : Past F) (board : Board F C fl
         sym (ap (next_op (sizes_in flash.state past)) (run_found past board session place turn s at number)) ∙ first.next in
         cc (one, other)
 
-    pub can_run_here : CanRun (slot_state slot).state.geometry command
-    can_run_here = subst (λ g. CanRun g command) sizes_here first.is_ready.can
+    pub can_run_here : Fits (slot_state slot).state.geometry command
+    can_run_here = subst (λ g. Fits g command) sizes_here first.is_ready.can
 
     -- what the session's next command is run with
     pub first_can_run : (commands : List Command) → commands_at past.boot place ≡ Some commands
-        → First (CanRun (slot_state slot).state.geometry) (commands_by commands (standing board.notes.notes s))
+        → First (Fits (slot_state slot).state.geometry) (commands_by commands (standing board.notes.notes s))
     first_can_run commands given =
-        subst (First (CanRun (slot_state slot).state.geometry)) (run_left past board session place turn s at number commands given)
-        (subst (First (CanRun (slot_state slot).state.geometry)) (sym first.left) can_run_here)
+        subst (First (Fits (slot_state slot).state.geometry)) (run_left past board session place turn s at number commands given)
+        (subst (First (Fits (slot_state slot).state.geometry)) (sym first.left) can_run_here)
 
     pub can_begin_here : CanBegin (slot_state slot).state.geometry past.boot.partitions (slot_state slot).stage first.op
     can_begin_here =

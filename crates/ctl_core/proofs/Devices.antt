@@ -22,7 +22,7 @@ use Rattle.run_model.specs.Log.{Log}
 use Rattle.run_laws.proofs.Traces.{geometry_after}
 use Rattle.run_laws.proofs.Courses.{AtPlace, EndOf, by_log, Holds}
 use Rattle.run_laws.proofs.Faithful.{log_of}
-use Rattle.command_model.specs.Runnable.{CanRun}
+use Rattle.command_model.specs.Runnable.{Fits}
 use Rattle.tool_steps.proofs.Asks.{asks_first}
 use Rattle.session_steps.specs.declared.session.Session.{Session}
 use Rattle.session_steps.specs.Standing.{standing}
@@ -73,7 +73,7 @@ module _ {W : Type 0} (model : FaultModel W) (boot : Boot) (starts : List (ChipS
     pub run_at : slice_get course.chips part.chip ≡ Some run
     pub same_sizes : run.chip.geometry ≡ start.geometry
     pub sizes_are : sizes_of boot starts command ≡ start.geometry
-    pub can : CanRun (sizes_of boot starts command) command
+    pub can : Fits (sizes_of boot starts command) command
 
   -- each command of a boot that can be started is such a one
   pub ready : CanStart boot starts → (i n : ℕ) (own : ℕ × List Command) (command : Command) → slice_get boot.sessions i ≡ Some own → slice_get own.1 n
@@ -81,8 +81,8 @@ module _ {W : Type 0} (model : FaultModel W) (boot : Boot) (starts : List (ChipS
   ready start i n own command h g =
       let device = all_at (IsOfDevice boot.partitions) own.1 n command (all_at (λ (s : ℕ × List Command). All (IsOfDevice boot.partitions) s.1) boot.sessions
       i own start.devices h) g in
-      let can = all_at (λ c. CanRun (sizes_of boot starts c) c) own.1 n command (all_at
-      (λ (s : ℕ × List Command). All (λ c. CanRun (sizes_of boot starts c) c) s.1) boot.sessions i own start.runnable h) g in
+      let can = all_at (λ c. Fits (sizes_of boot starts c) c) own.1 n command (all_at
+      (λ (s : ℕ × List Command). All (λ c. Fits (sizes_of boot starts c) c) s.1) boot.sessions i own start.runnable h) g in
       let place = part_at boot.partitions (command_device command) device.0 device.1 in
       let chip = all_at (IsOnChip starts) boot.partitions.parts place.0 device.0 start.parts place.1 in
       let stays = chip_stays device.0.chip chip.0 chip.1 in
@@ -115,7 +115,7 @@ drop_all P n xs all k d h =
     subst P (sym (get_or-drop n xs k d)) (all (n + k) d (omega (arith, length-drop n xs, h)))
 
 -- commands that are not over ask for an operation
-asks : (sizes : Command → Geometry) (command : Command) (rest : List Command) (replies : List Reply) (script : Option Script) → CanRun (sizes command) command
+asks : (sizes : Command → Geometry) (command : Command) (rest : List Command) (replies : List Reply) (script : Option Script) → Fits (sizes command) command
     → IsUnderWay sizes (command ∷ rest) replies script
     → (op : Op) × (next_op_of sizes (command ∷ rest) replies ≡ Some op)
 asks sizes command rest replies None can goes =
@@ -128,7 +128,7 @@ asks sizes command rest replies (Some (Ask op go_on)) can goes = (op, ap (λ s. 
 
 -- a session's next operation, by its commands that are left
 pub next_of : (sizes : Command → Geometry) (commands : List Command) (notes : List Note) (s : Session) (run : SessionRun) → Mirrors sizes commands notes s run
-    → (command : Command) (rest : List Command) → run.commands ≡ command ∷ rest → CanRun (sizes command) command
+    → (command : Command) (rest : List Command) → run.commands ≡ command ∷ rest → Fits (sizes command) command
     → (op : Op) × (next_op_of sizes run.commands run.replies ≡ Some op)
 next_of sizes commands notes s run m command rest h can =
     let a = asks sizes command rest run.replies (standing notes s).script can (subst (λ cs. IsUnderWay sizes cs run.replies (standing notes s).script) h

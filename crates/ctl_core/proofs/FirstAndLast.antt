@@ -13,7 +13,7 @@ use Rattle.command_model.specs.Session.{SessionRun, is_finished, without_finishe
 use Rattle.run_model.specs.Course.{sizes_of, is_over, unattached}
 use Rattle.run_laws.proofs.Places.{position_is}
 use Rattle.run_laws.proofs.Sessions.{number_stays}
-use Rattle.command_model.specs.Runnable.{CanRun}
+use Rattle.command_model.specs.Runnable.{Fits}
 use Rattle.session_steps.specs.declared.session.Session.{Session}
 use Rattle.session_steps.specs.Standing.{number_of}
 use Rattle.session_steps.specs.Mirrors.{Mirrors}
@@ -203,7 +203,7 @@ start_on {F} {C} {flash} boot flashes board start slots fresh events notes = rec
         let r = mapped_at begin boot.sessions i run is in
         let own : r.0 ≡ b = cc (r.1, at) in
         let same : begin b ≡ run = ap begin (sym own) ∙ r.2 in
-        let runnable = all_at (λ (x : ℕ × List Command). All (λ c. CanRun (sizes_of boot (map flash.state flashes) c) c) x.1) boot.sessions i b start.runnable
+        let runnable = all_at (λ (x : ℕ × List Command). All (λ c. Fits (sizes_of boot (map flash.state flashes) c) c) x.1) boot.sessions i b start.runnable
         at in
         let m = fresh.each i b s at there (sizes_of boot (map flash.state flashes)) b.1 board.notes.notes runnable in (
           sym m.shows.number ∙ number_stays (sizes_of boot (map flash.state flashes)) b.0 b.1 [] [],

@@ -22,7 +22,7 @@ use Rattle.run_laws.proofs.Courses.{Holds}
 use Rattle.run_laws.proofs.Faithful.{course_holds}
 use Rattle.run_laws.proofs.Places.{position_is, position_none}
 use Rattle.tool_steps.specs.Boot.{commands_at}
-use Rattle.command_model.specs.Runnable.{CanRun}
+use Rattle.command_model.specs.Runnable.{Fits}
 use Rattle.session_steps.specs.declared.session.Session.{Session}
 use Rattle.session_steps.specs.Standing.{number_of, standing, outcomes_by, commands_by, First}
 use Rattle.session_steps.proofs.TakenOps.{next_taken}
@@ -234,10 +234,10 @@ module _ {F C : Type 0} {flash : Ghosts F} (past : Past F) (board : Board F C fl
         (holds past board turn.on_course) turn.on_course.conditions
         place (length (outcomes_by (standing board.notes.notes s))) own_place.own command own_place.begun_at own_at in
         let o = next_of (sizes_in flash.state past) own_place.own.1 board.notes.notes s own_place.run own_place.mirrors command f.0 f.1 r.can in
-        let all = drop_all (λ c. CanRun (sizes_in flash.state past c) c) (length (outcomes_by (standing board.notes.notes s))) own_place.own.1
+        let all = drop_all (λ c. Fits (sizes_in flash.state past c) c) (length (outcomes_by (standing board.notes.notes s))) own_place.own.1
         own_place.mirrors.runnable in
         let taken = subst (First (λ c. (device_of o.0 ≡ command_device c) × IsTaken (sizes_in flash.state past c) o.0)) f.1
-        (next_taken (sizes_in flash.state past) own_place.run o.0 (subst (All (λ c. CanRun (sizes_in flash.state past c) c))
+        (next_taken (sizes_in flash.state past) own_place.run o.0 (subst (All (λ c. Fits (sizes_in flash.state past c) c))
         (sym own_place.mirrors.shows.left) all) o.1) in
         record {
           rest = f.0;

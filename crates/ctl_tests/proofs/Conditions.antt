@@ -6,7 +6,7 @@ use Rattle.nand_model.specs.Chip.{ChipState}
 use Rattle.nand_model.specs.declared.words.Command.{Command}
 use Rattle.nand_model.specs.declared.words.Flip.{Flip}
 use Rattle.nand_model.specs.Partitions.{part_of, command_device}
-use Rattle.command_model.specs.Runnable.{CanRun}
+use Rattle.command_model.specs.Runnable.{Fits}
 use Rattle.command_model.specs.Command.{command_blocks}
 use Rattle.command_model.specs.Boot.{Boot, AreAscending}
 use Rattle.run_model.specs.Course.{sizes_of}
@@ -43,13 +43,13 @@ alone zero zero a b l h g = absurd (omega arith)
 alone zero (suc j) a b l h g = cc
 alone (suc i) j a b l h g = cc
 
-erases : (dev : ℕ) → CanRun small_sizes (erasing dev)
+erases : (dev : ℕ) → Fits small_sizes (erasing dev)
 erases dev = (record { size = (omega arith, omega arith); first = omega arith; last = omega arith }, tt)
 
-asks : (dev : ℕ) → CanRun small_sizes (asking dev)
+asks : (dev : ℕ) → Fits small_sizes (asking dev)
 asks dev = ((omega arith, omega arith), tt)
 
-dumps : CanRun small_sizes (dumping 0)
+dumps : Fits small_sizes (dumping 0)
 dumps = (record { size = (omega arith, omega arith); first = omega arith; last = omega arith }, tt)
 
 -- the commands of all sessions are such
@@ -105,7 +105,7 @@ module _ {W : Type 0} where
     small_can : CanStart (boot_of [] small_sessions) pair
     small_can = can_start [] small_sessions (λ k d h. absurd (omega arith)) (omega arith)
         (small_all (IsOfDevice small_parts) (λ dev h. device dev h (erasing dev) refl refl) (λ dev h. device dev h (asking dev) refl refl))
-        (small_all (λ c. CanRun (sizes_of (boot_of [] small_sessions) pair c) c) (λ dev h. erases dev) (λ dev h. asks dev)) ascending (omega arith)
+        (small_all (λ c. Fits (sizes_of (boot_of [] small_sessions) pair c) c) (λ dev h. erases dev) (λ dev h. asks dev)) ascending (omega arith)
       where
         device : (dev : ℕ) → dev < 2 → (command : Command) → command_device command ≡ dev → command_blocks command ≡ 1 → IsOfDevice small_parts command
         device zero h command e n = (first_block 0, ap (part_of small_parts) e, n)
@@ -115,7 +115,7 @@ module _ {W : Type 0} where
     reading_can : (flips : List Flip) → All IsSmallFlip flips → length flips ≤ 65536 → CanStart (boot_of flips reading_sessions) pair
     reading_can flips small few = can_start flips reading_sessions small few
         (reading_all (IsOfDevice small_parts) (first_block 0, refl, refl))
-        (reading_all (λ c. CanRun (sizes_of (boot_of flips reading_sessions) pair c) c) dumps) alone (omega arith)
+        (reading_all (λ c. Fits (sizes_of (boot_of flips reading_sessions) pair c) c) dumps) alone (omega arith)
 
 -- two chips of these sizes are such
 pub on_pair : {W : Type 0} (starts : List (ChipState W)) (boot : Boot) → ArePairOfSmall starts → ((s t : ChipState W) → CanStart boot (pair s t)) → CanStart boot starts

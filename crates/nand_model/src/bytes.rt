@@ -1,5 +1,5 @@
 // A list of bytes.
-ghost use Rattle.std.specs.Prelude.{◌≡◌, ◌++◌, length, replicate, OnOk, OnErr, IfOk};
+ghost use Rattle.std.specs.Prelude.{◌≡◌, [], ◌++◌, length, replicate, OnOk, OnErr, IfOk};
 ghost use Rattle.std.specs.Borrow.{sem};
 ghost use Rattle.nand_model.specs.Lending.{LendsBytes};
 
@@ -30,6 +30,15 @@ impl Bytes {
         })
     }
 
+    /// No bytes, with room for so many.
+    pub fn with_room(alloc: Global, len: usize) -> Result<Bytes, AllocError>
+        ensures { IfOk result (λ b. b ≡ []) }
+    {
+        Ok(Bytes {
+            items: Vec::with_capacity(alloc, len)?,
+        })
+    }
+
     /// A copy of these bytes.
     pub fn from_slice(alloc: Global, from: &[u8]) -> Result<Bytes, AllocError>
         ensures { IfOk result (λ b. b ≡ from.now) }
@@ -45,6 +54,13 @@ impl Bytes {
         ensures err { OnErr result (self.new ≡ self.old) }
     {
         self.items.extend_from_slice(from)
+    }
+
+    /// Takes the bytes out; their room stays.
+    pub fn clear(&mut self)
+        ensures { self.new ≡ [] }
+    {
+        self.items.clear();
     }
 
     /// Lends the bytes.

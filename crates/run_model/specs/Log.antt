@@ -1,5 +1,5 @@
 -- The page events of a controller in a boot as one list, and what befalls each chip by it.
-use Rattle.std.specs.Prelude.{◌≡◌, ℕ, ◌+◌, ◌<◌, ◌==◌, if◌then◌else◌, List, [], ◌∷◌, ◌++◌, length, map, filter, flat_map, drop, slice_get, slice_index_or, Option, Some, None, ⊤}
+use Rattle.std.specs.Prelude.{◌≡◌, ℕ, ◌+◌, ◌<◌, ◌==◌, if◌then◌else◌, List, [], ◌∷◌, ◌++◌, length, map, flat_map, drop, slice_get, slice_index_or, Option, Some, None, ⊤}
 use Rattle.nand_model.specs.declared.tear.Tear.{Tear}
 use Rattle.nand_model.specs.declared.words.Flip.{Flip}
 use Rattle.nand_model.specs.Sizes.{raw_len}

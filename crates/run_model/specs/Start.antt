@@ -4,7 +4,7 @@ use Rattle.nand_model.specs.Chip.{ChipState}
 use Rattle.command_model.specs.Boot.{Boot, AreAscending}
 use Rattle.run_model.specs.Course.{sizes_of}
 use Rattle.command_model.specs.Cost.{sessions_cost}
-use Rattle.command_model.specs.Runnable.{CanRun}
+use Rattle.command_model.specs.Runnable.{Fits}
 use Rattle.nand_model.specs.Partitions.{LiesWithin, Partitions, part_of, command_device}
 use Rattle.command_model.specs.Command.{command_blocks}
 use Rattle.nand_model.specs.Flips.{FitsBits}
@@ -18,7 +18,7 @@ boot_cost boot starts = sessions_cost (sizes_of boot starts) boot.sessions
 
 -- each command of a boot of these chips can be run
 abbrev pub CanRunBoot : {W : Type 0} → Boot → List (ChipState W) → Type 0
-CanRunBoot boot starts = All (λ (s : ℕ × List Command). All (λ c. CanRun (sizes_of boot starts c) c) s.1) boot.sessions
+CanRunBoot boot starts = All (λ (s : ℕ × List Command). All (λ c. Fits (sizes_of boot starts c) c) s.1) boot.sessions
 
 -- a chip without tables
 abbrev pub IsPlain : {W : Type 0} → ChipState W → Type 0

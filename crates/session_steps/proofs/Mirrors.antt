@@ -11,7 +11,7 @@ use Rattle.nand_model.specs.declared.words.Outcome.{Outcome}
 use Rattle.nand_model.specs.declared.words.Reply.{Reply}
 use Rattle.command_model.specs.Command.{Script, End, Ask, Next, Do, Over, next_in, next_step, script_of}
 use Rattle.command_model.specs.Session.{SessionRun, with_reply, next_op_of, is_finished}
-use Rattle.command_model.specs.Runnable.{CanRun}
+use Rattle.command_model.specs.Runnable.{Fits}
 use Rattle.tool_steps.specs.Steps.{after_last, step_of, is_over}
 use Rattle.tool_steps.specs.declared.step.Step.{Step}
 use Rattle.tool_steps.specs.declared.step.Step.TheVariants.{Done as Finished}
@@ -24,7 +24,7 @@ use Rattle.session_steps.specs.Mirrors.{CanAllRun, IsPlaced, Shows, Mirrors}
 use Rattle.session_steps.proofs.Steps.{first_is, shows_put_down, shows_begun, shows_reply, shows_op}
 
 -- a first step that is no operation is none of a command that can be run
-pub starts_with_op : (g : Geometry) (command : Command) (script : Script) (step : Step) → CanRun g command → script ≡ script_of g command
+pub starts_with_op : (g : Geometry) (command : Command) (script : Script) (step : Step) → Fits g command → script ≡ script_of g command
     → step ≡ step_of (next_in script) → step ≡ Finished → ⊥
 starts_with_op g command script step runs e s f = by_next (next_in script) (ap next_in e) s
   where
@@ -135,7 +135,7 @@ module _ (sizes : Command → Geometry) (commands : List Command) where
   -- the next command is begun after the last one is put down
   pub next_begun : (st alone put : Standing) (run : SessionRun) (g : Geometry) (place : ℕ) (command : Command) → alone ≡ st → put ≡ put_down alone
       → place ≡ length put.outcomes
-      → Shows sizes commands st run → op_asked st.script ≡ None → First (λ c. sizes c ≡ g) run.commands → CanRun g command
+      → Shows sizes commands st run → op_asked st.script ≡ None → First (λ c. sizes c ≡ g) run.commands → Fits g command
       → slice_get commands place ≡ Some command
       → Shows sizes commands (begun (script_of g command) put) run
   next_begun st alone put run g place command a p n shows none sized runs there =
@@ -147,7 +147,7 @@ module _ (sizes : Command → Geometry) (commands : List Command) where
   pub next_mirrors : {A E : Type 0} (result : Result A E) (notes : List Note) (old mid new : Session) (run : SessionRun) (g : Geometry) (place : ℕ)
       (command : Command) (alone : Standing)
       → Mirrors sizes commands notes old run → alone ≡ standing notes old → standing_alone mid ≡ put_down alone → place ≡ length mid.outcomes.items
-      → op_asked (standing notes old).script ≡ None → First (λ c. sizes c ≡ g) run.commands → CanRun g command → slice_get commands place ≡ Some command
+      → op_asked (standing notes old).script ≡ None → First (λ c. sizes c ≡ g) run.commands → Fits g command → slice_get commands place ≡ Some command
       → OnOk result (standing_alone new ≡ begun (script_of g command) (standing_alone mid)) → OnErr result (standing_alone new ≡ standing_alone mid)
       → new.last ≡ None
       → Mirrors sizes commands notes new run
@@ -161,17 +161,17 @@ module _ (sizes : Command → Geometry) (commands : List Command) where
   -- the commands that are left can be run
   pub left_runs : (notes : List Note) (s : Session) (run : SessionRun) → Mirrors sizes commands notes s run → CanAllRun sizes run.commands
   left_runs notes s run mirrors =
-      subst (CanAllRun sizes) (sym mirrors.shows.left) (All-drop (λ c. CanRun (sizes c) c) (length (outcomes_by (standing notes s))) commands mirrors.runnable)
+      subst (CanAllRun sizes) (sym mirrors.shows.left) (All-drop (λ c. Fits (sizes c) c) (length (outcomes_by (standing notes s))) commands mirrors.runnable)
 
   -- the next command can be run with its own sizes
   pub next_runs : (notes : List Note) (s : Session) (run : SessionRun) (g : Geometry) → Mirrors sizes commands notes s run
       → First (λ c. sizes c ≡ g) run.commands
-      → First (CanRun g) (commands_by commands (standing notes s))
-  next_runs notes s run g mirrors sized = subst (First (CanRun g)) mirrors.shows.left (by_commands run.commands (left_runs notes s run mirrors) sized)
+      → First (Fits g) (commands_by commands (standing notes s))
+  next_runs notes s run g mirrors sized = subst (First (Fits g)) mirrors.shows.left (by_commands run.commands (left_runs notes s run mirrors) sized)
     where
-      by_commands : (left : List Command) → CanAllRun sizes left → First (λ c. sizes c ≡ g) left → First (CanRun g) left
+      by_commands : (left : List Command) → CanAllRun sizes left → First (λ c. sizes c ≡ g) left → First (Fits g) left
       by_commands [] h sized = absurd sized
-      by_commands (command ∷ left) h sized = subst (λ (k : Geometry). CanRun k command) sized (h 0 command (omega arith))
+      by_commands (command ∷ left) h sized = subst (λ (k : Geometry). Fits k command) sized (h 0 command (omega arith))
 
   -- a session mirrors the same run where notes are added
   pub mirrors_later : (notes more : List Note) (s : Session) (run : SessionRun) → Mirrors sizes commands notes s run
@@ -187,7 +187,7 @@ module _ (sizes : Command → Geometry) (commands : List Command) where
 pub next_op_if : {E : Type 0} (result : Result Op E) (commands : List Command) (notes : List Note) (old : Session) (alone put : Standing) (g : Geometry)
     (place : ℕ) (command : Command)
     → alone ≡ standing notes old → put ≡ put_down alone → place ≡ length put.outcomes
-    → op_asked (standing notes old).script ≡ None → CanRun g command → slice_get commands place ≡ Some command
+    → op_asked (standing notes old).script ≡ None → Fits g command → slice_get commands place ≡ Some command
     → IfOk result (λ op. op_asked (Some (script_of g command)) ≡ Some op)
     → IfOk result (λ op. (sizes : Command → Geometry) (run : SessionRun) → Mirrors sizes commands notes old run → First (λ c. sizes c ≡ g) run.commands
     → next_op_of sizes run.commands run.replies ≡ Some op)

@@ -11,7 +11,7 @@ use Rattle.nand_model.specs.declared.words.Outcome.{Outcome}
 use Rattle.nand_model.specs.declared.words.Reply.{Reply}
 use Rattle.command_model.specs.Command.{Script, End, Ask}
 use Rattle.command_model.specs.Session.{SessionRun}
-use Rattle.command_model.specs.Runnable.{CanRun}
+use Rattle.command_model.specs.Runnable.{Fits}
 use Rattle.session_steps.specs.declared.session.Session.{Session}
 use Rattle.session_steps.specs.Standing.{Standing}
 use Rattle.session_steps.specs.Mirrors.{IsUnderWay, IsPlaced, Shows, Mirrors}
@@ -50,14 +50,14 @@ Script-set = collapsible→set (λ x y p. same-eq x y (subst (Same x) p (same_sc
     (λ x y p q. ap (same-eq x y) (same-prop x y (subst (Same x) p (same_script x)) (subst (Same x) q (same_script x))))
 
 -- that a command can be run is a proposition
-CanRun-prop : (g : Geometry) (command : Command) → IsProp (CanRun g command)
-CanRun-prop g (FlashErase dev blocks no_scan start count) = hlevel props
-CanRun-prop g (NandWrite dev blocks mark raw oob pad off bytes) = hlevel props
-CanRun-prop g (NandDump dev blocks off len raw oob bad) = hlevel props
-CanRun-prop g (NandTest dev blocks keep mark seed passes off len) = hlevel props
-CanRun-prop g (MarkBad dev blocks block) = hlevel props
-CanRun-prop g (IsBad dev blocks block) = hlevel props
-CanRun-prop g (Stats dev blocks) = hlevel props
+Fits-prop : (g : Geometry) (command : Command) → IsProp (Fits g command)
+Fits-prop g (FlashErase dev blocks no_scan start count) = hlevel props
+Fits-prop g (NandWrite dev blocks mark raw oob pad off bytes) = hlevel props
+Fits-prop g (NandDump dev blocks off len raw oob bad) = hlevel props
+Fits-prop g (NandTest dev blocks keep mark seed passes off len) = hlevel props
+Fits-prop g (MarkBad dev blocks block) = hlevel props
+Fits-prop g (IsBad dev blocks block) = hlevel props
+Fits-prop g (Stats dev blocks) = hlevel props
 
 IsUnderWay-prop : (sizes : Command → Geometry) (commands : List Command) (replies : List Reply) (script : Option Script)
     → IsProp (IsUnderWay sizes commands replies script)
@@ -76,4 +76,4 @@ Shows-prop sizes commands st run = hlevel (props, IsUnderWay-prop)
 -- that a session mirrors one of a course is a proposition
 pub Mirrors-prop : (sizes : Command → Geometry) (commands : List Command) (notes : List Note) (s : Session) (run : SessionRun)
     → IsProp (Mirrors sizes commands notes s run)
-Mirrors-prop sizes commands notes s run = hlevel (props, CanRun-prop, IsPlaced-prop, Shows-prop)
+Mirrors-prop sizes commands notes s run = hlevel (props, Fits-prop, IsPlaced-prop, Shows-prop)

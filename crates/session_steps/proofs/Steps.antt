@@ -8,7 +8,7 @@ use Rattle.nand_model.specs.declared.words.Outcome.{Outcome}
 use Rattle.nand_model.specs.declared.words.Reply.{Reply}
 use Rattle.command_model.specs.Command.{Script, End, Ask, Over, next_in, next_step, after_replies, script_of}
 use Rattle.command_model.specs.Session.{SessionRun, without_finished, with_reply, next_op_of, op_of_next}
-use Rattle.command_model.specs.Runnable.{CanRun}
+use Rattle.command_model.specs.Runnable.{Fits}
 use Rattle.tool_steps.specs.Steps.{is_over}
 use Rattle.tool_steps.proofs.Asks.{asks_first}
 use Rattle.tool_steps.proofs.Scripts.{after_replies-append}
@@ -44,7 +44,7 @@ module _ (sizes : Command → Geometry) (commands : List Command) where
   }
 
   -- the script of a command that can be run asks for an operation
-  script_asks : (g : Geometry) (command : Command) → CanRun g command → (script : Script) → script_of g command ≡ script
+  script_asks : (g : Geometry) (command : Command) → Fits g command → (script : Script) → script_of g command ≡ script
       → (op : Op) × (go_on : Reply → Script) × (script ≡ Ask op go_on)
   script_asks g command h (Ask op go_on) e = (op, go_on, refl)
   script_asks g command h (End outcome) e =
@@ -77,7 +77,7 @@ module _ (sizes : Command → Geometry) (commands : List Command) where
 
   -- the next command is begun
   pub shows_begun : (st : Standing) (run : SessionRun) (g : Geometry) (command : Command) → Shows sizes commands st run → IsBetween st.script
-      → First (λ c. sizes c ≡ g) run.commands → CanRun g command → slice_get commands (length (outcomes_by st)) ≡ Some command
+      → First (λ c. sizes c ≡ g) run.commands → Fits g command → slice_get commands (length (outcomes_by st)) ≡ Some command
       → Shows sizes commands (begun (script_of g command) (put_down st)) run
   shows_begun st run g command shows h sized runs there =
       let sized_first : First (λ c. sizes c ≡ g) (commands_by commands st) = subst (First (λ c. sizes c ≡ g)) shows.left sized in
@@ -109,7 +109,7 @@ module _ (sizes : Command → Geometry) (commands : List Command) where
       let one_more : suc (length (outcomes ++ [])) ≡ length (outcomes ++ outcome ∷ []) =
       omega (arith, length-append outcomes [], length-append outcomes (outcome ∷ [])) in
       let later : rest ≡ drop (length (outcomes ++ outcome ∷ [])) commands = drop_first _ commands command rest l ∙ ap (λ (k : ℕ). drop k commands) one_more in
-      let run_on : CanAllRun sizes rest = subst (CanAllRun sizes) (sym later) (All-drop (λ c. CanRun (sizes c) c)
+      let run_on : CanAllRun sizes rest = subst (CanAllRun sizes) (sym later) (All-drop (λ c. Fits (sizes c) c)
       (length (outcomes ++ outcome ∷ [])) commands runnable) in
       subst (Shows sizes commands (at number outcomes (End outcome)))
       (sym (one_finished sizes run.number command rest (run.replies ++ reply ∷ []) run.outcomes outcome over

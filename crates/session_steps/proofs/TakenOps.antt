@@ -16,7 +16,7 @@ use Rattle.command_model.specs.Session.{SessionRun, next_op_of, op_of_next}
 use Rattle.command_model.specs.Laws.{AsksOnly}
 use Rattle.command_model.proofs.Devices.{own_device}
 use Rattle.command_model.specs.Taken.{IsTaken}
-use Rattle.command_model.specs.Runnable.{AsksUnmarked, CanRun}
+use Rattle.command_model.specs.Runnable.{AsksUnmarked, Fits}
 use Rattle.tool_steps.proofs.Scripts.{parity_start-low}
 use Rattle.session_steps.specs.Standing.{First}
 use Rattle.session_steps.specs.Mirrors.{CanAllRun}
@@ -168,7 +168,7 @@ next_taken sizes run op runnable e = by_commands run.commands runnable e
         → First (λ c. (device_of op ≡ command_device c) × IsTaken (sizes c) op) commands
     by_commands [] h e = cc
     by_commands (command ∷ commands) h e =
-        let runs : CanRun (sizes command) command = h 0 command (omega arith) in
+        let runs : Fits (sizes command) command = h 0 command (omega arith) in
         let taken : AsksTaken (sizes command) (script_of (sizes command) command) = all_taken (sizes command) command runs.1 in
         asked_taken (sizes command) (command_device command) (after_replies run.replies (script_of (sizes command) command)) op
         (own_later (command_device command) run.replies _ (own_device (sizes command) command)) (taken_later (sizes command) run.replies _ taken) e

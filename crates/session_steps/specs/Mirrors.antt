@@ -6,7 +6,7 @@ use Rattle.nand_model.specs.declared.words.Note.{Note}
 use Rattle.nand_model.specs.declared.words.Reply.{Reply}
 use Rattle.command_model.specs.Command.{Script, End, Ask, after_replies, script_of}
 use Rattle.command_model.specs.Session.{SessionRun}
-use Rattle.command_model.specs.Runnable.{CanRun}
+use Rattle.command_model.specs.Runnable.{Fits}
 use Rattle.session_steps.specs.declared.session.Session.{Session}
 use Rattle.session_steps.specs.Standing.{Standing, standing, outcomes_by, commands_by}
 
@@ -34,7 +34,7 @@ IsPlaced notes (Some place) = place < notes
 
 -- each of these commands can be run
 abbrev pub CanAllRun : (Command → Geometry) → List Command → Type 0
-CanAllRun sizes commands = All (λ c. CanRun (sizes c) c) commands
+CanAllRun sizes commands = All (λ c. Fits (sizes c) c) commands
 
 -- a session with these commands, each of which can be run, stands where the session of a course
 -- does

@@ -7,7 +7,7 @@ ghost use Rattle.nand_model.specs.declared.words.Note.TheVariants.{Answered};
 ghost use Rattle.nand_model.specs.declared.words.Reply.{Reply as Replied};
 ghost use Rattle.command_model.specs.Command.{script_of};
 ghost use Rattle.command_model.specs.Session.{SessionRun, without_finished, with_reply, next_op_of, is_finished};
-ghost use Rattle.command_model.specs.Runnable.{CanRun};
+ghost use Rattle.command_model.specs.Runnable.{Fits};
 ghost use Rattle.session_steps.specs.Mirrors.{CanAllRun, Mirrors};
 ghost use Rattle.session_steps.specs.Standing.{standing, outcomes_by, commands_by, op_asked, put_down, begun, standing_alone, reply_at, end_of, number_of, IsBetween, First, IsWaiting};
 
@@ -86,7 +86,7 @@ impl Session {
         g: &Geometry,
         notes: &History,
     ) -> Result<Op, AllocError>
-        requires { First (CanRun g.now)
+        requires { First (Fits g.now)
             (commands_by commands.now (standing notes.now.notes self.old)) }
         ensures op { IfOk result
             (λ op. (sizes : Ordered → Sizes) (run : SessionRun) →
@@ -189,7 +189,7 @@ impl Session {
 
     // The command is begun: its tool gives the first operation.
     fn begin(&mut self, command: &Command, g: &Geometry) -> Result<Op, AllocError>
-        requires { CanRun g.now command.now }
+        requires { Fits g.now command.now }
         ensures op { IfOk result (λ op. op_asked (Some (script_of g.now command.now)) ≡ Some op) }
         ensures begun { OnOk result
             (standing_alone self.new

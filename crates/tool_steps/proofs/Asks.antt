@@ -12,7 +12,7 @@ use Rattle.nand_model.specs.declared.words.Command.{Command}
 use Rattle.nand_model.specs.declared.words.Command.TheVariants.{FlashErase, NandWrite, NandDump, NandTest, MarkBad, IsBad as AskBad, Stats as AskStats}
 use Rattle.nand_model.specs.declared.words.Reply.{Reply}
 use Rattle.command_model.specs.Command.{Script, Ask, next_in, next_step, script_of, block_size, count_or_rest, erase_blocks, unit_count, unit_size, units_of, WriteMode, WriteCounts, write_blocks, DumpMode, DumpCounts, dump_block, dump_blocks, is_dump_bad}
-use Rattle.command_model.specs.Runnable.{Fits, CanRun, AsksUnmarked}
+use Rattle.command_model.specs.Runnable.{Fits}
 use Rattle.tool_steps.specs.Steps.{is_over, asks_something}
 use Rattle.tool_steps.specs.Ranges.{range_pages}
 use Rattle.tool_steps.proofs.Dumps.{either_asks, block_asks}
@@ -95,7 +95,7 @@ asks_something-unmarked (AskBad dev blocks block) h = refl
 asks_something-unmarked (AskStats dev blocks) h = refl
 
 -- a command that can be run asks for an operation
-pub asks_first : (g : Geometry) (command : Command) → CanRun g command → is_over (next_step g command []) ≡ false
+pub asks_first : (g : Geometry) (command : Command) → Fits g command → is_over (next_step g command []) ≡ false
 asks_first g command h = by_answer (is_over (next_step g command [])) (sym (asks_at_all g command h.0) ∙ asks_something-unmarked command h.1)
   where
     by_answer : (b : Bool) → not b ≡ true → b ≡ false

@@ -80,5 +80,6 @@ module _ (g : Geometry) where
   place_left dump (Looking d) = look_left d dump
   place_left dump (Reading d) = read_left d dump
 
+-- what is left of a nanddump under way
 abbrev pub dumping_left : Geometry → Dumping → Script
 dumping_left g d = place_left g d.dump d.place

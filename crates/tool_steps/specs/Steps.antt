@@ -27,6 +27,7 @@ abbrev pub step_of : Next → Step
 step_of (Do op) = Perform op
 step_of (Over outcome) = Finished
 
+-- whether nothing more is asked for
 abbrev pub is_over : Next → Bool
 is_over (Do op) = false
 is_over (Over outcome) = true

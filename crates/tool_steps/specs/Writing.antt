@@ -91,5 +91,6 @@ module _ (g : Geometry) (bytes : List ℕ) where
   place_left (Clearing b) = clear_left b
   place_left (Marking b) = mark_left b
 
+-- what is left of a nandwrite under way
 abbrev pub writing_left : Geometry → Writing → Script
 writing_left g w = place_left g w.units w.place

@@ -12,7 +12,7 @@ use Rattle.nand_model.specs.declared.words.Reply.{Reply}
 use Rattle.command_model.specs.Command.{Next, Do, Over, next_step}
 use Rattle.command_model.specs.Session.{SessionRun, without_finished, with_reply, replied, next_op_of}
 use Rattle.command_model.specs.Laws.{IsOver}
-use Rattle.command_model.specs.Runnable.{CanRun}
+use Rattle.command_model.specs.Runnable.{Fits}
 use Rattle.tool_steps.proofs.Ends.{command_ends_at_last}
 use Rattle.command_model.specs.Cost.{command_cost, commands_cost, sessions_cost}
 
@@ -20,7 +20,7 @@ module _ (sizes : Command → Geometry) where
   -- each of these commands can be run
   abbrev pub EachRuns : List Command → Type 0
   EachRuns [] = ⊤
-  EachRuns (command ∷ commands) = CanRun (sizes command) command × EachRuns commands
+  EachRuns (command ∷ commands) = Fits (sizes command) command × EachRuns commands
 
   -- the first of these commands asks for an operation after these replies
   abbrev pub Settled : List Command → List Reply → Type 0
@@ -85,7 +85,7 @@ module _ (sizes : Command → Geometry) where
           (omega (arith, later (outcomes ++ outcome ∷ []), sum_by-cons (command_cost sizes) command commands))
 
   -- a command that is not over has had fewer replies than its cost
-  fewer : (command : Command) (replies : List Reply) (op : Op) → CanRun (sizes command) command → next_step (sizes command) command replies ≡ Do op
+  fewer : (command : Command) (replies : List Reply) (op : Op) → Fits (sizes command) command → next_step (sizes command) command replies ≡ Do op
       → length replies < command_cost sizes command
   fewer command replies op runs e = by_order (cases_lt (length replies) (command_cost sizes command))
     where
@@ -205,11 +205,11 @@ module _ (sizes : Command → Geometry) where
   abbrev pub at_start : List (ℕ × List Command) → List SessionRun
   at_start sessions = map (λ (s : ℕ × List Command). without_finished sizes s.0 s.1 [] []) sessions
 
-  each_runs : (commands : List Command) → All (λ c. CanRun (sizes c) c) commands → EachRuns commands
+  each_runs : (commands : List Command) → All (λ c. Fits (sizes c) c) commands → EachRuns commands
   each_runs [] h = tt
   each_runs (command ∷ commands) h = (h 0 command (omega arith), each_runs commands (λ k d less. h (suc k) d (omega arith)))
 
-  pub start_good : (sessions : List (ℕ × List Command)) → All (λ (s : ℕ × List Command). All (λ c. CanRun (sizes c) c) s.1) sessions
+  pub start_good : (sessions : List (ℕ × List Command)) → All (λ (s : ℕ × List Command). All (λ c. Fits (sizes c) c) s.1) sessions
       → EachGood (at_start sessions)
   start_good [] h = tt
   start_good (s ∷ sessions) h = (good_without s.0 s.1 [] [] (each_runs s.1 (h 0 s (omega arith))), start_good sessions (λ k d less. h (suc k) d (omega arith)))

@@ -7,7 +7,7 @@ use Rattle.nand_model.specs.declared.words.Reply.{Reply}
 use Rattle.nand_model.specs.declared.words.Reply.TheVariants.{State}
 use Rattle.command_model.specs.Command.{device_bytes, Next, Do, Over, next_step}
 use Rattle.command_model.specs.Session.{SessionRun, without_finished, with_reply}
-use Rattle.command_model.specs.Runnable.{CanRun}
+use Rattle.command_model.specs.Runnable.{Fits}
 use Rattle.nand_model.proofs.Bounds.{pages-some}
 use Rattle.session_steps.specs.Standing.{First}
 use Rattle.session_steps.specs.Mirrors.{CanAllRun}
@@ -31,15 +31,15 @@ module _ (g : Geometry) (page : g.page ≡ 2048) where
   room : 0 + 2048 ≤ device_bytes g 16
   room = rw page (omega (arith, pages-some g))
 
-  dumps : CanRun g dumping
+  dumps : Fits g dumping
   dumps = (record { size = (omega arith, omega arith); first = omega (arith, some_bytes); last = omega (arith, room) }, tt)
 
-  both : (k : ℕ) (d : Command) → k < 2 → CanRun g (slice_index_or (asking ∷ dumping ∷ []) k d)
+  both : (k : ℕ) (d : Command) → k < 2 → Fits g (slice_index_or (asking ∷ dumping ∷ []) k d)
   both zero d h = ((omega arith, omega arith), tt)
   both (suc zero) d h = dumps
   both (suc (suc k)) d h = absurd (omega arith)
 
-  only : (k : ℕ) (d : Command) → k < 1 → CanRun g (slice_index_or (dumping ∷ []) k d)
+  only : (k : ℕ) (d : Command) → k < 1 → Fits g (slice_index_or (dumping ∷ []) k d)
   only zero d h = dumps
   only (suc k) d h = absurd (omega arith)
 

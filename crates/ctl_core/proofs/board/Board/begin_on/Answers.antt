@@ -6,7 +6,7 @@ use Rattle.nand_model.specs.declared.geometry.Geometry.{Geometry}
 use Rattle.nand_model.specs.declared.words.Command.{Command}
 use Rattle.nand_model.specs.declared.words.Note.TheVariants.{Began}
 use Rattle.nand_model.specs.Partitions.{Partitions}
-use Rattle.command_model.specs.Runnable.{CanRun}
+use Rattle.command_model.specs.Runnable.{Fits}
 use Rattle.session_steps.specs.Standing.{First, commands_by, standing}
 use Rattle.chip_core.specs.Begin.{CanBegin}
 use Rattle.ctl_core.specs.SlotState.{SlotState, after_begin}
@@ -26,7 +26,7 @@ next_op-requires g c =
     let slot = kept_at slot_state board.slots.items c.args.k c.index.result.now x.0 c.index.ensures x.1 in
     let own = own_session past board c.args.session c.args.place c.requires.turn c.index_mut.result.now c.index_mut.ensures.value in
     let first = begins_with past board c.args.session c.args.place c.requires.turn c.index_mut.result.now own.0 own.1 c.args.k c.requires.chip in
-    subst (λ (sizes : Geometry). First (CanRun sizes) (commands_by c.commands-commands.result.now (standing board.notes.notes c.index_mut.result.now)))
+    subst (λ (sizes : Geometry). First (Fits sizes) (commands_by c.commands-commands.result.now (standing board.notes.notes c.index_mut.result.now)))
     (sym c.geometry-g.ensures)
     (first_can_run past board c.args.session c.args.place c.requires.turn c.index_mut.result.now own.0 own.1 c.args.k c.index.result.now slot.0 first.0
     first.1 first.2

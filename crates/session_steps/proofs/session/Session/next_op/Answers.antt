@@ -1,5 +1,5 @@
 use Rattle.std.proofs.Common.{◌≡◌, length, sym, ◌∙◌}
-use Rattle.command_model.specs.Runnable.{CanRun}
+use Rattle.command_model.specs.Runnable.{Fits}
 use Rattle.session_steps.proofs.Mirrors.{no_op, next_there, next_mirrors, next_op_if}
 use Rattle.session_steps.proofs.Steps.{shows_op}
 use Rattle.session_steps.specs.Standing.{standing}
@@ -10,7 +10,7 @@ at_place : (c : goal.After-get) → c.len-place.result ≡ length c.put_outcome_
 at_place c = c.len-place.ensures ∙ c.put_outcome_down.new.self.outcomes.ok.0
 
 pub begin-requires : goal.begin-requires
-begin-requires c = next_there c.args.commands.now (CanRun c.args.g.now) _ _ _ c.len-place.result c.get.result.now c.in_ok-op.ensures.stands
+begin-requires c = next_there c.args.commands.now (Fits c.args.g.now) _ _ _ c.len-place.result c.get.result.now c.in_ok-op.ensures.stands
     c.in_ok-put_outcome_down.ensures.put_down
     (at_place c) c.requires c.get.ensures
 
