@@ -17,3 +17,6 @@ pub mod Replies
 pub mod Turns
 pub mod AttachTurns
 pub mod Progress
+pub mod Pending
+pub mod Rounds
+pub mod Once

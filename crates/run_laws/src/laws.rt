@@ -7,6 +7,7 @@ ghost use Rattle.run_model.specs.Laws.{RepliesDependOnTheChip};
 ghost use Rattle.run_model.specs.Run.{AreBoots, CoursesAreFaithful, RunsAreFaithful, HaveOneNumberEach};
 ghost use Rattle.nand_model.specs.declared.geometry.Geometry.{Geometry};
 ghost use Rattle.nand_model.specs.declared.words.Command.{Command};
+ghost use Rattle.run_laws.specs.Replay.{IsReplayed};
 ghost use Rattle.run_laws.specs.Turns.{AttachIsStep, TurnIsStep, BusyTurnsSuffice, HaveChips, SomeTurnIsBusy};
 
 /// Whatever the turns, the cut, the flips and the failures of a boot, its notes are a history of
@@ -62,4 +63,13 @@ pub fn courses_go_on<W>()
         (turns : List ℕ) →
         HaveOneNumberEach boot.sessions → HaveChips boot starts →
         SomeTurnIsBusy boot starts (course_after model boot starts attaches turns) }
+{}
+
+/// A replay of a boot has one end: whatever the numbers of attach steps and rounds, two of its
+/// courses that are over are the same.
+pub fn replays_end_alike<W>()
+    ensures { (model : FaultModel W) (boot : Boot) (starts : List (ChipState W))
+        (schedule : List ℕ) (course other : Course W) → HaveOneNumberEach boot.sessions →
+        IsReplayed model boot starts schedule course →
+        IsReplayed model boot starts schedule other → other ≡ course }
 {}

@@ -6,5 +6,5 @@ mod laws;
 
 pub use laws::{
     attach_steps_are_events, chips_stand_alone, courses_go_on, every_interleaving, every_run,
-    turns_are_steps,
+    replays_end_alike, turns_are_steps,
 };
