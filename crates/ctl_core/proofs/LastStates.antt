@@ -36,7 +36,7 @@ use Rattle.ctl_core.proofs.Sessions.{one_number_each}
 use Rattle.ctl_core.proofs.Devices.{all_at, chip_stays}
 use Rattle.ctl_core.proofs.FirstAndLast.{true_at}
 use Rattle.ctl_core.proofs.OnCourse.{holds, slot_there}
-use Rattle.ctl_core.proofs.Pending.{pending_is_next}
+use Rattle.run_laws.proofs.Pending.{pending_is_next}
 
 -- the numbers from one on, and one more
 pub one_number_more : (a n : ℕ) → numbers_from a (n + 1) ≡ numbers_from a n ++ (a + n) ∷ []

@@ -31,7 +31,7 @@ use Rattle.ctl_core.proofs.ChipSteps.{works, next_is}
 use Rattle.ctl_core.proofs.Flipped.{flips_kept, wait_flipped}
 use Rattle.ctl_core.proofs.CourseSteps.{unattached_is, pending_is, resting, holding, attach_step_is, turn_event_is, turn_answer_is, turn_begins, event_kept, begin_kept, answer_kept, after_chip_event}
 use Rattle.ctl_core.proofs.Sessions.{one_number_each, placed, same_place, one_replied, all_later, one_resumed, wait_on, wait_beside, wait_begun, wait_answered}
-use Rattle.ctl_core.proofs.Pending.{pending_is_next, pending_once}
+use Rattle.run_laws.proofs.Pending.{pending_is_next, pending_once}
 
 -- an operation that is over has no event
 finished_path : (path : Path Finished) (finished : Finished) → result_of path ≡ Some finished → first_event path ≡ None

@@ -42,7 +42,7 @@ use Rattle.ctl_core.specs.Start.{HasSession}
 use Rattle.ctl_core.proofs.LastStates.{mapped_push}
 use Rattle.ctl_core.proofs.Sessions.{one_number_each}
 use Rattle.session_run.specs.Replay.{IsReplayed, rounds_after, session_numbers}
-use Rattle.session_run.proofs.Once.{replayed_once}
+use Rattle.run_laws.proofs.Once.{replayed_once}
 use Rattle.headline_model.specs.Headline.{IsReplayOf}
 use Rattle.nandlab.specs.Ends.{end_by, ends_by, stats_by, stats_of}
 use Rattle.nandlab.specs.Run.{EndsRun}

@@ -1,6 +1,4 @@
-mod Rounds
 mod Progress
-pub mod Once
 mod Pasts
 mod Starts
 mod Replays

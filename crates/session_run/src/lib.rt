@@ -2,7 +2,5 @@
 #![tactic(auto)]
 
 mod boot;
-mod laws;
 
 pub use boot::replay;
-pub use laws::replays_end_alike;
