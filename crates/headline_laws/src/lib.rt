@@ -1,0 +1,63 @@
+//! Laws of whole runs of a plan: the parts of the headline, for every plan, of any number of
+//! controllers and boots.
+#![tactic(auto)]
+
+ghost use Rattle.std.specs.Prelude.{◌≡◌, ℕ, List, ◌++◌, ◌∷◌, [], length};
+ghost use Rattle.nand_model.specs.Chip.{ChipState, SimFaults, sim_faults};
+ghost use Rattle.run_model.specs.Course.{Course};
+ghost use Rattle.command_model.specs.Boot.{AreAscending};
+ghost use Rattle.plan_model.specs.Plan.{BootPlan, ChipPlan, PlanData, boot_part};
+ghost use Rattle.headline_model.specs.Headline.{
+  AreReplay,
+  Courses,
+  replay_turns,
+  starts_at,
+};
+ghost use Rattle.run_laws.specs.Replay.{IsReplayed, rounds_after, session_numbers};
+ghost use Rattle.headline_laws.specs.Replays.{
+  AreReplaysOfAll,
+  AreReplaysOfBoots,
+  IsReplayOfBoot,
+  own_schedule,
+};
+
+/// A plan has one replay, whatever the numbers of rounds.
+pub fn replay_is_the_only_one()
+    ensures { (plan : PlanData) (courses other : Courses) → AreReplay plan courses →
+        AreReplay plan other → other ≡ courses }
+{}
+
+/// Replays of the boots of each controller, each boot with a number of rounds of its own, are a
+/// replay of the plan: one number of rounds serves all, since more rounds change nothing.
+pub fn replays_join()
+    ensures { (plan : PlanData) (courses : Courses) → AreReplaysOfAll plan courses →
+        AreReplay plan courses }
+{}
+
+/// Replays of a controller's boots grow by that of the next boot, from the states that they left.
+pub fn replays_grow()
+    ensures { (plan : PlanData) (c : ℕ) (chips : List ChipPlan) (starts : List (ChipState SimFaults))
+        (boots : List BootPlan) (courses : List (Course SimFaults)) (boot : BootPlan)
+        (course : Course SimFaults) →
+        AreReplaysOfBoots plan c chips starts boots courses →
+        IsReplayOfBoot plan c chips boot (starts_at starts courses (length boots)) course →
+        AreReplaysOfBoots plan c chips starts (boots ++ boot ∷ []) (courses ++ course ∷ []) }
+{}
+
+/// The turns of a replay of a boot are a controller's own of the schedule, and then rounds of its
+/// own sessions. So what such turns lead to is a replay of that boot.
+pub fn rounds_are_replays()
+    ensures turns { (plan : PlanData) (c : ℕ) (chips : List ChipPlan) (boot : BootPlan) (rounds : ℕ) →
+        replay_turns boot rounds c
+        ≡ rounds_after (own_schedule boot c) (session_numbers (boot_part plan c chips boot)) rounds }
+    ensures replay { (plan : PlanData) (c : ℕ) (chips : List ChipPlan) (boot : BootPlan)
+        (starts : List (ChipState SimFaults)) (course : Course SimFaults) →
+        IsReplayed sim_faults (boot_part plan c chips boot) starts (own_schedule boot c) course →
+        IsReplayOfBoot plan c chips boot starts course }
+{}
+
+/// The numbers of a controller's sessions ascend in each boot.
+pub fn sessions_ascend()
+    ensures { (plan : PlanData) (c : ℕ) (chips : List ChipPlan) (boot : BootPlan) →
+        AreAscending (boot_part plan c chips boot).sessions }
+{}
