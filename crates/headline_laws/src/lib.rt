@@ -9,7 +9,10 @@ ghost use Rattle.command_model.specs.Boot.{AreAscending};
 ghost use Rattle.plan_model.specs.Plan.{BootPlan, ChipPlan, PlanData, boot_part};
 ghost use Rattle.headline_model.specs.Headline.{
   AreReplay,
+  AreTrueHistories,
   Courses,
+  IsRun,
+  KeepMarks,
   replay_turns,
   starts_at,
 };
@@ -20,6 +23,14 @@ ghost use Rattle.headline_laws.specs.Replays.{
   IsReplayOfBoot,
   own_schedule,
 };
+
+/// Every legal run of a plan has true histories, whatever its turns, flips, cuts and weak places:
+/// the notes of each controller are a history of one thread in which each session's operations
+/// stand once and in order, and a programmed page with few flips reads back, over all boots.
+pub fn runs_have_true_histories()
+    ensures { (plan : PlanData) (turns : List (List (List ℕ))) (courses : Courses) →
+        IsRun plan turns courses → AreTrueHistories plan courses }
+{}
 
 /// A plan has one replay, whatever the numbers of rounds.
 pub fn replay_is_the_only_one()
@@ -36,9 +47,9 @@ pub fn replays_join()
 
 /// Replays of a controller's boots grow by that of the next boot, from the states that they left.
 pub fn replays_grow()
-    ensures { (plan : PlanData) (c : ℕ) (chips : List ChipPlan) (starts : List (ChipState SimFaults))
-        (boots : List BootPlan) (courses : List (Course SimFaults)) (boot : BootPlan)
-        (course : Course SimFaults) →
+    ensures { (plan : PlanData) (c : ℕ) (chips : List ChipPlan)
+        (starts : List (ChipState SimFaults)) (boots : List BootPlan)
+        (courses : List (Course SimFaults)) (boot : BootPlan) (course : Course SimFaults) →
         AreReplaysOfBoots plan c chips starts boots courses →
         IsReplayOfBoot plan c chips boot (starts_at starts courses (length boots)) course →
         AreReplaysOfBoots plan c chips starts (boots ++ boot ∷ []) (courses ++ course ∷ []) }
@@ -47,13 +58,24 @@ pub fn replays_grow()
 /// The turns of a replay of a boot are a controller's own of the schedule, and then rounds of its
 /// own sessions. So what such turns lead to is a replay of that boot.
 pub fn rounds_are_replays()
-    ensures turns { (plan : PlanData) (c : ℕ) (chips : List ChipPlan) (boot : BootPlan) (rounds : ℕ) →
+    ensures turns { (plan : PlanData) (c : ℕ) (chips : List ChipPlan) (boot : BootPlan)
+        (rounds : ℕ) →
         replay_turns boot rounds c
-        ≡ rounds_after (own_schedule boot c) (session_numbers (boot_part plan c chips boot)) rounds }
+        ≡ rounds_after (own_schedule boot c)
+        (session_numbers (boot_part plan c chips boot)) rounds }
     ensures replay { (plan : PlanData) (c : ℕ) (chips : List ChipPlan) (boot : BootPlan)
         (starts : List (ChipState SimFaults)) (course : Course SimFaults) →
         IsReplayed sim_faults (boot_part plan c chips boot) starts (own_schedule boot c) course →
         IsReplayOfBoot plan c chips boot starts course }
+{}
+
+/// In every legal run of a plan the marks of each chip survive, also past cuts, flips and
+/// failures: a rescan shows bad what was acknowledged, and nothing whose marking had not begun, as
+/// far as torn events were fair and attaches quiet. At each moment one whole copy of a table stays,
+/// and two whole copies hold the table in memory.
+pub fn marks_are_kept()
+    ensures { (plan : PlanData) (turns : List (List (List ℕ))) (courses : Courses) →
+        IsRun plan turns courses → KeepMarks plan courses }
 {}
 
 /// The numbers of a controller's sessions ascend in each boot.
