@@ -29,28 +29,29 @@ no_entry [] none = refl
 no_entry (entry ∷ entries) none = absurd (omega arith)
 
 -- without entries all statistics are 0
-pub known_fresh : (known : Knowledge) → length known.sums ≡ 0 → known_in known ≡ known_by_markers known.states
-known_fresh known none = ap (with_stats known.states) (no_entry known.sums none)
+pub known_fresh : (known : Knowledge) → length known.sums ≡ 0 → known_in known ≡ known_by_markers known.table
+known_fresh known none = ap (with_stats known.table) (no_entry known.sums none)
 
 pub stats_fresh : (sums : List DeviceSums) → length sums ≡ 0 → (dev : ℕ) → stats_in sums dev ≡ record { corrected = 0; failed = 0 }
 stats_fresh sums none dev = ap (λ (stats : ℕ → Stats). stats dev) (no_entry sums none)
 
 -- the counts of a read are added as it is answered
 pub read_answered : (known : Knowledge) (phase : Phase) (dev : ℕ) (kind : PageKind) (read : PageRead) (image : List ℕ)
-    → phase ≡ Working (Decoded dev kind read image) → (stage : Stage) (sums : List DeviceSums) → stage ≡ Rests (with_stats known.states (stats_in sums))
+    → phase ≡ Working (Decoded dev kind read image) → (stage : Stage) (sums : List DeviceSums) → stage ≡ Rests (with_stats known.table (stats_in sums))
     → ((d : Decoding) → d.corrected ≡ read.corrected → d.failed ≡ read.failed → stats_in sums ≡ with_statistics (stats_in known.sums) dev d)
     → IfSome (finished_in (phase_stage known phase)) (λ finished. stage ≡ Rests finished.known)
 read_answered known phase dev kind read image is stage sums rests added =
     let Answered : Phase → Type 0 = λ p. IfSome (finished_in (phase_stage known p)) (λ finished. stage ≡ Rests finished.known) in
     let d : Decoding = decoding_from read image in
-    subst Answered (sym is) (rests ∙ ap (λ stats. Rests (with_stats known.states stats)) (added d refl refl))
+    subst Answered (sym is) (rests ∙ ap (λ stats. Rests (with_stats known.table stats)) (added d refl refl))
 
 -- a chip at rest
 module _ (known : Knowledge) where
-  pub rests_fit : (g : Geometry) (sums : List DeviceSums) (phase : Phase) → is_resting (phase_stage known phase) ≡ true → PhaseFits g sums phase
-  rests_fit g sums Resting rests = tt
-  rests_fit g sums (Attaching scan) rests = absurd (false≢true rests)
-  rests_fit g sums (Working task) rests = absurd (false≢true rests)
+  pub rests_fit : (g : Geometry) (table : List ℕ) (sums : List DeviceSums) (phase : Phase) → is_resting (phase_stage known phase) ≡ true
+      → PhaseFits g table sums phase
+  rests_fit g table sums Resting rests = tt
+  rests_fit g table sums (Attaching scan) rests = absurd (false≢true rests)
+  rests_fit g table sums (Working task) rests = absurd (false≢true rests)
 
   -- statistics that have room have it under each name of theirs
   pub small_at : (phase : Phase) → is_resting (phase_stage known phase) ≡ true → (read : Option ℕ)

@@ -4,8 +4,11 @@ pub mod Imaging
 pub mod Scanning
 pub mod Quiet
 pub mod Ranges
+pub mod Marking
 pub mod Answering
 pub mod Advancing
 pub mod Seen
+pub mod Faults
+pub mod Endings
 pub mod Performing
 pub mod Attached

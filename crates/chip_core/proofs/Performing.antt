@@ -1,148 +1,214 @@
--- A whole operation: it is over at once, or after one event.
-use Rattle.std.proofs.Common.{◌≡◌, ℕ, ◌+◌, ◌-◌, ◌/◌, ◌^◌, ◌≤◌, Bool, true, false, List, [], ◌∷◌, Option, Some, None, refl, ap, sym, subst, ◌∙◌, inl, inr, arith}
-use Rattle.std.specs.Prelude.{IsSome, IfSome, is_some, option_map, slice_index, ◌==◌}
-use Rattle.std.proofs.Math.Nat.{min-eq_left, min-eq_right}
-use Rattle.std.proofs.lemmas.Bool.{false≢true, true≢false, both_ways, cases_lt}
+-- A whole operation, event after event.
+use Rattle.std.proofs.Common.{◌≡◌, ℕ, ◌-◌, ◌<◌, Bool, true, false, List, [], ◌∷◌, ◌++◌, append_assoc, append-nil, Option, Some, None, refl, ap, sym, subst, ◌∙◌, inl, arith}
+use Rattle.std.specs.Prelude.{IsSome, IfSome, is_some, option_map, ◌||◌}
+use Rattle.std.proofs.lemmas.Bool.{false≢true, true≢false}
 use Rattle.chip_paths.specs.Attach.{Attaching}
-use Rattle.nand_model.specs.Chip.{ChipState, Complete, DoneBits, EraseCall, EraseEvent, FaultModel, PageEvent, ProgramCall, ProgramEvent, ReadEvent, counted, erase_block, failure_of, happens, program_page, saturating_increment}
-use Rattle.chip_paths.specs.ChipRun.{AtStart, name_of}
+use Rattle.nand_model.specs.Chip.{ChipEvent, ChipState, Complete, FaultModel, PageEvent, after_trace, happens}
+use Rattle.chip_paths.specs.ChipRun.{AtStart, Progress, name_of}
 use Rattle.nand_model.specs.Counts.{HasRisen}
-use Rattle.chip_paths.specs.Operation.{Finished, Known, after_read, answer, bad_count, chip_block, chip_page, done_or, entry_of, has_block, has_page, is_good_block, only_if, operation_by, operation_in, operation_path, raw_reply}
+use Rattle.chip_paths.specs.Operation.{Finished, Known, operation_path}
 use Rattle.nand_model.specs.Partitions.{Partitions, device_of, part_of}
-use Rattle.nand_model.specs.Page.{decoded, page_image}
-use Rattle.nand_model.specs.Path.{Answer, Data, Failed, Good, Path, Over, Then, after_answers, answer_to, cells_of, first_event, good_or_failed, is_failure, result_of}
-use Rattle.nand_model.specs.declared.geometry.Geometry.{Geometry}
+use Rattle.nand_model.specs.Path.{Answer, GoesAlong, Path, Over, Then, after_answers, answer_to, answers_of, first_event, is_failure, is_uncut, next_event, result_of}
+use Rattle.nand_model.specs.Table.{has_tables}
 use Rattle.nand_model.specs.declared.words.Op.{Op}
-use Rattle.nand_model.specs.declared.words.Op.TheVariants.{Read, Write, RawRead, RawWrite, Erase, IsBad, Mark, Stats}
-use Rattle.nand_model.specs.declared.words.Part.{Part}
 use Rattle.nand_model.specs.declared.words.Reply.{Reply}
-use Rattle.nand_model.specs.declared.words.Reply.TheVariants.{Counts, OutOfRange, BadBlock, MarkerByte, ProgramFailed, EraseFailed, State}
-use Rattle.chip_core.specs.Begin.{read_device}
-use Rattle.chip_core.specs.Task.{erased_from, program_from, raw_read_from, read_from}
-use Rattle.command_model.specs.Taken.{IsTaken}
-use Rattle.chip_paths.specs.Stage.{Stage, Attaches, Rests, Works, finished_in, is_resting, pending_note_after, stage_after, stage_begun, stage_event}
-use Rattle.chip_core.specs.Whole.{HasCause, HasPerformed, is_fault, is_refusal, known_at_rest, refusal_in, refusal_of, refused_unless}
+use Rattle.chip_paths.specs.Stage.{Stage, Attaches, Rests, Works, finished_in, is_resting, one_further, path_after, pending_note_after, stage_after, stage_begun, stage_event}
+use Rattle.chip_core.specs.Whole.{HasCause, HasPerformed, changes_known, is_fault, known_at_rest, refusal_of}
+use Rattle.chip_core.proofs.Endings.{EndsWithin, IsLawful, ended, is_lawful}
+use Rattle.chip_core.proofs.Faults.{HasNotFallen, faults_after, not_fallen_after, risen_after}
 
--- an operation ended with this reply, and nothing else known than before
-abbrev pub ended : Known → Reply → Finished
-ended k reply = record { reply = reply; known = k }
+-- an event is there where it has a name
+pub is_named : (event : Option PageEvent) → is_some (option_map name_of event) ≡ true → IsSome event
+is_named None named = absurd (false≢true named)
+is_named (Some e) named = refl
 
--- a path with this refusal, which is over at once or after one event; only where it reads for a
--- device does it change what is known
-pub data IsShort (k : Known) (reads : Option ℕ) : Option Reply → Path Finished → Type 0 where
-  refused : (refusal : Reply) → is_fault refusal ≡ false → IsShort k reads (Some refusal) (Over (ended k refusal))
-  over_at_once : (reply : Reply) → is_refusal reply ≡ false → is_fault reply ≡ false → IsShort k reads None (Over (ended k reply))
-  over_after_one : (e : PageEvent) (end : Answer → Finished) → ((a : Answer) → is_refusal (end a).reply ≡ false)
-      → ((a : Answer) → is_fault (end a).reply ≡ true → is_failure a ≡ true) → ((a : Answer) → reads ≡ None → (end a).known ≡ k)
-      → IsShort k reads None (Then e (λ answer. Over (end answer)))
-
-only_if-short : (k : Known) (reads : Option ℕ) (b : Bool) (refusal : Reply) (later : Option Reply) (go_on : Unit {0} → Path Finished) → is_fault refusal ≡ false
-    → IsShort k reads later (go_on tt)
-    → IsShort k reads (refused_unless b refusal later) (only_if b k refusal go_on)
-only_if-short k reads true refusal later go_on no_fault rest = rest
-only_if-short k reads false refusal later go_on no_fault rest = refused refusal no_fault
-
--- the reply to a program or an erase
-module _ (failure : Reply) (no_refusal : is_refusal failure ≡ false) where
-  outcome_taken : (a : Answer) → is_refusal (done_or failure a) ≡ false
-  outcome_taken Failed = no_refusal
-  outcome_taken Good = refl
-  outcome_taken (Data cells) = refl
-
-  outcome_failed : (a : Answer) → is_fault (done_or failure a) ≡ true → is_failure a ≡ true
-  outcome_failed Failed fault = refl
-  outcome_failed Good fault = fault
-  outcome_failed (Data cells) fault = fault
-
-module _ (g : Geometry) (k : Known) (part : Part) where
-  -- what comes where the page is there, and where its block is good
-  where_there : (reads : Option ℕ) (page : ℕ) (later : Option Reply) (path : Path Finished) → IsShort k reads later path
-      → IsShort k reads (refused_unless (has_page g part page) OutOfRange later) (only_if (has_page g part page) k OutOfRange (λ u. path))
-  where_there reads page later path short = only_if-short k reads (has_page g part page) OutOfRange later (λ u. path) refl short
-
-  where_good : (block : ℕ) (later : Option Reply) (path : Path Finished) → IsShort k None later path
-      → IsShort k None (refused_unless (is_good_block k block) BadBlock later) (only_if (is_good_block k block) k BadBlock (λ u. path))
-  where_good block later path short = only_if-short k None (is_good_block k block) BadBlock later (λ u. path) refl short
-
-  read-short : (dev page : ℕ) → IsShort k (Some dev) None (read_from g k dev page)
-  read-short dev page =
-      over_after_one (ReadEvent page) (λ seen. after_read g k dev (decoded g (cells_of seen))) (λ a. refl) (λ a fault. absurd (false≢true fault))
-      (λ a none. let no : Some dev ≡ None = none in absurd cc)
-
-  raw_read-short : (page : ℕ) → IsShort k None None (raw_read_from k page)
-  raw_read-short page =
-      over_after_one (ReadEvent page) (λ seen. ended k (raw_reply (cells_of seen))) (λ a. refl) (λ a fault. absurd (false≢true fault)) (λ a none. refl)
-
-  program-short : (image : List ℕ) (page : ℕ) → IsShort k None None (program_from k image page)
-  program-short image page =
-      over_after_one (ProgramEvent page image) (λ outcome. ended k (done_or ProgramFailed outcome)) (outcome_taken ProgramFailed refl)
-      (outcome_failed ProgramFailed refl) (λ a none. refl)
-
-  erase-short : (block : ℕ) → IsShort k None None (erased_from k block)
-  erase-short block =
-      over_after_one (EraseEvent block) (λ outcome. ended k (done_or EraseFailed outcome)) (outcome_taken EraseFailed refl) (outcome_failed EraseFailed refl)
-      (λ a none. refl)
-
-  operation_in-short : (op : Op) → IsTaken g op → IsShort k (read_device op) (refusal_in g k part op) (operation_in g k part op)
-  operation_in-short (Read dev page) taken =
-      where_there (Some dev) page None (read_from g k dev (chip_page g part page)) (read-short dev (chip_page g part page))
-  operation_in-short (RawRead dev page) taken = where_there None page None (raw_read_from k (chip_page g part page)) (raw_read-short (chip_page g part page))
-  operation_in-short (Write dev page body free) taken =
-      where_there None page _ _
-      (where_good (chip_block part (page / g.pages_per_block)) None (program_from k (page_image g body free) (chip_page g part page))
-      (program-short (page_image g body free) (chip_page g part page)))
-  operation_in-short (RawWrite dev page image) taken =
-      let marker = slice_index image g.page == 0xff in
-      where_there None page _ _
-      (where_good (chip_block part (page / g.pages_per_block)) (refused_unless marker MarkerByte None) _
-      (only_if-short k None marker MarkerByte None (λ u. program_from k image (chip_page g part page)) refl (program-short image (chip_page g part page))))
-  operation_in-short (Erase dev block) taken =
-      only_if-short k None (has_block part block) OutOfRange _
-      (λ u. only_if (is_good_block k (chip_block part block)) k BadBlock (λ u. erased_from k (chip_block part block))) refl
-      (where_good (chip_block part block) None (erased_from k (chip_block part block)) (erase-short (chip_block part block)))
-  operation_in-short (IsBad dev block) taken =
-      only_if-short k None (has_block part block) OutOfRange None (λ u. answer k (State (entry_of k (chip_block part block)))) refl
-      (over_at_once (State (entry_of k (chip_block part block))) refl refl)
-  operation_in-short (Stats dev) taken =
-      over_at_once (Counts (k.statistics dev).corrected (k.statistics dev).failed (bad_count k.table part)) refl refl
-  operation_in-short (Mark dev block) taken = absurd taken
-
-operation_by-short : (g : Geometry) (k : Known) (found : Option Part) (op : Op) → IsTaken g op
-    → IsShort k (read_device op) (refusal_of g k found op) (operation_by g k found op)
-operation_by-short g k None op taken = refused OutOfRange refl
-operation_by-short g k (Some part) op taken = operation_in-short g k part op taken
-
--- each operation is short
-pub is_short : (g : Geometry) (partitions : Partitions) (k : Known) (op : Op) → IsTaken g op
-    → IsShort k (read_device op) (refusal_of g k (part_of partitions (device_of op)) op) (operation_path g partitions k op)
-is_short g partitions k op taken = operation_by-short g k (part_of partitions (device_of op)) op taken
-
--- a count of faults that is one higher, or stands at the end of its type
-risen : (n : ℕ) → HasRisen n (saturating_increment n)
-risen n =
-    elim (cases_lt (n + 1) (2 ^ 64 - 1)) [
-      | inl below ↦ let within : n + 1 ≤ 2 ^ 64 - 1 = omega arith in inl (rw (min-eq_left within) (omega arith))
-      | inr past ↦ inr (min-eq_right past)
-    ]
-
-module _ {W : Type 0} (model : FaultModel W) (s : ChipState W) where
-  program_counts : (page : ℕ) (image : List ℕ) (failure : Option DoneBits) → is_failure (good_or_failed failure) ≡ true
-      → HasRisen s.faults (counted model failure (program_page model s page image failure)).faults
-  program_counts page image None failed = absurd (false≢true failed)
-  program_counts page image (Some done) failed = risen s.faults
-
-  erase_counts : (block : ℕ) (failure : Option DoneBits) → is_failure (good_or_failed failure) ≡ true
-      → HasRisen s.faults (counted model failure (erase_block model s block failure)).faults
-  erase_counts block None failed = absurd (false≢true failed)
-  erase_counts block (Some done) failed = risen s.faults
-
-  -- a failed event is counted
-  pub failure_counts : (e : PageEvent) → is_failure (answer_to model s e) ≡ true → HasRisen s.faults (happens model s (Complete e)).faults
-  failure_counts (ReadEvent page) failed = absurd (false≢true failed)
-  failure_counts (ProgramEvent page image) failed = program_counts page image (failure_of model s (ProgramCall page)) failed
-  failure_counts (EraseEvent block) failed = erase_counts block (failure_of model s (EraseCall block)) failed
+pub is_unnamed : (event : Option PageEvent) → is_some (option_map name_of event) ≡ false → event ≡ None
+is_unnamed None unnamed = refl
+is_unnamed (Some e) unnamed = absurd (true≢false unnamed)
 
 module _ {W : Type 0} (model : FaultModel W) (partitions : Partitions) (op : Op) (s : ChipState W) where
+  module _ (k : Known) where
+    abbrev path : Path Finished
+    path = operation_path s.geometry partitions k op
+
+    abbrev refusal : Option Reply
+    refusal = refusal_of s.geometry k (part_of partitions (device_of op)) op
+
+    -- a trace of the operation from its start on, which goes on by these events where the chip is now
+    record Trace (answers : List Answer) (now : ChipState W) (more : List ChipEvent) : Type 0 where
+      trace : List ChipEvent
+      along : GoesAlong model (next_event path) s [] trace
+      uncut : is_uncut trace ≡ true
+      leads : after_trace model now more ≡ after_trace model s trace
+      answered : answers_of model s trace ≡ answers ++ answers_of model now more
+
+    -- what is left ends within so many events, or the operation was refused and nothing is done
+    abbrev Left : ℕ → Bool → ChipState W → Option Reply → Path Finished → Type 0
+    Left n failed now None left = EndsWithin k op n failed left
+    Left n failed now (Some r) left = (left ≡ Over (ended k r)) × ((now ≡ s) × (is_fault r ≡ false))
+
+    -- some events were answered so, and this is left of the operation
+    record Comes (n : ℕ) (now : ChipState W) (left : Path Finished) : Type 0 where
+      answers : List Answer
+      rest : (more : List Answer) → after_answers (answers ++ more) path ≡ after_answers more left
+      whole : (more : List ChipEvent) → GoesAlong model (next_event path) now answers more → is_uncut more ≡ true → Trace answers now more
+      failed : Bool
+      risen : failed ≡ true → HasRisen s.faults now.faults
+      grown : HasNotFallen s.faults now.faults
+      ends : Left n failed now refusal left
+
+    starts : has_tables s.geometry ≡ false → Comes 2 s path
+    starts none = record {
+      answers = [];
+      rest = λ more. refl;
+      whole = λ more along uncut. record { trace = more; along = along; uncut = uncut; leads = refl; answered = refl };
+      failed = false;
+      risen = λ no. absurd (false≢true no);
+      grown = inl (omega arith);
+      ends = by_refusal refusal path (is_lawful s.geometry none k partitions op);
+    }
+      where
+        by_refusal : (r : Option Reply) (left : Path Finished) → IsLawful k op 2 r left → Left 2 false s r left
+        by_refusal None left lawful = lawful
+        by_refusal (Some r) left lawful = (lawful.0, (refl, lawful.1))
+
+    left_after : (n : ℕ) (failed : Bool) (now after : ChipState W) (e : PageEvent) (rest : Answer → Path Finished) (r : Option Reply) (a : Answer)
+        → Left n failed now r (Then e rest) → Left (n - 1) (failed || is_failure a) after r (rest a)
+    left_after n failed now after e rest None a ends = ends.1 a
+    left_after n failed now after e rest (Some r) a ends = let no : Then e rest ≡ Over (ended k r) = ends.0 in absurd cc
+
+    -- one more event
+    event_done : (n : ℕ) (now : ChipState W) (e : PageEvent) (rest : Answer → Path Finished) → Comes n now (Then e rest)
+        → Comes (n - 1) (happens model now (Complete e)) (rest (answer_to model now e))
+    event_done n now e rest c =
+        let a = answer_to model now e in
+        let after = happens model now (Complete e) in
+        let counts = faults_after model now e in
+        record {
+          answers = c.answers ++ a ∷ [];
+          rest = λ more. ap (λ answers. after_answers answers path) (append_assoc c.answers (a ∷ []) more) ∙ c.rest (a ∷ more);
+          whole =
+              λ more along uncut.
+              let next : next_event path c.answers ≡ Some e =
+              ap (λ answers. next_event path answers) (sym (append-nil c.answers)) ∙ ap first_event (c.rest []) in
+              let t = c.whole (Complete e ∷ more) (next, along) uncut in
+              record {
+                trace = t.trace;
+                along = t.along;
+                uncut = t.uncut;
+                leads = t.leads;
+                answered = t.answered ∙ sym (append_assoc c.answers (a ∷ []) (answers_of model after more));
+              };
+          failed = c.failed || is_failure a;
+          risen = λ either. subst (HasRisen s.faults) (sym counts) (risen_after s.faults now.faults c.failed (is_failure a) c.risen c.grown either);
+          grown = subst (HasNotFallen s.faults) (sym counts) (not_fallen_after s.faults now.faults (is_failure a) c.grown);
+          ends = left_after n c.failed now after e rest refusal a c.ends;
+        }
+
+    goes_on : (n : ℕ) (now : ChipState W) (left : Path Finished) (e : PageEvent) → Comes n now left → first_event left ≡ Some e
+        → Comes (n - 1) (happens model now (Complete e)) (path_after (answer_to model now e) left)
+    goes_on n now (Over end) e c is = absurd cc
+    goes_on n now (Then first rest) e c is =
+        let same : first ≡ e = cc in
+        subst (λ e. Comes (n - 1) (happens model now (Complete e)) (rest (answer_to model now e))) same (event_done n now first rest c)
+
+    -- an operation that is over stays so
+    stays : (n m : ℕ) (now : ChipState W) (left : Path Finished) → Comes n now left → first_event left ≡ None → Comes m now left
+    stays n m now (Then e rest) c none = absurd cc
+    stays n m now (Over end) c none = record {
+      answers = c.answers;
+      rest = c.rest;
+      whole = c.whole;
+      failed = c.failed;
+      risen = c.risen;
+      grown = c.grown;
+      ends = by_refusal refusal c.ends;
+    }
+      where
+        by_refusal : (r : Option Reply) → Left n c.failed now r (Over end) → Left m c.failed now r (Over end)
+        by_refusal None ends = ends
+        by_refusal (Some r) ends = ends
+
+    -- after its events it is over
+    is_over : (now : ChipState W) (left : Path Finished) → Comes 0 now left → IsSome (result_of left)
+    is_over now (Over end) c = refl
+    is_over now (Then e rest) c = absurd (by_refusal refusal c.ends)
+      where
+        by_refusal : (r : Option Reply) → Left 0 c.failed now r (Then e rest) → ⊥
+        by_refusal None ends = let some : 0 < 0 = ends.0 in omega arith
+        by_refusal (Some r) ends = let no : Then e rest ≡ Over (ended k r) = ends.0 in cc
+
+    kept_or : (n : ℕ) (failed : Bool) (now : ChipState W) (end : Finished) (r : Option Reply) → Left n failed now r (Over end)
+        → changes_known op end.reply ≡ false → end.known ≡ k
+    kept_or n failed now end None ends unchanged = ends.kept unchanged
+    kept_or n failed now end (Some r) ends unchanged = let is : Over end ≡ Over (ended k r) = ends.0 in cc
+
+    why : (n : ℕ) (failed : Bool) (now : ChipState W) (end : Finished) → (failed ≡ true → HasRisen s.faults now.faults)
+        → (r : Option Reply) → Left n failed now r (Over end) → HasCause r s now end.reply
+    why n failed now end risen None ends = record { refused = tt; taken = ends.taken; failed = λ fault. risen (ends.fault fault) }
+    why n failed now end risen (Some r) ends =
+        let is : Over end ≡ Over (ended k r) = ends.0 in
+        let reply : end.reply ≡ r = cc in
+        record { refused = (reply, ends.1.0); taken = tt; failed = λ fault. absurd (false≢true (sym ends.1.1 ∙ ap is_fault (sym reply) ∙ fault)) }
+
+  -- an operation that began at rest has come so far
+  pub record HasCome (n : ℕ) (first : Stage) (now : ChipState W) (stage : Stage) : Type 0 where
+    known : Known
+    progress : Progress
+    left : Path Finished
+    rested : first ≡ Rests known
+    stands : stage ≡ Works known progress left
+    comes : Comes known n now left
+
+  -- at its begin
+  pub begins : has_tables s.geometry ≡ false → (first begun : Stage) (now : ChipState W) → is_resting first ≡ true
+      → begun ≡ stage_begun s.geometry partitions op first → now ≡ s → HasCome 2 first now begun
+  begins none (Attaches left quiet) begun now rests is same = absurd (false≢true rests)
+  begins none (Works k progress left) begun now rests is same = absurd (false≢true rests)
+  begins none (Rests k) begun now rests is same = record {
+    known = k;
+    progress = AtStart;
+    left = path k;
+    rested = refl;
+    stands = is;
+    comes = subst (λ (now : ChipState W). Comes k 2 now (path k)) (sym same) (starts k none);
+  }
+
+  module _ (n : ℕ) (first : Stage) (now : ChipState W) (stage : Stage) (h : HasCome n first now stage) where
+    -- after one more event
+    pub one_event : (after : ChipState W) (last : Stage) (quiet : Bool) → (event : Option PageEvent) → stage_event stage ≡ event → IsSome event
+        → IfSome event (λ e. after ≡ happens model now (Complete e))
+        → IfSome event (λ e. last ≡ stage_after quiet (answer_to model now e) stage) → HasCome (n - 1) first after last
+    one_event after last quiet None is there state stage_is = absurd (false≢true there)
+    one_event after last quiet (Some e) is there state stage_is =
+        let a = answer_to model now e in
+        record {
+          known = h.known;
+          progress = one_further h.progress;
+          left = path_after a h.left;
+          rested = h.rested;
+          stands = stage_is ∙ ap (stage_after quiet a) h.stands;
+          comes = subst (λ (after : ChipState W). Comes h.known (n - 1) after (path_after a h.left)) (sym state)
+              (goes_on h.known n now h.left e h.comes (sym (ap stage_event h.stands) ∙ is));
+        }
+
+    -- without an event left
+    pub no_event : (m : ℕ) → stage_event stage ≡ None → HasCome m first now stage
+    no_event m none = record {
+      known = h.known;
+      progress = h.progress;
+      left = h.left;
+      rested = h.rested;
+      stands = h.stands;
+      comes = stays h.known n m now h.left h.comes (sym (ap stage_event h.stands) ∙ none);
+    }
+
+    -- an event of an operation brings no note of an attach
+    pub no_note : (quiet : Bool) (before after : Option (Bool × Attaching)) → (event : Option PageEvent) → IsSome event
+        → IfSome event (λ e. after ≡ pending_note_after quiet (answer_to model now e) stage before) → after ≡ before
+    no_note quiet before after None there note = absurd (false≢true there)
+    no_note quiet before after (Some e) there note = note ∙ ap (λ stage. pending_note_after quiet (answer_to model now e) stage before) h.stands
+
   -- an operation that began at rest and has no event left
   pub record Ends (after : ChipState W) (first last : Stage) : Type 0 where
     pub known : Known
@@ -152,118 +218,36 @@ module _ {W : Type 0} (model : FaultModel W) (partitions : Partitions) (op : Op)
     pub performed : HasPerformed model partitions known op s after (Rests end.known) end.reply
     pub cause : HasCause (refusal_of s.geometry known (part_of partitions (device_of op)) op) s after end.reply
 
-  module _ (k : Known) where
-    nothing_done : (reply : Reply) → operation_path s.geometry partitions k op ≡ Over (ended k reply) → HasPerformed model partitions k op s s (Rests k) reply
-    nothing_done reply is =
-        record {
-          known = k;
-          rests = refl;
-          trace = [];
-          leads = refl;
-          performs = record { along = tt; uncut = refl; over = ap result_of is };
-          kept = λ none. refl;
-        }
-
-    at_once : (path : Path Finished) → operation_path s.geometry partitions k op ≡ path → is_some (option_map name_of (first_event path)) ≡ false
-        → (refusal : Option Reply) → IsShort k (read_device op) refusal path
-        → refusal_of s.geometry k (part_of partitions (device_of op)) op ≡ refusal → Ends s (Rests k) (Works k AtStart path)
-    at_once path is none refusal (refused reply no_fault) why = record {
-      known = k;
-      end = ended k reply;
-      rested = refl;
-      finished = refl;
-      performed = nothing_done reply is;
-      cause = subst (λ refusal. HasCause refusal s s reply) (sym why)
-          (record { refused = (refl, refl); taken = tt; failed = λ fault. absurd (both_ways (is_fault reply) no_fault fault) });
-    }
-    at_once path is none refusal (over_at_once reply taken no_fault) why = record {
-      known = k;
-      end = ended k reply;
-      rested = refl;
-      finished = refl;
-      performed = nothing_done reply is;
-      cause = subst (λ refusal. HasCause refusal s s reply) (sym why)
-          (record { refused = tt; taken = taken; failed = λ fault. absurd (both_ways (is_fault reply) no_fault fault) });
-    }
-    at_once path is none refusal (over_after_one e end taken fault kept) why = absurd (true≢false none)
-
-    after_one : (path : Path Finished) (quiet : Bool) (after : ChipState W) (last : Stage)
-        → operation_path s.geometry partitions k op ≡ path → is_some (option_map name_of (first_event path)) ≡ true
-        → IfSome (first_event path) (λ e. after ≡ happens model s (Complete e))
-        → IfSome (first_event path) (λ e. last ≡ stage_after quiet (answer_to model s e) (Works k AtStart path))
-        → (refusal : Option Reply) → IsShort k (read_device op) refusal path
-        → refusal_of s.geometry k (part_of partitions (device_of op)) op ≡ refusal → Ends after (Rests k) last
-    after_one path quiet after last is some state stage refusal (refused reply no_fault) why = absurd (false≢true some)
-    after_one path quiet after last is some state stage refusal (over_at_once reply taken no_fault) why = absurd (false≢true some)
-    after_one path quiet after last is some state stage refusal (over_after_one e end taken fault kept) why =
-        let finished : Finished = end (answer_to model s e) in
-        record {
-          known = k;
-          end = finished;
-          rested = refl;
-          finished = ap finished_in stage;
-          performed = record {
-            known = finished.known;
-            rests = refl;
-            trace = Complete e ∷ [];
-            leads = state;
-            performs = record {
-              along = (ap first_event is, tt);
-              uncut = refl;
-              over = ap (λ path. result_of (after_answers (answer_to model s e ∷ []) path)) is;
+  ends : (first : Stage) (now : ChipState W) (stage : Stage) → HasCome 0 first now stage → Ends now first stage
+  ends first now stage h = by_left h.left h.stands h.comes (is_over h.known now h.left h.comes)
+    where
+      by_left : (left : Path Finished) → stage ≡ Works h.known h.progress left → Comes h.known 0 now left → IsSome (result_of left) → Ends now first stage
+      by_left (Then e rest) stands c over = absurd (false≢true over)
+      by_left (Over end) stands c over =
+          let t = c.whole [] tt refl in
+          record {
+            known = h.known;
+            end = end;
+            rested = h.rested;
+            finished = ap finished_in stands;
+            performed = record {
+              known = end.known;
+              rests = refl;
+              trace = t.trace;
+              leads = t.leads;
+              performs = record {
+                along = t.along;
+                uncut = t.uncut;
+                over = ap (λ answers. result_of (after_answers answers (path h.known))) t.answered ∙ ap result_of (c.rest []);
+              };
+              kept = kept_or h.known 0 c.failed now end (refusal h.known) c.ends;
             };
-            kept = kept (answer_to model s e);
-          };
-          cause = subst (λ refusal. HasCause refusal s after finished.reply) (sym why)
-              (record {
-                refused = tt;
-                taken = taken (answer_to model s e);
-                failed = λ failed. subst (λ (now : ChipState W). HasRisen s.faults now.faults) (sym state)
-                    (failure_counts model s e (fault (answer_to model s e) failed));
-              });
-        }
+            cause = why h.known 0 c.failed now end c.risen (refusal h.known) c.ends;
+          }
 
-  pending_note_stay : (quiet : Bool) (answer : Answer) (first begun : Stage) (pending_note : Option (Bool × Attaching)) → is_resting first ≡ true
-      → begun ≡ stage_begun s.geometry partitions op first
-      → pending_note_after quiet answer begun pending_note ≡ pending_note
-  pending_note_stay quiet answer (Attaches left q) begun pending_note rests is = absurd (false≢true rests)
-  pending_note_stay quiet answer (Works k progress left) begun pending_note rests is = absurd (false≢true rests)
-  pending_note_stay quiet answer (Rests k) begun pending_note rests is = ap (λ stage. pending_note_after quiet answer stage pending_note) is
-
-  -- an event of an operation brings no pending note
-  pub pending_note_kept : (quiet : Bool) (now : ChipState W) (first begun : Stage) (before after : Option (Bool × Attaching)) → is_resting first ≡ true
-      → begun ≡ stage_begun s.geometry partitions op first → (event : Option PageEvent) → is_some (option_map name_of event) ≡ true
-      → IfSome event (λ e. after ≡ pending_note_after quiet (answer_to model now e) begun before) → after ≡ before
-  pending_note_kept quiet now first begun before after rests is None some pending_note = absurd (false≢true some)
-  pending_note_kept quiet now first begun before after rests is (Some e) some pending_note = pending_note ∙ pending_note_stay quiet (answer_to model now e) first begun before rests is
-
-  -- an operation without events
-  pub ends_at_once : (first last : Stage) → is_resting first ≡ true → IsTaken s.geometry op → last ≡ stage_begun s.geometry partitions op first
-      → is_some (option_map name_of (stage_event last)) ≡ false → Ends s first last
-  ends_at_once (Attaches left quiet) last rests taken begun none = absurd (false≢true rests)
-  ends_at_once (Works k progress left) last rests taken begun none = absurd (false≢true rests)
-  ends_at_once (Rests k) last rests taken begun none =
-      subst (λ stage. Ends s (Rests k) stage) (sym begun)
-      (at_once k (operation_path s.geometry partitions k op) refl (sym (ap (λ stage. is_some (option_map name_of (stage_event stage))) begun) ∙ none)
-      _ (is_short s.geometry partitions k op taken) refl)
-
-  -- an operation of one event
-  pub ends_after_one : (now : ChipState W) → now ≡ s → (quiet : Bool) (after : ChipState W) (first begun last : Stage) → is_resting first ≡ true
-      → IsTaken s.geometry op
-      → begun ≡ stage_begun s.geometry partitions op first → is_some (option_map name_of (stage_event begun)) ≡ true
-      → IfSome (stage_event begun) (λ e. after ≡ happens model now (Complete e))
-      → IfSome (stage_event begun) (λ e. last ≡ stage_after quiet (answer_to model now e) begun)
-      → Ends after first last
-  ends_after_one now same quiet after (Attaches left q) begun last rests taken is some state stage = absurd (false≢true rests)
-  ends_after_one now same quiet after (Works k progress left) begun last rests taken is some state stage = absurd (false≢true rests)
-  ends_after_one now same quiet after (Rests k) begun last rests taken is some state stage =
-      after_one k (operation_path s.geometry partitions k op) quiet after last refl
-      (sym (ap (λ stage. is_some (option_map name_of (stage_event stage))) is) ∙ some)
-      (subst (λ stage. IfSome (stage_event stage) (λ e. after ≡ happens model s (Complete e))) is
-      (subst (λ s. IfSome (stage_event begun) (λ e. after ≡ happens model s (Complete e))) same state))
-      (subst (λ begun. IfSome (stage_event begun) (λ e. last ≡ stage_after quiet (answer_to model s e) begun)) is
-      (subst (λ s. IfSome (stage_event begun) (λ e. last ≡ stage_after quiet (answer_to model s e) begun)) same stage))
-      _ (is_short s.geometry partitions k op taken) refl
+  -- where no event can be left
+  pub ends_at : (n : ℕ) → n ≡ 0 → (first : Stage) (now : ChipState W) (stage : Stage) → HasCome n first now stage → Ends now first stage
+  ends_at n none first now stage h = ends first now stage (subst (λ n. HasCome n first now stage) none h)
 
   module _ (after : ChipState W) (first last : Stage) (e : Ends after first last) where
     pub is_finished : IsSome (finished_in last)

@@ -99,7 +99,7 @@ write_begins g k body free image page good is =
     ∙ sym (ap (λ b. only_if b k BadBlock (λ u. program_from k (page_image g body free) page)) good)
 
 -- a task that stands for a path stands for each path that is the same where this is known
-goes_as : (known : Knowledge) (path other : Known → Path Finished) (dev : Option ℕ) → path (known_in known) ≡ other (known_in known)
+pub goes_as : (known : Knowledge) (path other : Known → Path Finished) (dev : Option ℕ) → path (known_in known) ≡ other (known_in known)
     → (task : Task) → StandsFor known path dev task → StandsFor known other dev task
 goes_as known path other dev same task follows =
     record { follows = follows.follows ∙ same; fresh = follows.fresh; fits = follows.fits; counted = follows.counted }

@@ -6,12 +6,13 @@ use Rattle.nand_model.specs.Chip.{ChipState}
 use Rattle.nand_model.specs.Quiet.{is_quiet}
 use Rattle.nand_model.specs.Sizes.{raw_len}
 use Rattle.chip_paths.specs.Attach.{Attaching}
+use Rattle.chip_paths.specs.Operation.{Known}
 use Rattle.chip_paths.specs.Stage.{Stage, Attaches, Rests, Works}
 use Rattle.nand_model.specs.declared.geometry.Geometry.{Geometry}
-use Rattle.chip_core.specs.Knowledge.{known_in}
+use Rattle.chip_core.specs.Knowledge.{known_in, known_with}
 use Rattle.chip_core.specs.Markers.{attached_by_markers, markers_left, blocks_from}
 use Rattle.chip_core.specs.Sums.{AreSmall, place_of, stats_in}
-use Rattle.chip_core.specs.Task.{TaskFits, TaskFits-prop, counted_by, programs_of, task_left, task_progress}
+use Rattle.chip_core.specs.Task.{HasMarked, HasMarked-prop, TaskFits, TaskFits-prop, counted_by, programs_of, table_before, task_left, task_progress}
 use Rattle.chip_core.specs.declared.knowledge.Knowledge.{Knowledge}
 use Rattle.chip_core.specs.declared.scan.Finding.{Finding}
 use Rattle.chip_core.specs.declared.scan.Scan.{Scan}
@@ -20,14 +21,19 @@ use Rattle.chip_core.specs.declared.sums.DeviceSums.{DeviceSums}
 use Rattle.chip_core.specs.declared.task.Task.{Task}
 use Rattle.chip_core.specs.declared.phase.Phase.TheVariants.{Attaching as IsAttaching, Resting, Working}
 
+-- what was known before the operation of a task
+abbrev pub known_before : Knowledge → Task → Known
+known_before known task = known_with (table_before known.table task) known.sums
+
 -- the stage of a chip of which this is known; an attach has filled the states up to its next block
 abbrev pub phase_stage : Knowledge → Phase → Stage
 phase_stage known (IsAttaching scan) =
-    Attaches (markers_left known.geometry (take scan.next known.states) (blocks_from known.geometry scan.next))
+    Attaches (markers_left known.geometry (take scan.next known.table) (blocks_from known.geometry scan.next))
     scan.quiet_so_far
 phase_stage known Resting = Rests (known_in known)
 phase_stage known (Working task) =
-    Works (known_in known) (task_progress task) (task_left known.geometry (known_in known) task)
+    let k : Known = known_before known task in
+    Works k (task_progress task) (task_left known.geometry k task)
 
 -- a block is still to be read, and there is room for a page and for the note
 pub record ScanFits (g : Geometry) (scan : Scan) : Type 0 where
@@ -40,25 +46,29 @@ pub record AttachFits (g : Geometry) (sums : List DeviceSums) (scan : Scan) : Ty
   pub scan_fits : ScanFits g scan
   pub fresh : length sums ≡ 0
 
--- a task fits, and the statistics that it adds to have an entry and room
-pub record WorkFits (g : Geometry) (sums : List DeviceSums) (task : Task) : Type 0 where
+-- a task fits, the table has its mark, and the statistics that it adds to have an entry and room
+pub record WorkFits (g : Geometry) (table : List ℕ) (sums : List DeviceSums) (task : Task) : Type 0 where
   pub task_fits : TaskFits g task
+  pub marked : HasMarked table task
   pub there : (dev : ℕ) → counted_by task ≡ Some dev → IsSome (place_of sums dev)
   pub small : (dev : ℕ) → counted_by task ≡ Some dev → AreSmall (stats_in sums dev)
 
-pub WorkFits-prop : (g : Geometry) (sums : List DeviceSums) (task : Task) → IsProp (WorkFits g sums task)
-WorkFits-prop g sums task = let fits = TaskFits-prop g task in hlevel (props, fits)
+pub WorkFits-prop : (g : Geometry) (table : List ℕ) (sums : List DeviceSums) (task : Task)
+    → IsProp (WorkFits g table sums task)
+WorkFits-prop g table sums task =
+    let fits = TaskFits-prop g task in let has = HasMarked-prop table task in hlevel (props, fits, has)
 
 -- what a phase holds fits the chip
-abbrev pub PhaseFits : Geometry → List DeviceSums → Phase → Type 0
-PhaseFits g sums (IsAttaching scan) = AttachFits g sums scan
-PhaseFits g sums Resting = ⊤
-PhaseFits g sums (Working task) = WorkFits g sums task
+abbrev pub PhaseFits : Geometry → List ℕ → List DeviceSums → Phase → Type 0
+PhaseFits g table sums (IsAttaching scan) = AttachFits g sums scan
+PhaseFits g table sums Resting = ⊤
+PhaseFits g table sums (Working task) = WorkFits g table sums task
 
-pub PhaseFits-prop : (g : Geometry) (sums : List DeviceSums) (phase : Phase) → IsProp (PhaseFits g sums phase)
-PhaseFits-prop g sums (IsAttaching scan) = hlevel props
-PhaseFits-prop g sums Resting = Unit-prop
-PhaseFits-prop g sums (Working task) = WorkFits-prop g sums task
+pub PhaseFits-prop : (g : Geometry) (table : List ℕ) (sums : List DeviceSums) (phase : Phase)
+    → IsProp (PhaseFits g table sums phase)
+PhaseFits-prop g table sums (IsAttaching scan) = hlevel props
+PhaseFits-prop g table sums Resting = Unit-prop
+PhaseFits-prop g table sums (Working task) = WorkFits-prop g table sums task
 
 -- the pages that may still be programmed
 abbrev pub programs_left : Phase → ℕ

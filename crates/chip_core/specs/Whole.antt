@@ -1,19 +1,20 @@
 -- A whole attach and a whole operation.
-use Rattle.std.specs.Prelude.{◌≡◌, ℕ, ◌/◌, Bool, true, false, ◌==◌, List, map, slice_index, Option, Some, None, IfSome, IfNone}
+use Rattle.std.specs.Prelude.{◌≡◌, ℕ, ◌/◌, Bool, true, false, not, ◌||◌, ◌==◌, nat_le, List, map, slice_index, Option, Some, None, IfSome, IfNone}
 use Rattle.chip_paths.specs.Attach.{marker_table}
 use Rattle.nand_model.specs.Chip.{ChipEvent, ChipState, FaultModel, after_trace}
 use Rattle.nand_model.specs.Counts.{HasRisen}
-use Rattle.chip_paths.specs.Operation.{Known, Performs, chip_block, has_block, has_page, is_good_block}
+use Rattle.chip_paths.specs.Operation.{Known, Performs, chip_block, entry_of, has_block, has_page, is_good_block}
 use Rattle.nand_model.specs.Partitions.{Partitions}
 use Rattle.nand_model.specs.Sizes.{numbers_from}
+use Rattle.nand_model.specs.Table.{has_tables}
 use Rattle.nand_model.specs.declared.geometry.Geometry.{Geometry}
 use Rattle.nand_model.specs.declared.words.Op.{Op}
 use Rattle.nand_model.specs.declared.words.Op.TheVariants.{Read, Write, RawRead, RawWrite, Erase, IsBad, Mark, Stats}
 use Rattle.nand_model.specs.declared.words.Part.{Part}
 use Rattle.nand_model.specs.declared.words.Reply.{Reply}
-use Rattle.nand_model.specs.declared.words.Reply.TheVariants.{OutOfRange, BadBlock, MarkerByte, ProgramFailed, EraseFailed}
+use Rattle.nand_model.specs.declared.words.Reply.TheVariants.{OutOfRange, BadBlock, MarkerByte, Reserved, Copies, ProgramFailed, EraseFailed, MarkerFailed, TableFailed}
 use Rattle.chip_paths.specs.Stage.{Stage, Attaches, Rests, Works}
-use Rattle.chip_core.specs.Begin.{read_device}
+use Rattle.command_model.specs.Command.{is_done}
 use Rattle.chip_core.specs.Markers.{marker_page}
 
 -- the states of a chip's blocks by their markers
@@ -26,8 +27,20 @@ known_at_rest (Attaches left quiet) = None
 known_at_rest (Rests known) = Some known
 known_at_rest (Works known progress left) = None
 
+-- whether an operation with this reply changes what is known: a read counts, and a mark that is done
+-- sets its entry
+abbrev pub changes_known : Op → Reply → Bool
+changes_known (Read dev page) reply = true
+changes_known (Write dev page body free) reply = false
+changes_known (RawRead dev page) reply = false
+changes_known (RawWrite dev page image) reply = false
+changes_known (Erase dev block) reply = false
+changes_known (IsBad dev block) reply = false
+changes_known (Mark dev block) reply = is_done reply
+changes_known (Stats dev) reply = false
+
 -- from this chip and what is known of it to this chip at this stage, by a whole operation with this
--- reply; only a read changes what is known
+-- reply; only a read and a mark that is done change what is known
 pub record HasPerformed {W : Type 0} (model : FaultModel W) (partitions : Partitions) (k : Known) (op : Op)
     (before after : ChipState W)
     (stage : Stage) (reply : Reply) : Type 0 where
@@ -36,7 +49,7 @@ pub record HasPerformed {W : Type 0} (model : FaultModel W) (partitions : Partit
   pub trace : List ChipEvent
   pub leads : after ≡ after_trace model before trace
   pub performs : Performs model partitions before k op trace reply known
-  pub kept : read_device op ≡ None → known ≡ k
+  pub kept : changes_known op reply ≡ false → known ≡ k
 
 -- a refusal where the test fails, else a later one
 abbrev pub refused_unless : Bool → Reply → Option Reply → Option Reply
@@ -58,7 +71,10 @@ refusal_in g k part (Read dev page) = refused_unless (has_page g part page) OutO
 refusal_in g k part (Write dev page body free) =
     refused_unless (has_page g part page) OutOfRange
     (refused_unless (is_good_block k (chip_block part (page / g.pages_per_block))) BadBlock None)
-refusal_in g k part (Mark dev block) = None
+refusal_in g k part (Mark dev block) =
+    refused_unless (has_block part block) OutOfRange
+    (refused_unless (not (entry_of k (chip_block part block) == 2)) Reserved
+    (refused_unless (not (has_tables g) || nat_le 2 k.copies) (Copies k.copies) None))
 refusal_in g k part (Stats dev) = None
 
 -- no device has no page and no block
@@ -71,12 +87,16 @@ abbrev pub is_refusal : Reply → Bool
 is_refusal OutOfRange = true
 is_refusal BadBlock = true
 is_refusal MarkerByte = true
+is_refusal Reserved = true
+is_refusal (Copies n) = true
 is_refusal _ = false
 
 -- a reply that tells of a failed event
 abbrev pub is_fault : Reply → Bool
 is_fault ProgramFailed = true
 is_fault EraseFailed = true
+is_fault MarkerFailed = true
+is_fault (TableFailed which) = true
 is_fault _ = false
 
 -- an operation is refused exactly for its reason, and has no event then; and it fails only where

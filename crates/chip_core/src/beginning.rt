@@ -1,6 +1,6 @@
 // How an operation begins: with its refusal, with its reply, or with its first event.
 ghost use Rattle.std.specs.Prelude.{◌≡◌, ◌<◌, ◌≤◌, ◌+◌, ℕ, Some, None, length, slice_range, take, IfSome, IfOk};
-ghost use Rattle.chip_paths.specs.Operation.{Known, Finished};
+ghost use Rattle.chip_paths.specs.Operation.{Known, Finished, mark_block};
 ghost use Rattle.nand_model.specs.Partitions.{device_of, part_of};
 ghost use Rattle.nand_model.specs.Page.{page_image, FillsPlaces};
 ghost use Rattle.nand_model.specs.Path.{Path};
@@ -25,6 +25,7 @@ pub fn begin<C: PageCode>(
     parts: &Parts,
     op: &Op,
 ) -> Result<Task, AllocError>
+    requires without_tables { known.now.geometry.bbt ≡ 0 }
     requires device { HasDevice known.now.geometry parts.now (device_of op.now) }
     requires taken { IsTaken known.now.geometry op.now }
     ensures { IfOk result (λ task. Begins known.now parts.now op.now task) }
@@ -49,7 +50,7 @@ pub fn begin<C: PageCode>(
         Op::Erase { dev, block } => Ok(erase(known, parts.block(*dev, *block))),
         Op::IsBad { dev, block } => Ok(is_bad(known, parts.block(*dev, *block))),
         Op::Stats { dev } => Ok(stats(known, parts, *dev)),
-        Op::Mark { .. } => unreachable!(),
+        Op::Mark { dev, block } => mark(alloc, known, parts.block(*dev, *block)),
     }
 }
 
@@ -183,6 +184,26 @@ fn erase(known: &Knowledge, block: Option<u32>) -> Task
     }
 }
 
+// A mark of a block. A reserved block is refused, and one that is bad already is done at once.
+fn mark(alloc: Global, known: &Knowledge, block: Option<u32>) -> Result<Task, AllocError>
+    requires without_tables { known.now.geometry.bbt ≡ 0 }
+    requires there { IfSome block (λ b. b < known.now.geometry.blocks) }
+    ensures { IfOk result (λ task. StandsFor known.now
+        (λ k. in_range k block (mark_block known.now.geometry k)) None task) }
+{
+    let Some(block) = block else {
+        return Ok(Task::AtOnce(Reply::OutOfRange));
+    };
+    if known.is_reserved(block) {
+        return Ok(Task::AtOnce(Reply::Reserved));
+    }
+    if !known.is_good(block) {
+        return Ok(Task::AtOnce(Reply::Done));
+    }
+    let image = Bytes::filled(alloc, 0, known.geometry.raw_len() as usize)?;
+    Ok(Task::Marking { block, image })
+}
+
 // A question for the state of a block.
 fn is_bad(known: &Knowledge, block: Option<u32>) -> Task
     requires { IfSome block (λ b. b < known.now.geometry.blocks) }
@@ -190,7 +211,7 @@ fn is_bad(known: &Knowledge, block: Option<u32>) -> Task
 {
     match block {
         None => Task::AtOnce(Reply::OutOfRange),
-        Some(block) => Task::AtOnce(Reply::State(u32::from(known.state(block)))),
+        Some(block) => Task::AtOnce(Reply::State(known.state(block))),
     }
 }
 

@@ -47,7 +47,7 @@ pub struct Chip<F: Flash, C: PageCode> {
     ghost sizes: { (F.state flash).geometry ≡ known.geometry },
     ghost without_tables: { (F.state flash).geometry.bbt ≡ 0 },
     ghost quiet: { KnowsQuiet (F.state flash) phase } by { KnowsQuiet-prop (F.state flash) phase },
-    ghost fits: { PhaseFits known.geometry known.sums phase } by { PhaseFits-prop known.geometry known.sums phase },
+    ghost fits: { PhaseFits known.geometry known.table known.sums phase } by { PhaseFits-prop known.geometry known.table known.sums phase },
     ghost few: { page_room ≤ most_page_room },
     ghost room: { page_room + programs_left phase ≤ F.room flash },
 }
@@ -93,7 +93,7 @@ impl<F: Flash, C: PageCode> Chip<F, C> {
         match &self.phase {
             Phase::Attaching(scan) => Some(scan.event(&self.known.geometry)),
             Phase::Resting => None,
-            Phase::Working(task) => task.event(),
+            Phase::Working(task) => task.event(&self.known.geometry),
         }
     }
 
@@ -246,7 +246,7 @@ impl<F: Flash, C: PageCode> Chip<F, C> {
             }
             Phase::Resting => unreachable!(),
             Phase::Working(task) => {
-                let (left, told) = task.advance(&mut self.flash, &self.code);
+                let (left, told) = task.advance(&mut self.flash, &mut self.known, &self.code);
                 self.phase = Phase::Working(left);
                 told
             }
@@ -268,6 +268,8 @@ impl<F: Flash, C: PageCode> Chip<F, C> {
     {
         match mem::replace(&mut self.phase, Phase::Resting) {
             Phase::Working(Task::AtOnce(reply) | Task::Ended(reply)) => reply,
+            Phase::Working(Task::Marked { .. }) => Reply::Done,
+            Phase::Working(Task::MarkerFailed) => Reply::MarkerFailed,
             Phase::Working(
                 Task::Decoded {
                     dev,

@@ -61,11 +61,12 @@ impl Scan {
     }
 
     /// Reads the marker of the next block, and gives the state of the block.
-    pub fn read_marker<F: Flash>(&mut self, flash: &F, g: &Geometry) -> u8
+    pub fn read_marker<F: Flash>(&mut self, flash: &F, g: &Geometry) -> u32
         requires fits { ScanFits g.now self.old }
         requires sizes { (F.state flash.now).geometry ≡ g.now }
         ensures state { result ≡ marker_state g.now
             (marker_page (F.state flash.now) self.old.next) }
+        ensures small { result < 4 }
         ensures next { self.new.next ≡ self.old.next + 1 }
         ensures quiet_so_far { self.new.quiet_so_far
             ≡ (self.old.quiet_so_far && self.old.quiet_now) }
@@ -84,13 +85,11 @@ impl Scan {
     pub fn into_finding(self, known: &Knowledge) -> Finding
         requires { length self.states ≡ known.now.geometry.blocks }
         ensures quiet { result.quiet ≡ self.quiet_so_far }
-        ensures states { result.states ≡ known.now.states }
+        ensures states { result.states ≡ known.now.table }
     {
         let quiet = self.quiet_so_far;
         let mut states = self.states;
-        states
-            .as_mut_slice()
-            .copy_from_slice(known.states.as_slice());
+        known.put_states(states.as_mut_slice());
         Finding { quiet, states }
     }
 }
@@ -120,9 +119,10 @@ fn markers_are_quiet<F: Flash>(flash: &F, g: &Geometry) -> bool
 }
 
 // The state of a block by the cells of its first page.
-fn marker_state_in(g: &Geometry, cells: &[u8]) -> u8
+fn marker_state_in(g: &Geometry, cells: &[u8]) -> u32
     requires { length cells.now ≡ raw_len g.now }
-    ensures { result ≡ marker_state g.now cells.now }
+    ensures state { result ≡ marker_state g.now cells.now }
+    ensures small { result < 4 }
 {
     if cells[g.page as usize] == 0xff { 0 } else { 3 }
 }

@@ -13,6 +13,9 @@ use mtd_part::Parts;
 use nand_iface::{Flash, Op, PageCode, Reply};
 use std::alloc::{AllocError, Global};
 
+// A mark of a chip without tables has the most events: an erase and a program.
+const MOST_EVENTS: u32 = 2;
+
 /// Attaches a chip without tables. Its table is that of its markers, and the note of the attach is
 /// still to be handed out. The attach was quiet exactly where the flash is.
 pub fn attach<F: Flash, C: PageCode>(
@@ -61,9 +64,10 @@ pub fn perform<F: Flash, C: PageCode>(
     ensures bits { chip_bits chip.old ≤ chip_bits chip.new }
 {
     chip.begin(parts, op)?;
-    if chip.next_event().is_none() {
-        return Ok(chip.answer());
+    for _ in 0..MOST_EVENTS {
+        if chip.next_event().is_some() {
+            let _ = chip.advance();
+        }
     }
-    let _ = chip.advance();
     Ok(chip.answer())
 }

@@ -27,6 +27,7 @@ pub fn one_device(alloc: Global) -> Result<Parts, Fail> {
 #[derive(Clone, Copy)]
 pub enum Ask {
     IsBad(u32),
+    Mark(u32),
     Erase(u32),
     Read(u32),
     /// A page whose body and free bytes are all this byte.
@@ -47,6 +48,7 @@ pub enum Told {
     BadBlock,
     MarkerByte,
     ProgramFailed,
+    MarkerFailed,
     State(u32),
     /// The kind of a page, its corrected bits, the most of a step, its failed steps, and its first
     /// byte.
@@ -61,6 +63,7 @@ fn op_of(alloc: Global, ask: Ask) -> Result<Op, AllocError> {
     let dev = 0;
     match ask {
         Ask::IsBad(block) => Ok(Op::IsBad { dev, block }),
+        Ask::Mark(block) => Ok(Op::Mark { dev, block }),
         Ask::Erase(block) => Ok(Op::Erase { dev, block }),
         Ask::Read(page) => Ok(Op::Read { dev, page }),
         Ask::Write(page, byte) => {
@@ -128,7 +131,7 @@ fn can_begin<F: Flash, C: PageCode>(chip: &Chip<F, C>, parts: &Parts, op: &Op) -
         Op::Erase { dev, .. } => has_device(&g, parts, *dev),
         Op::IsBad { dev, .. } => has_device(&g, parts, *dev),
         Op::Stats { dev } => has_device(&g, parts, *dev),
-        Op::Mark { .. } => false,
+        Op::Mark { dev, .. } => has_device(&g, parts, *dev),
     }
 }
 
@@ -167,6 +170,20 @@ pub fn reply_to<F: Flash, C: PageCode>(
     Ok(in_short(&perform(chip, parts, &op)?))
 }
 
+/// Begins an operation.
+pub fn begin<F: Flash, C: PageCode>(
+    chip: &mut Chip<F, C>,
+    alloc: Global,
+    parts: &Parts,
+    ask: Ask,
+) -> Result<(), Fail>
+    requires { is_resting (chip_stage chip.old) ≡ true }
+{
+    let op = op_for(alloc, chip, parts, ask)?;
+    chip.begin(parts, &op)?;
+    Ok(())
+}
+
 /// Does the first event of an operation, and gives what is told of its failure.
 pub fn told_of_failure<F: Flash, C: PageCode>(
     chip: &mut Chip<F, C>,
@@ -176,8 +193,7 @@ pub fn told_of_failure<F: Flash, C: PageCode>(
 ) -> Result<Option<Fairness>, Fail>
     requires { is_resting (chip_stage chip.old) ≡ true }
 {
-    let op = op_for(alloc, chip, parts, ask)?;
-    chip.begin(parts, &op)?;
+    begin(chip, alloc, parts, ask)?;
     if chip.next_event().is_none() {
         return Err("the operation has no event".into());
     }
@@ -235,6 +251,7 @@ fn in_short(reply: &Reply) -> Told {
         Reply::BadBlock => Told::BadBlock,
         Reply::MarkerByte => Told::MarkerByte,
         Reply::ProgramFailed => Told::ProgramFailed,
+        Reply::MarkerFailed => Told::MarkerFailed,
         Reply::State(state) => Told::State(*state),
         Reply::Page { kind, read, image } => {
             let first = image.as_slice().first().copied().unwrap_or(0);

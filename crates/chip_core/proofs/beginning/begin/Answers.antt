@@ -1,11 +1,13 @@
 use Rattle.std.proofs.Common.{◌≡◌, None, ap, subst, sym, ◌∙◌}
 use Rattle.std.specs.Prelude.{IfOk}
+use Rattle.chip_paths.specs.Operation.{mark_block}
 use Rattle.nand_model.specs.Partitions.{device_of, part_of}
 use Rattle.std.proofs.lemmas.Result.{IfOk-weaker}
 use Rattle.nand_model.specs.declared.words.Op.{Op}
-use Rattle.nand_model.specs.declared.words.Op.TheVariants.{RawWrite, Write}
+use Rattle.nand_model.specs.declared.words.Op.TheVariants.{Mark, RawWrite, Write}
 use Rattle.chip_core.specs.Begin.{HasDevice}
 use Rattle.chip_core.specs.Beginning.{Begins, StandsFor, in_range, raw_write_from, write_from}
+use Rattle.chip_core.proofs.Marking.{mark_goes}
 use Rattle.chip_core.proofs.Ranges.{erase_goes, raw_write_goes, write_goes}
 use Rattle.chip_core.proofs.beginning.begin.Goals as goal
 
@@ -45,3 +47,17 @@ returns-in-Erase g c =
     subst Goes (sym c.in-Erase.is)
     (erase_goes c.args.known.now (part_of c.args.parts.now c.in-Erase.dev) c.in-Erase.dev c.in-Erase.block c.block.result device.there c.block.ensures
     c.erase.result c.erase.ensures)
+
+pub returns-in-Mark : goal.returns-in-Mark
+returns-in-Mark g c =
+    let known = c.args.known.now in
+    let dev = c.in-Mark.dev in
+    let block = c.in-Mark.block in
+    let place = c.block-in-Mark.result in
+    let Goes : Op → Type 0 = λ op. IfOk c.mark.result (λ task. Begins known c.args.parts.now op task) in
+    let Has : Op → Type 0 = λ op. HasDevice known.geometry c.args.parts.now (device_of op) in
+    let device = subst Has c.in-Mark.is c.requires.device in
+    subst Goes (sym c.in-Mark.is)
+    (IfOk-weaker c.mark.result (λ task. StandsFor known (λ k. in_range k place (mark_block known.geometry k)) None task)
+    (λ task. Begins known c.args.parts.now (Mark dev block) task)
+    (mark_goes known (part_of c.args.parts.now dev) dev block place device.there c.block-in-Mark.ensures) c.mark.ensures)

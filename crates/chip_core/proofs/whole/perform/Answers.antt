@@ -1,83 +1,92 @@
-use Rattle.std.proofs.Common.{◌≡◌, ◌∙◌, ap, sym, true, false}
-use Rattle.std.specs.Prelude.{is_some, option_map}
+use Rattle.std.proofs.Common.{◌≡◌, ◌∙◌, ◌-◌, ◌+◌, ap, arith, refl, subst, sym}
+use Rattle.std.specs.Prelude.{IsSome, is_some, option_map}
 use Rattle.chip_paths.specs.ChipRun.{name_of}
-use Rattle.nand_model.specs.Quiet.{is_quiet}
 use Rattle.chip_paths.specs.Stage.{stage_event}
+use Rattle.nand_model.specs.Quiet.{is_quiet}
 use Rattle.chip_core.specs.Chip.{chip_pending_note, chip_stage, chip_state}
-use Rattle.chip_core.proofs.Performing.{Ends, ends_at_once, ends_after_one, is_finished, has_cause, has_performed, is_at_rest, pending_note_kept}
-use Rattle.chip_core.proofs.whole.perform.Given.{Over}
+use Rattle.chip_core.proofs.Performing.{HasCome, begins, ends_at, has_cause, has_performed, is_at_rest, is_finished, is_named, is_unnamed, no_event, no_note, one_event}
+use Rattle.chip_core.proofs.Scanning.{no_tables}
 use Rattle.chip_core.proofs.whole.perform.Goals as goal
+use Rattle.chip_core.proofs.whole.perform.Goals.{then-is_some, else-is_some}
 
--- the operation is over at once
-at_once : (g : Over) (c : goal.After-answer g)
-    → Ends g.F.Flash.fault_model c.args.parts.now c.args.op.now (chip_state c.args.chip.now) (chip_state c.args.chip.now)
-    (chip_stage c.args.chip.now) (chip_stage c.begin.new.self)
-at_once g c =
-    let begun = chip_stage c.begin.new.self in
-    let no_event : is_some (option_map name_of (stage_event begun)) ≡ false = ap is_some (sym c.next_event.ensures) ∙ c.if-is_none.ensures in
-    ends_at_once g.F.Flash.fault_model c.args.parts.now c.args.op.now (chip_state c.args.chip.now) (chip_stage c.args.chip.now) begun
-    c.requires.rests c.requires.can.taken c.in_ok-begin.ensures.begun no_event
+pub loop-init : goal.loop-init
+loop-init g c =
+    let chip = c.args.chip.now in
+    record {
+      come = begins g.F.Flash.fault_model c.args.parts.now c.args.op.now (chip_state chip) (no_tables (chip_state chip).geometry chip.without_tables)
+          (chip_stage chip) (chip_stage c.begin.new.self) (chip_state c.begin.new.self) c.requires.rests c.in_ok-begin.ensures.begun
+          c.in_ok-begin.ensures.state;
+      note = c.in_ok-begin.ensures.pending_note;
+      page_room = c.in_ok-begin.ensures.page_room;
+      bits = c.in_ok-begin.ensures.bits;
+    }
 
--- the operation is over after one event
-after_one : (g : Over) (c : goal.After-answer-arg-2-1 g)
-    → Ends g.F.Flash.fault_model c.args.parts.now c.args.op.now (chip_state c.args.chip.now) (chip_state c.advance.new.self)
-    (chip_stage c.args.chip.now) (chip_stage c.advance.new.self)
-after_one g c =
-    let now = chip_state c.begin.new.self in
-    let begun = chip_stage c.begin.new.self in
-    let event : is_some (option_map name_of (stage_event begun)) ≡ true = ap is_some (sym c.next_event.ensures) ∙ c.if-is_none.ensures in
-    ends_after_one g.F.Flash.fault_model c.args.parts.now c.args.op.now (chip_state c.args.chip.now) now c.in_ok-begin.ensures.state
-    (is_quiet now.geometry now.pages) (chip_state c.advance.new.self) (chip_stage c.args.chip.now) begun (chip_stage c.advance.new.self)
-    c.requires.rests c.requires.can.taken c.in_ok-begin.ensures.begun event c.advance.ensures.state c.advance.ensures.stage
+pub loop-preserved : goal.loop-preserved
+loop-preserved g c =
+    let model = g.F.Flash.fault_model in
+    let parts = c.args.parts.now in
+    let op = c.args.op.now in
+    let start = chip_state c.args.chip.now in
+    let first = chip_stage c.args.chip.now in
+    let now = chip_state c.loop.chip in
+    let stage = chip_stage c.loop.chip in
+    let n = 2 - c.loop.counter in
+    let one_less : n - 1 ≡ 2 - (c.loop.counter + 1) = omega arith in
+    let come = c.loop.invariant.come in
+    let named : c.is_some.result ≡ is_some (option_map name_of (stage_event stage)) = c.is_some.ensures ∙ ap is_some c.next_event.ensures in
+    elim c.if-is_some.branch [
+      | then-is_some w ↦
+          let there : IsSome (stage_event stage) = is_named (stage_event stage) (sym named ∙ w.if-is_some.true) in
+          let quiet = is_quiet now.geometry now.pages in
+          rw w.chip-is
+          (record {
+            come = subst (λ n. HasCome model parts op start n first (chip_state w.advance.new.self) (chip_stage w.advance.new.self)) one_less
+                (one_event model parts op start n first now stage come (chip_state w.advance.new.self) (chip_stage w.advance.new.self) quiet
+                (stage_event stage) refl there w.advance.ensures.state w.advance.ensures.stage);
+            note = no_note model parts op start n first now stage come quiet (chip_pending_note c.loop.chip) (chip_pending_note w.advance.new.self)
+                (stage_event stage) there w.advance.ensures.pending_note
+                ∙ c.loop.invariant.note;
+            page_room = w.advance.ensures.page_room ∙ c.loop.invariant.page_room;
+            bits = omega (arith, c.loop.invariant.bits, w.advance.ensures.bits);
+          })
+      | else-is_some w ↦
+          let none = is_unnamed (stage_event stage) (sym named ∙ w.if-is_some.false) in
+          rw w.chip-is
+          (record {
+            come = no_event model parts op start n first now stage come (2 - (c.loop.counter + 1)) none;
+            note = c.loop.invariant.note;
+            page_room = c.loop.invariant.page_room;
+            bits = c.loop.invariant.bits;
+          })
+    ]
 
-pub returns-then-is_none-clause-performed : goal.returns-then-is_none-clause-performed
-returns-then-is_none-clause-performed g c =
-    has_performed g.F.Flash.fault_model c.args.parts.now c.args.op.now (chip_state c.args.chip.now) (chip_state c.args.chip.now)
-    (chip_stage c.args.chip.now) (chip_stage c.begin.new.self) (at_once g c)
-    c.answer.result c.answer.ensures.reply (chip_state c.answer.new.self) (c.answer.ensures.state ∙ c.in_ok-begin.ensures.state)
-    (chip_stage c.answer.new.self) c.answer.ensures.stage
-
-pub returns-then-is_none-clause-rests : goal.returns-then-is_none-clause-rests
-returns-then-is_none-clause-rests g c =
-    is_at_rest g.F.Flash.fault_model c.args.parts.now c.args.op.now (chip_state c.args.chip.now) (chip_state c.args.chip.now)
-    (chip_stage c.args.chip.now) (chip_stage c.begin.new.self) (at_once g c) (chip_stage c.answer.new.self) c.answer.ensures.stage
-
-pub returns-then-is_none-clause-causes : goal.returns-then-is_none-clause-causes
-returns-then-is_none-clause-causes g c =
-    has_cause g.F.Flash.fault_model c.args.parts.now c.args.op.now (chip_state c.args.chip.now) (chip_state c.args.chip.now)
-    (chip_stage c.args.chip.now) (chip_stage c.begin.new.self) (at_once g c)
-    c.answer.result c.answer.ensures.reply (chip_state c.answer.new.self) (c.answer.ensures.state ∙ c.in_ok-begin.ensures.state)
-
-pub answer-requires-2 : goal.answer-requires-2
-answer-requires-2 g c =
-    is_finished g.F.Flash.fault_model c.args.parts.now c.args.op.now (chip_state c.args.chip.now) (chip_state c.advance.new.self)
-    (chip_stage c.args.chip.now) (chip_stage c.advance.new.self) (after_one g c)
+pub answer-requires : goal.answer-requires
+answer-requires g c =
+    let done : 2 - c.loop.counter ≡ 0 = omega (arith, c.loop-test.false) in
+    is_finished g.F.Flash.fault_model c.args.parts.now c.args.op.now (chip_state c.args.chip.now) (chip_state c.loop.chip)
+    (chip_stage c.args.chip.now) (chip_stage c.loop.chip)
+    (ends_at g.F.Flash.fault_model c.args.parts.now c.args.op.now (chip_state c.args.chip.now) (2 - c.loop.counter) done (chip_stage c.args.chip.now) (chip_state c.loop.chip) (chip_stage c.loop.chip) c.loop.invariant.come)
 
 pub returns-clause-performed : goal.returns-clause-performed
 returns-clause-performed g c =
-    has_performed g.F.Flash.fault_model c.args.parts.now c.args.op.now (chip_state c.args.chip.now) (chip_state c.advance.new.self)
-    (chip_stage c.args.chip.now) (chip_stage c.advance.new.self) (after_one g c.before)
-    c.answer-2.result c.answer-2.ensures.reply (chip_state c.answer-2.new.self) c.answer-2.ensures.state (chip_stage c.answer-2.new.self)
-    c.answer-2.ensures.stage
+    let done : 2 - c.loop.counter ≡ 0 = omega (arith, c.loop-test.false) in
+    has_performed g.F.Flash.fault_model c.args.parts.now c.args.op.now (chip_state c.args.chip.now) (chip_state c.loop.chip)
+    (chip_stage c.args.chip.now) (chip_stage c.loop.chip)
+    (ends_at g.F.Flash.fault_model c.args.parts.now c.args.op.now (chip_state c.args.chip.now) (2 - c.loop.counter) done (chip_stage c.args.chip.now) (chip_state c.loop.chip) (chip_stage c.loop.chip) c.loop.invariant.come)
+    c.answer.result c.answer.ensures.reply (chip_state c.answer.new.self) c.answer.ensures.state (chip_stage c.answer.new.self) c.answer.ensures.stage
 
 pub returns-clause-causes : goal.returns-clause-causes
 returns-clause-causes g c =
-    has_cause g.F.Flash.fault_model c.args.parts.now c.args.op.now (chip_state c.args.chip.now) (chip_state c.advance.new.self)
-    (chip_stage c.args.chip.now) (chip_stage c.advance.new.self) (after_one g c.before)
-    c.answer-2.result c.answer-2.ensures.reply (chip_state c.answer-2.new.self) c.answer-2.ensures.state
+    let done : 2 - c.loop.counter ≡ 0 = omega (arith, c.loop-test.false) in
+    has_cause g.F.Flash.fault_model c.args.parts.now c.args.op.now (chip_state c.args.chip.now) (chip_state c.loop.chip)
+    (chip_stage c.args.chip.now) (chip_stage c.loop.chip)
+    (ends_at g.F.Flash.fault_model c.args.parts.now c.args.op.now (chip_state c.args.chip.now) (2 - c.loop.counter) done (chip_stage c.args.chip.now) (chip_state c.loop.chip) (chip_stage c.loop.chip) c.loop.invariant.come)
+    c.answer.result c.answer.ensures.reply (chip_state c.answer.new.self) c.answer.ensures.state
 
 pub returns-clause-rests : goal.returns-clause-rests
 returns-clause-rests g c =
-    is_at_rest g.F.Flash.fault_model c.args.parts.now c.args.op.now (chip_state c.args.chip.now) (chip_state c.advance.new.self)
-    (chip_stage c.args.chip.now) (chip_stage c.advance.new.self) (after_one g c.before) (chip_stage c.answer-2.new.self) c.answer-2.ensures.stage
-
-pub returns-clause-pending_note : goal.returns-clause-pending_note
-returns-clause-pending_note g c =
-    let now = chip_state c.begin.new.self in
-    let begun = chip_stage c.begin.new.self in
-    let event : is_some (option_map name_of (stage_event begun)) ≡ true = ap is_some (sym c.next_event.ensures) ∙ c.if-is_none.ensures in
-    c.answer-2.ensures.pending_note
-    ∙ pending_note_kept g.F.Flash.fault_model c.args.parts.now c.args.op.now (chip_state c.args.chip.now) (is_quiet now.geometry now.pages) now
-    (chip_stage c.args.chip.now) begun (chip_pending_note c.begin.new.self) (chip_pending_note c.advance.new.self) c.requires.rests c.in_ok-begin.ensures.begun
-    (stage_event begun) event c.advance.ensures.pending_note
-    ∙ c.in_ok-begin.ensures.pending_note
+    let done : 2 - c.loop.counter ≡ 0 = omega (arith, c.loop-test.false) in
+    is_at_rest g.F.Flash.fault_model c.args.parts.now c.args.op.now (chip_state c.args.chip.now) (chip_state c.loop.chip)
+    (chip_stage c.args.chip.now) (chip_stage c.loop.chip)
+    (ends_at g.F.Flash.fault_model c.args.parts.now c.args.op.now (chip_state c.args.chip.now) (2 - c.loop.counter) done (chip_stage c.args.chip.now) (chip_state c.loop.chip) (chip_stage c.loop.chip) c.loop.invariant.come)
+    (chip_stage c.answer.new.self) c.answer.ensures.stage

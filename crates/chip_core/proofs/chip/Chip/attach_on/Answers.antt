@@ -12,12 +12,12 @@ returns-then-scan-self-clause-stage g c =
     let more : c.args.scan.next + 1 < known.geometry.blocks = rw (← c.set.ensures.geometry, ← c.read_marker-state.ensures.next) c.if-scan-self.true in
     rw (
       c.set.ensures.geometry,
-      c.set.ensures.states,
+      c.set.ensures.table,
       c.read_marker-state.ensures.next,
       c.read_marker-state.ensures.state,
       c.read_marker-state.ensures.quiet_so_far,
     )
-    (sym (goes_on known.geometry known.states c.args.scan.next (marker_page (g.F.Flash.state c.args.self.now.flash) c.args.scan.next)
+    (sym (goes_on known.geometry known.table c.args.scan.next (marker_page (g.F.Flash.state c.args.self.now.flash) c.args.scan.next)
     c.requires.fits.scan_fits.next
     known.all_there (c.args.scan.quiet_so_far && c.args.scan.quiet_now) more))
 
@@ -25,7 +25,7 @@ pub returns-then-scan-self-clause-pending_note : goal.returns-then-scan-self-cla
 returns-then-scan-self-clause-pending_note g c =
     let known = c.args.self.now.known in
     let more : c.args.scan.next + 1 < known.geometry.blocks = rw (← c.set.ensures.geometry, ← c.read_marker-state.ensures.next) c.if-scan-self.true in
-    sym (no_pending_note known.geometry known.states c.args.scan.next (marker_page (g.F.Flash.state c.args.self.now.flash) c.args.scan.next)
+    sym (no_pending_note known.geometry known.table c.args.scan.next (marker_page (g.F.Flash.state c.args.self.now.flash) c.args.scan.next)
     c.requires.fits.scan_fits.next
     known.all_there (c.args.scan.quiet_so_far && c.args.scan.quiet_now) more)
 
@@ -35,8 +35,8 @@ returns-else-scan-self-clause-stage g c =
     let last : known.geometry.blocks ≤ c.args.scan.next + 1 = rw (← c.set.ensures.geometry, ← c.read_marker-state.ensures.next) c.if-scan-self.false in
     rw c.requires.rests
     (ap Rests (known_fresh c.set.new.self (ap length c.set.ensures.sums ∙ c.requires.fits.fresh))
-    ∙ rw (c.set.ensures.states, c.read_marker-state.ensures.state)
-    (sym (comes_to_rest known.geometry known.states c.args.scan.next (marker_page (g.F.Flash.state c.args.self.now.flash) c.args.scan.next)
+    ∙ rw (c.set.ensures.table, c.read_marker-state.ensures.state)
+    (sym (comes_to_rest known.geometry known.table c.args.scan.next (marker_page (g.F.Flash.state c.args.self.now.flash) c.args.scan.next)
     c.requires.fits.scan_fits.next known.all_there (c.args.scan.quiet_so_far && c.args.scan.quiet_now) last)))
 
 pub returns-else-scan-self-clause-pending_note : goal.returns-else-scan-self-clause-pending_note
@@ -47,11 +47,11 @@ returns-else-scan-self-clause-pending_note g c =
       c.requires.rests,
       c.into_finding.ensures.quiet,
       c.into_finding.ensures.states,
-      c.set.ensures.states,
+      c.set.ensures.table,
       c.read_marker-state.ensures.state,
       c.read_marker-state.ensures.quiet_so_far,
     )
-    (sym (pending_note known.geometry known.states c.args.scan.next (marker_page (g.F.Flash.state c.args.self.now.flash) c.args.scan.next)
+    (sym (pending_note known.geometry known.table c.args.scan.next (marker_page (g.F.Flash.state c.args.self.now.flash) c.args.scan.next)
     c.requires.fits.scan_fits.next
     known.all_there (c.args.scan.quiet_so_far && c.args.scan.quiet_now) last))
 

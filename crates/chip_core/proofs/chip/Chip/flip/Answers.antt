@@ -30,7 +30,7 @@ invariant_of-self-2 g c =
       sizes = sizes ∙ chip.sizes;
       without_tables = rw sizes chip.without_tables;
       quiet = rw c.see_marker.ensures (seen_quiet c.marker_is_quiet-quiet.result before after still_quiet chip.phase chip.quiet);
-      fits = rw c.see_marker.ensures (seen_fits c.marker_is_quiet-quiet.result chip.known.geometry chip.known.sums chip.phase chip.fits);
+      fits = rw c.see_marker.ensures (seen_fits c.marker_is_quiet-quiet.result chip.known.geometry chip.known.table chip.known.sums chip.phase chip.fits);
       few = omega (arith, chip.few);
       room = omega (arith, chip.room, c.flip.ensures.room, programs);
     }

@@ -8,7 +8,7 @@ pub returns-in-Attaching : goal.returns-in-Attaching
 returns-in-Attaching g c =
     let known = c.args.self.now.known in
     let scan = c.in-Attaching.scan in
-    let Fits : Phase → Type 0 = λ phase. PhaseFits known.geometry known.sums phase in
+    let Fits : Phase → Type 0 = λ phase. PhaseFits known.geometry known.table known.sums phase in
     let fits = subst Fits c.in-Attaching.is c.args.self.now.fits in
     ap Some c.event.ensures
-    ∙ rw (c.in-Attaching.is, next_read known.geometry (take scan.next known.states) scan.next fits.scan_fits.next) refl
+    ∙ rw (c.in-Attaching.is, next_read known.geometry (take scan.next known.table) scan.next fits.scan_fits.next) refl
