@@ -6,3 +6,4 @@ pub mod Bodies
 pub mod Histories
 pub mod Fills
 pub mod Marks
+pub mod Sizes

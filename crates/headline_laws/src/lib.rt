@@ -2,11 +2,11 @@
 //! controllers and boots.
 #![tactic(auto)]
 
-ghost use Rattle.std.specs.Prelude.{◌≡◌, ℕ, List, ◌++◌, ◌∷◌, [], length};
+ghost use Rattle.std.specs.Prelude.{◌≡◌, ℕ, List, ◌++◌, ◌∷◌, [], length, map};
 ghost use Rattle.nand_model.specs.Chip.{ChipState, SimFaults, sim_faults};
 ghost use Rattle.run_model.specs.Course.{Course};
 ghost use Rattle.command_model.specs.Boot.{AreAscending};
-ghost use Rattle.plan_model.specs.Plan.{BootPlan, ChipPlan, PlanData, boot_part};
+ghost use Rattle.plan_model.specs.Plan.{BootPlan, ChipPlan, PlanData, boot_part, new_chips};
 ghost use Rattle.headline_model.specs.Headline.{
   AreReplay,
   AreTrueHistories,
@@ -76,6 +76,15 @@ pub fn rounds_are_replays()
 pub fn marks_are_kept()
     ensures { (plan : PlanData) (turns : List (List (List ℕ))) (courses : Courses) →
         IsRun plan turns courses → KeepMarks plan courses }
+{}
+
+/// Each boot of a controller's replays begins with chips of the plan's sizes.
+pub fn sizes_stay()
+    ensures { (plan : PlanData) (c : ℕ) (chips : List ChipPlan) (boots : List BootPlan)
+        (courses : List (Course SimFaults)) (n : ℕ) →
+        AreReplaysOfBoots plan c chips (new_chips chips) boots courses →
+        map (λ (s : ChipState SimFaults). s.geometry) (starts_at (new_chips chips) courses n)
+        ≡ map (λ (chip : ChipPlan). chip.geometry) chips }
 {}
 
 /// The numbers of a controller's sessions ascend in each boot.
