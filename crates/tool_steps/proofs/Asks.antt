@@ -1,20 +1,21 @@
 -- The first operation of a command.
-use Rattle.std.proofs.Common.{◌≡◌, ℕ, zero, suc, ◌+◌, ◌-◌, ◌*◌, ◌/◌, ◌%◌, ◌<◌, ◌≤◌, ◌⊎◌, inl, inr, Bool, true, false, not, List, [], ◌∷◌, length, min, refl, sym, ap, ◌∙◌, arith}
-use Rattle.std.specs.Prelude.{if◌then◌else◌, nat_lt, ◌==◌}
+use Rattle.std.proofs.Common.{◌≡◌, ℕ, zero, suc, ◌+◌, ◌-◌, ◌*◌, ◌/◌, ◌%◌, ◌<◌, ◌≤◌, ◌⊎◌, inl, inr, Bool, true, false, not, List, [], length, min, refl, sym, ap, ◌∙◌, arith}
+use Rattle.std.specs.Prelude.{nat_lt, ◌==◌}
 use Rattle.std.proofs.Math.Nat.{mod-lt, div-eq_of_lt}
 use Rattle.std.proofs.lemmas.Bool.{cases_lt, lt-ltb, le-ltb}
 use Rattle.std.proofs.lemmas.Bool.Decides.{eqb_tells}
 use Rattle.std.proofs.lemmas.Nat.{le-div}
 use Rattle.nand_model.proofs.Bounds.{pages-some}
 use Rattle.nand_model.specs.declared.geometry.Geometry.{Geometry}
-use Rattle.nand_model.specs.declared.words.Op.{Op}
 use Rattle.nand_model.specs.declared.words.Command.{Command}
 use Rattle.nand_model.specs.declared.words.Command.TheVariants.{FlashErase, NandWrite, NandDump, NandTest, MarkBad, IsBad as AskBad, Stats as AskStats}
-use Rattle.nand_model.specs.declared.words.Reply.{Reply}
-use Rattle.command_model.specs.Command.{Script, Ask, next_in, next_step, script_of, block_size, count_or_rest, erase_blocks, unit_count, unit_size, units_of, WriteMode, WriteCounts, write_blocks, DumpMode, DumpCounts, dump_block, dump_blocks, is_dump_bad}
+use Rattle.nand_model.specs.declared.words.Ending.TheVariants.{Whole}
+use Rattle.nand_model.specs.declared.words.Outcome.TheVariants.{NandWrite as Written}
+use Rattle.command_model.specs.Command.{Over, next_in, next_step, block_size, count_or_rest, erase_blocks, unit_count, unit_size, units_of, WriteMode, WriteCounts, write_blocks, DumpMode, DumpCounts, dump_block, dump_blocks}
+use Rattle.command_model.specs.NandTest.{TestMode, TestCounts, test_passes}
 use Rattle.command_model.specs.Runnable.{Fits}
 use Rattle.tool_steps.specs.Steps.{is_over, asks_something}
-use Rattle.tool_steps.specs.Ranges.{range_pages}
+use Rattle.tool_steps.specs.Ranges.{range_blocks, range_pages}
 use Rattle.tool_steps.proofs.Dumps.{either_asks, block_asks}
 use Rattle.tool_steps.proofs.Sizes.{block_of_offset-lt, blocks_touched-suc, page_of_offset-lt, unit_size-low}
 
@@ -60,6 +61,12 @@ some_tells n =
       | inr some ↦ let apart = some.1 in rw some.0 (sym (lt-ltb 0 n (omega arith)))
     ]
 
+-- nandtest asks for the state of its first block first
+test_asks : (g : Geometry) (m : TestMode) (first count left : ℕ) (c : TestCounts) → 1 ≤ count → 1 ≤ left → is_over (next_in (test_passes g m first count left c)) ≡ false
+test_asks g m first zero left c some passes = absurd (omega arith)
+test_asks g m first (suc count) zero c some passes = absurd (omega arith)
+test_asks g m first (suc count) (suc left) c some passes = refl
+
 -- whether a command asks for an operation
 pub asks_at_all : (g : Geometry) (command : Command) → Fits g command → asks_something command ≡ not (is_over (next_step g command []))
 asks_at_all g (FlashErase dev blocks no_scan start count) h =
@@ -80,24 +87,38 @@ asks_at_all g (NandDump dev blocks off len raw oob bad) h =
     sym (ap not (ap (λ (n : ℕ). is_over (next_in (dump_blocks g m n (range_pages g blocks off len) (off / g.page)
     (record { pages = 0; bad = 0; corrected = 0; failed = 0; dump = [] })))) (blocks_touched-suc g (range_pages g blocks off len) (off / g.page) some)
     ∙ dump_asks g m _ (range_pages g blocks off len) (off / g.page) _ some))
-asks_at_all g (NandTest dev blocks keep mark seed passes off len) h = absurd h
+asks_at_all g (NandTest dev blocks keep mark seed passes off len) h =
+    sym (ap not (test_asks g (record { dev = dev; keep = keep; mark = mark; seed = seed; passes = passes }) (off / block_size g) (range_blocks g blocks off len) passes
+    (record { blocks = 0; bad = 0; worn = 0; mismatched = 0; corrected = 0; failed = 0 })
+    (count_some (len / block_size g) (off / block_size g) blocks (block_of_offset-lt g blocks off h.first)) h.some))
 asks_at_all g (MarkBad dev blocks block) h = refl
 asks_at_all g (AskBad dev blocks block) h = refl
 asks_at_all g (AskStats dev blocks) h = refl
 
-asks_something-unmarked : (command : Command) → AsksUnmarked command → asks_something command ≡ true
-asks_something-unmarked (FlashErase dev blocks no_scan start count) h = refl
-asks_something-unmarked (NandWrite dev blocks mark raw oob pad off bytes) h = lt-ltb 0 (length bytes) h.1
-asks_something-unmarked (NandDump dev blocks off len raw oob bad) h = refl
-asks_something-unmarked (NandTest dev blocks keep mark seed passes off len) h = absurd h
-asks_something-unmarked (MarkBad dev blocks block) h = absurd h
-asks_something-unmarked (AskBad dev blocks block) h = refl
-asks_something-unmarked (AskStats dev blocks) h = refl
-
--- a command that can be run asks for an operation
-pub asks_first : (g : Geometry) (command : Command) → Fits g command → is_over (next_step g command []) ≡ false
-asks_first g command h = by_answer (is_over (next_step g command [])) (sym (asks_at_all g command h.0) ∙ asks_something-unmarked command h.1)
+-- a command that asks for something asks for an operation first
+pub asks_first : (g : Geometry) (command : Command) → Fits g command → asks_something command ≡ true → is_over (next_step g command []) ≡ false
+asks_first g command h asks = by_answer (is_over (next_step g command [])) (sym (asks_at_all g command h) ∙ asks)
   where
     by_answer : (b : Bool) → not b ≡ true → b ≡ false
     by_answer true e = sym e
     by_answer false e = refl
+
+-- a nandwrite of no data, the one command that asks for nothing, is over with an outcome of zeros
+pub asks_nothing : (g : Geometry) (command : Command) → Fits g command → asks_something command ≡ false → next_step g command [] ≡ Over (Written 0 0 0 Whole)
+asks_nothing g (FlashErase dev blocks no_scan start count) h none = cc
+asks_nothing g (NandWrite dev blocks mark raw oob pad off bytes) h none =
+    let empty : unit_count g oob bytes ≡ 0 = by_count (unit_count g oob bytes) (unit_count-some g oob bytes ∙ none) in
+    ap (λ (n : ℕ). next_in (write_blocks g (record { dev = dev; mark = mark; raw = raw; oob = oob }) (blocks - off / block_size g) (off / block_size g)
+    (off / g.page % g.pages_per_block) (units_of (unit_size g oob) n bytes) (record { pages = 0; skipped = 0; failed = 0 }))) empty
+  where
+    by_count : (n : ℕ) → nat_lt 0 n ≡ false → n ≡ 0
+    by_count zero e = refl
+    by_count (suc n) e = absurd (true-not-false (sym (lt-ltb 0 (suc n) (omega arith)) ∙ e))
+      where
+        true-not-false : true ≡ false → ⊥
+        true-not-false e = cc
+asks_nothing g (NandDump dev blocks off len raw oob bad) h none = cc
+asks_nothing g (NandTest dev blocks keep mark seed passes off len) h none = cc
+asks_nothing g (MarkBad dev blocks block) h none = cc
+asks_nothing g (AskBad dev blocks block) h none = cc
+asks_nothing g (AskStats dev blocks) h none = cc

@@ -1,5 +1,5 @@
 -- The places of a nanddump.
-use Rattle.std.proofs.Common.{◌≡◌, ℕ, zero, suc, ◌+◌, ◌-◌, ◌*◌, ◌/◌, ◌%◌, ◌<◌, ◌≤◌, ◌⊎◌, inl, inr, Bool, true, false, List, [], ◌∷◌, ◌++◌, replicate, min, Result, Ok, Err, IfOk, refl, sym, ap, ◌∙◌, subst, arith, append-nil}
+use Rattle.std.proofs.Common.{◌≡◌, ℕ, suc, ◌+◌, ◌-◌, ◌*◌, ◌/◌, ◌%◌, ◌<◌, ◌≤◌, ◌⊎◌, inl, inr, Bool, true, false, List, [], ◌++◌, replicate, min, Result, Ok, Err, IfOk, refl, sym, ap, ◌∙◌, subst, arith, append-nil}
 use Rattle.std.specs.Prelude.{if◌then◌else◌, ◌==◌}
 use Rattle.std.specs.declared.alloc.AllocError.{AllocError}
 use Rattle.std.proofs.lemmas.Bool.{cases_lt, eq-eqb, ne_eqb}
@@ -18,7 +18,7 @@ use Rattle.tool_steps.specs.declared.step.Turn.TheVariants.{End as EndNow}
 use Rattle.tool_steps.specs.declared.dumping.Called.{Called}
 use Rattle.tool_steps.specs.declared.dumping.Counts.{Counts}
 use Rattle.tool_steps.specs.declared.dumping.DumpAt.{DumpAt}
-use Rattle.tool_steps.specs.Dumping.{blocks_for, block_left, counts_with, dump_end, dump_mode, later_left, look_left, passed_part, read_left}
+use Rattle.tool_steps.specs.Dumping.{blocks_for, block_left, counts_with, dump_end, dump_mode, later_left, passed_part}
 use Rattle.tool_steps.proofs.Sizes.{blocks_for-none, blocks_for-suc, blocks_touched-suc}
 
 -- a turn that ends the command

@@ -1,8 +1,8 @@
 -- Commands end after at most their cost.
-use Rattle.std.proofs.Common.{◌≡◌, ℕ, zero, suc, ◌+◌, ◌-◌, ◌*◌, ◌/◌, ◌%◌, ◌<◌, ◌≤◌, ◌⊎◌, inl, inr, Bool, true, false, List, [], ◌∷◌, length, drop, min, refl, sym, ap, subst, arith}
+use Rattle.std.proofs.Common.{◌≡◌, ℕ, zero, suc, ◌+◌, ◌-◌, ◌*◌, ◌/◌, ◌%◌, ◌<◌, ◌≤◌, Bool, true, false, List, [], ◌∷◌, length, drop, min, refl, sym, ap, subst, arith}
 use Rattle.std.specs.Prelude.{if◌then◌else◌, ◌==◌}
-use Rattle.std.proofs.Math.Nat.{mod-lt}
-use Rattle.std.proofs.lemmas.Bool.{eqb-false, cases_Bool}
+use Rattle.std.proofs.Math.Nat.{mod-lt, mul_assoc}
+use Rattle.std.proofs.lemmas.Bool.{eqb-false}
 use Rattle.nand_model.proofs.Bounds.{pages-some}
 use Rattle.nand_model.specs.declared.geometry.Geometry.{Geometry}
 use Rattle.nand_model.specs.declared.words.Op.{Op}
@@ -10,14 +10,17 @@ use Rattle.nand_model.specs.declared.words.Outcome.{Outcome}
 use Rattle.nand_model.specs.declared.words.Command.{Command}
 use Rattle.nand_model.specs.declared.words.Command.TheVariants.{FlashErase, NandWrite, NandDump, NandTest, MarkBad, IsBad as AskBad, Stats as AskStats}
 use Rattle.nand_model.specs.declared.words.Reply.{Reply}
-use Rattle.nand_model.specs.declared.words.Reply.TheVariants.{Done, BadBlock, MarkerByte, ProgramFailed}
+use Rattle.nand_model.specs.declared.words.Reply.TheVariants.{Done, BadBlock, MarkerByte, ProgramFailed, EraseFailed}
 use Rattle.nand_model.specs.declared.words.Ending.TheVariants.{MarkerByte as AtMarkerByte}
 use Rattle.command_model.specs.Command.{Script, End, Ask, next_in, after_replies, after_write, block_size, cost_of, count_or_rest, script_of, written_end, erase_blocks, erase_and_mark, says_bad, unit_count, unit_size, units_of, WriteMode, WriteCounts, write_unit, write_pages, write_blocks, DumpMode, DumpCounts, is_dump_bad, dump_pages, dump_block, dump_blocks}
+use Rattle.command_model.specs.NandTest.{TestMode, TestCounts, after_change, read_bodies, compare_bodies, write_bodies, kept_body, pass_body, test_worn, test_passed, test_change, test_restore, test_rewrite, test_block, test_blocks, test_passes}
 use Rattle.command_model.specs.Laws.{IsOver, trouble_of, is_trouble, troubles, CommandsEnd}
 use Rattle.command_model.specs.Runnable.{Fits}
 use Rattle.command_model.specs.Cost.{troubled_blocks}
 use Rattle.command_model.proofs.Troubles.{troubles_are_few}
 use Rattle.tool_steps.specs.Steps.{EndsAtLast}
+use Rattle.tool_steps.specs.Ranges.{range_blocks}
+use Rattle.tool_steps.specs.Testing.{test_from_start}
 use Rattle.tool_steps.specs.Writing.{write_from_start}
 
 -- a command that is over stays over
@@ -42,6 +45,9 @@ ends_later script n m less h replies few = h replies (omega arith)
 pub ends_either : (b : Bool) (x y : Script) (n : ℕ) → Ends x n → Ends y n → Ends (if b then x else y) n
 ends_either true x y n h k = h
 ends_either false x y n h k = k
+
+same-le : (n : ℕ) → n ≤ n
+same-le n = omega arith
 
 -- flash_erase: a question and an erase for each block
 erase_ends : (dev : ℕ) (no_scan : Bool) (left block erased bad failed : ℕ) → Ends (erase_blocks dev no_scan left block erased bad failed) (2 * left)
@@ -72,6 +78,112 @@ module _ (g : Geometry) (m : DumpMode) where
       let here : ℕ = min left (g.pages_per_block - page % g.pages_per_block) in
       ends_later _ (suc (min left (g.pages_per_block - page % g.pages_per_block) + (left - min left (g.pages_per_block - page % g.pages_per_block) + blocks))) (left + suc blocks)
       (omega arith) (block_ends here page c _ (left - here + blocks) (λ d. dump_ends blocks _ _ d))
+
+module _ (g : Geometry) (m : TestMode) where
+  change_either : (r : Reply) (good worn refused : Script) (n : ℕ) → Ends good n → Ends worn n → Ends refused n → Ends (after_change r good worn refused) n
+  change_either ProgramFailed good worn refused n a b c = b
+  change_either EraseFailed good worn refused n a b c = b
+  change_either BadBlock good worn refused n a b c = c
+  change_either _ good worn refused n a b c = a
+
+  kept_ends : (block left place : ℕ) (kept : List ℕ) (c : TestCounts) (go_on : List ℕ → TestCounts → Script) (n : ℕ) → ((bytes : List ℕ) (d : TestCounts) → Ends (go_on bytes d) n)
+      → Ends (read_bodies g m.dev block left place kept c go_on) (left + n)
+  kept_ends block zero place kept c go_on n h = ends_later _ n (0 + n) (omega arith) (h kept c)
+  kept_ends block (suc left) place kept c go_on n h =
+      ends_later _ (suc (left + n)) (suc left + n) (omega arith) (ends_ask _ _ (left + n) (λ r. kept_ends block left (place + 1) _ _ go_on n h))
+
+  compared_ends : (block : ℕ) (body : ℕ → List ℕ) (left place : ℕ) (differ : Bool) (c : TestCounts) (go_on : Bool → TestCounts → Script) (n : ℕ)
+      → ((b : Bool) (d : TestCounts) → Ends (go_on b d) n) → Ends (compare_bodies g m.dev block body left place differ c go_on) (left + n)
+  compared_ends block body zero place differ c go_on n h = ends_later _ n (0 + n) (omega arith) (h differ c)
+  compared_ends block body (suc left) place differ c go_on n h =
+      ends_later _ (suc (left + n)) (suc left + n) (omega arith) (ends_ask _ _ (left + n) (λ r. compared_ends block body left (place + 1) _ _ go_on n h))
+
+  written_ends : (block : ℕ) (body : ℕ → List ℕ) (left place : ℕ) (good worn refused : Script) (n : ℕ) → Ends good n → Ends worn n → Ends refused n
+      → Ends (write_bodies g m.dev block body left place good worn refused) (left + n)
+  written_ends block body zero place good worn refused n a b c = ends_later good n (0 + n) (omega arith) a
+  written_ends block body (suc left) place good worn refused n a b c =
+      ends_later _ (suc (left + n)) (suc left + n) (omega arith) (ends_ask _ _ (left + n) (λ r. change_either r _ worn refused (left + n)
+      (written_ends block body left (place + 1) good worn refused n a b c) (ends_later worn n (left + n) (omega arith) b) (ends_later refused n (left + n) (omega arith) c)))
+
+  -- the operations of what `-k` does first, and last
+  abbrev before : Bool → ℕ
+  before keep = if keep then g.pages_per_block else 0
+
+  abbrev back : Bool → ℕ
+  back keep = if keep then g.pages_per_block + 1 else 0
+
+  module _ (next_block : TestCounts → Script) (n : ℕ) (h : (d : TestCounts) → Ends (next_block d) n) where
+    worn_ends : (block : ℕ) (c : TestCounts) → Ends (test_worn m block c next_block) (suc n)
+    worn_ends block c = ends_either m.mark _ _ (suc n) (ends_ask _ _ n (λ r. h _)) (ends_later _ n (suc n) (omega arith) (h _))
+
+    changed_ends : (block : ℕ) (body : ℕ → List ℕ) (c : TestCounts) (done : Script) (k : ℕ) → suc n ≤ k → Ends done k
+        → Ends (test_change g m block body c next_block done) (suc (g.pages_per_block + k))
+    changed_ends block body c done k more d =
+        ends_ask _ _ (g.pages_per_block + k) (λ r. change_either r _ _ _ (g.pages_per_block + k)
+        (written_ends block body g.pages_per_block 0 done _ _ k d (ends_later _ (suc n) k more (worn_ends block c)) (ends_later _ n k (omega (arith, more)) (h _)))
+        (ends_later _ (suc n) (g.pages_per_block + k) (omega (arith, more)) (worn_ends block c)) (ends_later _ n (g.pages_per_block + k) (omega (arith, more)) (h _)))
+
+    restored_ends : (block : ℕ) (kept : List ℕ) (c : TestCounts) → Ends (test_restore g m block kept c next_block) (back m.keep + suc n)
+    restored_ends block kept c = by_keep m.keep
+      where
+        by_keep : (b : Bool) → Ends (if b then test_change g m block (kept_body g kept) c next_block (test_passed c next_block) else test_passed c next_block) (back b + suc n)
+        by_keep true = ends_later _ (suc (g.pages_per_block + suc n)) (g.pages_per_block + 1 + suc n) (omega arith)
+            (changed_ends block (kept_body g kept) c _ (suc n) (omega arith) (ends_later _ n (suc n) (omega arith) (h _)))
+        by_keep false = ends_later _ n (0 + suc n) (omega arith) (h _)
+
+    rewritten_ends : (seed block : ℕ) (kept : List ℕ) (c : TestCounts)
+        → Ends (test_rewrite g m seed block kept c next_block) (suc (g.pages_per_block + (g.pages_per_block + (back m.keep + suc n))))
+    rewritten_ends seed block kept c =
+        changed_ends block (pass_body g seed block) c _ (g.pages_per_block + (back m.keep + suc n)) (omega arith)
+        (compared_ends block (pass_body g seed block) g.pages_per_block 0 false c _ (back m.keep + suc n)
+        (λ differ d. ends_either differ _ _ (back m.keep + suc n) (ends_later _ (suc n) (back m.keep + suc n) (omega arith) (worn_ends block d)) (restored_ends block kept d)))
+
+    tested_ends : (seed block : ℕ) (c : TestCounts)
+        → Ends (test_block g m seed block c next_block) (suc (before m.keep + suc (g.pages_per_block + (g.pages_per_block + (back m.keep + suc n)))))
+    tested_ends seed block c =
+        let later : ℕ = suc (g.pages_per_block + (g.pages_per_block + (back m.keep + suc n))) in
+        ends_ask _ _ (before m.keep + suc (g.pages_per_block + (g.pages_per_block + (back m.keep + suc n)))) (λ r. ends_either (says_bad r) _ _ _
+        (ends_later _ n (before m.keep + suc (g.pages_per_block + (g.pages_per_block + (back m.keep + suc n)))) (omega arith) (h _)) (by_keep m.keep))
+      where
+        by_keep : (b : Bool) → Ends (if b then read_bodies g m.dev block g.pages_per_block 0 [] c (λ kept d. test_rewrite g m seed block kept d next_block)
+            else test_rewrite g m seed block [] c next_block) (before b + suc (g.pages_per_block + (g.pages_per_block + (back m.keep + suc n))))
+        by_keep true = kept_ends block g.pages_per_block 0 [] c _ _ (λ kept d. rewritten_ends seed block kept d)
+        by_keep false = ends_later _ _ (0 + suc (g.pages_per_block + (g.pages_per_block + (back m.keep + suc n)))) (omega arith) (rewritten_ends seed block [] c)
+
+  -- the operations of one test of a block
+  abbrev each : ℕ
+  each = 2 * g.pages_per_block + 3 + (before m.keep + back m.keep)
+
+  blocks_end : (seed left block : ℕ) (c : TestCounts) (next_pass : TestCounts → Script) (n : ℕ) → ((d : TestCounts) → Ends (next_pass d) n) → (k : ℕ) → each ≤ k
+      → Ends (test_blocks g m seed left block c next_pass) (left * k + n)
+  blocks_end seed zero block c next_pass n h k less = ends_later _ n (0 * k + n) (omega arith) (h c)
+  blocks_end seed (suc left) block c next_pass n h k less =
+      ends_later _ (suc (before m.keep + suc (g.pages_per_block + (g.pages_per_block + (back m.keep + suc (left * k + n)))))) (suc left * k + n) (omega (arith, less))
+      (tested_ends _ (left * k + n) (λ d. blocks_end seed left (block + 1) d next_pass n h k less) seed block c)
+
+  one_more : (left q : ℕ) → q + left * q ≤ suc left * q
+  one_more left q = omega arith
+
+  -- nandtest: in each pass, the tests of its blocks
+  passes_end : (first count left : ℕ) (c : TestCounts) (k : ℕ) → each ≤ k → Ends (test_passes g m first count left c) (left * (count * k))
+  passes_end first count zero c k less = ends_over _ _
+  passes_end first count (suc left) c k less =
+      ends_later _ (count * k + left * (count * k)) (suc left * (count * k)) (one_more left (count * k))
+      (blocks_end _ count first c _ (left * (count * k)) (λ d. passes_end first count left d k less) k less)
+
+-- the operations of a nandtest, by whether bodies are kept
+tests_few : (p tests : ℕ) (keep : Bool)
+    → tests * (2 * p + 3 + ((if keep then p else 0) + (if keep then p + 1 else 0))) ≤ tests * (2 * p + 3) + (if keep then tests * (2 * p + 1) else 0)
+tests_few p tests true = omega arith
+tests_few p tests false = omega arith
+
+nandtest_ends : (g : Geometry) (m : TestMode) (blocks off len : ℕ)
+    → Ends (test_from_start g m blocks off len) (let count : ℕ = range_blocks g blocks off len in
+    m.passes * count * (2 * g.pages_per_block + 3) + (if m.keep then m.passes * count * (2 * g.pages_per_block + 1) else 0))
+nandtest_ends g m blocks off len =
+    let same = mul_assoc m.passes (range_blocks g blocks off len) (each g m) in
+    let few = tests_few g.pages_per_block (m.passes * range_blocks g blocks off len) m.keep in
+    ends_later _ _ _ (omega (arith, same, few)) (passes_end g m (off / block_size g) (range_blocks g blocks off len) m.passes _ (each g m) (same-le _))
 
 -- a script is over once there are this many replies, with no more than so much trouble in them
 abbrev EndsIn : Script → ℕ → ℕ → Type 0
@@ -181,9 +293,6 @@ steady_ends_at_last g command n weak h few replies enough = h replies (omega (ar
 one_ends : (op : Op) (outcome : Reply → Outcome) → Ends (Ask op (λ r. End (outcome r))) 1
 one_ends op outcome = ends_ask op (λ r. End (outcome r)) 0 (λ r. ends_over (outcome r) 0)
 
-same-le : (n : ℕ) → n ≤ n
-same-le n = omega arith
-
 -- a command ends after at most its cost
 pub command_ends : (g : Geometry) (command : Command) → Fits g command → CommandsEnd g command
 command_ends g (FlashErase dev blocks no_scan start count) h =
@@ -192,7 +301,9 @@ command_ends g (NandWrite dev blocks mark raw oob pad off bytes) h = λ weak.
     nandwrite_ends g (record { dev = dev; mark = mark; raw = raw; oob = oob }) blocks off bytes weak
 command_ends g (NandDump dev blocks off len raw oob bad) h =
     steady_ends g (NandDump dev blocks off len raw oob bad) _ (dump_ends g (record { dev = dev; raw = raw; oob = oob; bad = bad }) _ _ _ _) (λ weak. same-le _)
-command_ends g (NandTest dev blocks keep mark seed passes off len) h = absurd h
+command_ends g (NandTest dev blocks keep mark seed passes off len) h =
+    steady_ends g (NandTest dev blocks keep mark seed passes off len) _
+    (nandtest_ends g (record { dev = dev; keep = keep; mark = mark; seed = seed; passes = passes }) blocks off len) (λ weak. same-le _)
 command_ends g (MarkBad dev blocks block) h = steady_ends g (MarkBad dev blocks block) 1 (one_ends _ _) (λ weak. same-le 1)
 command_ends g (AskBad dev blocks block) h = steady_ends g (AskBad dev blocks block) 1 (one_ends _ _) (λ weak. same-le 1)
 command_ends g (AskStats dev blocks) h = steady_ends g (AskStats dev blocks) 1 (one_ends _ _) (λ weak. same-le 1)
@@ -206,7 +317,9 @@ command_ends_at_last g (NandWrite dev blocks mark raw oob pad off bytes) h = λ 
     (troubles_are_few g dev blocks mark raw oob pad off bytes replies)
 command_ends_at_last g (NandDump dev blocks off len raw oob bad) h =
     steady_ends_at_last g (NandDump dev blocks off len raw oob bad) _ 0 (dump_ends g (record { dev = dev; raw = raw; oob = oob; bad = bad }) _ _ _ _) (same-le _)
-command_ends_at_last g (NandTest dev blocks keep mark seed passes off len) h = absurd h
+command_ends_at_last g (NandTest dev blocks keep mark seed passes off len) h =
+    steady_ends_at_last g (NandTest dev blocks keep mark seed passes off len) _ 0
+    (nandtest_ends g (record { dev = dev; keep = keep; mark = mark; seed = seed; passes = passes }) blocks off len) (same-le _)
 command_ends_at_last g (MarkBad dev blocks block) h = steady_ends_at_last g (MarkBad dev blocks block) 1 0 (one_ends _ _) (same-le 1)
 command_ends_at_last g (AskBad dev blocks block) h = steady_ends_at_last g (AskBad dev blocks block) 1 0 (one_ends _ _) (same-le 1)
 command_ends_at_last g (AskStats dev blocks) h = steady_ends_at_last g (AskStats dev blocks) 1 0 (one_ends _ _) (same-le 1)

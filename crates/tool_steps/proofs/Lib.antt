@@ -1,6 +1,8 @@
 pub mod Scripts
 pub mod Sizes
 pub mod Writes
+pub mod Numbered
+pub mod Testings
 pub mod Dumps
 pub mod Ends
 pub mod Asks

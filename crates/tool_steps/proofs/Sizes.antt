@@ -1,6 +1,6 @@
 -- Blocks and pages of a device, and how many a range has.
 use Rattle.std.proofs.Common.{◌≡◌, ℕ, suc, ◌+◌, ◌-◌, ◌*◌, ◌/◌, ◌%◌, ◌<◌, ◌≤◌, ◌⊎◌, inl, inr, Bool, true, false, List, length, min, sym, ap, ◌∙◌, arith}
-use Rattle.std.proofs.Math.Nat.{mul_assoc, div-lt_iff_lt-mul, mul-le-mul_left, div-mul-le_self, div-eq_of_lt, add-div_right, mul-add-div_right, mod-lt, div-le_of_le-mul, add-div_left}
+use Rattle.std.proofs.Math.Nat.{mul_assoc, div-lt_iff_lt-mul, mul-le-mul_left, div-mul-le_self, div-eq_of_lt, add-div_right, mul-add-div_right, mod-lt, div-le_of_le-mul}
 use Rattle.std.proofs.lemmas.Nat.{div-add-mod'}
 use Rattle.std.proofs.lemmas.Bool.{cases_lt}
 use Rattle.nand_model.proofs.Bounds.{bounds, page-some, pages-le, pages-some}
@@ -43,21 +43,23 @@ page_of_offset-lt g blocks off h =
 pub device_pages-le : (g : Geometry) (blocks : ℕ) → blocks ≤ 32768 → blocks * g.pages_per_block ≤ 4194304
 device_pages-le g blocks few = small_product blocks g.pages_per_block few (pages-le g)
 
+-- two numbers of pieces of one size that end in so many pieces
+few_pieces : (size n a b : ℕ) → 1 ≤ size → a + b ≤ n * size → a / size + b / size ≤ n
+few_pieces size n a b some h = by_order (cases_lt n (a / size + b / size)) (div-mul-le_self a size) (div-mul-le_self b size)
+  where
+    by_order : (n < a / size + b / size) ⊎ (a / size + b / size ≤ n) → a / size * size ≤ a → b / size * size ≤ b → a / size + b / size ≤ n
+    by_order (inr few) p q = few
+    by_order (inl many) p q =
+        let more : size * (n + 1) ≤ size * (a / size + b / size) = mul-le-mul_left size (omega arith) in
+        absurd (omega (arith, some, more, h))
+
 -- the pages of a range that ends in the device
 pub range_in_device : (g : Geometry) (blocks off len : ℕ) → off + len ≤ device_bytes g blocks → off / g.page + len / g.page ≤ blocks * g.pages_per_block
-range_in_device g blocks off len h =
-    let inside : off + len ≤ (blocks * g.pages_per_block) * g.page = rw (← regrouped g blocks) h in
-    let a : off / g.page * g.page ≤ off = div-mul-le_self off g.page in
-    let b : len / g.page * g.page ≤ len = div-mul-le_self len g.page in
-    by_order (cases_lt (blocks * g.pages_per_block) (off / g.page + len / g.page)) inside a b
-  where
-    by_order : (blocks * g.pages_per_block < off / g.page + len / g.page) ⊎ (off / g.page + len / g.page ≤ blocks * g.pages_per_block)
-        → off + len ≤ (blocks * g.pages_per_block) * g.page → off / g.page * g.page ≤ off → len / g.page * g.page ≤ len
-        → off / g.page + len / g.page ≤ blocks * g.pages_per_block
-    by_order (inr few) inside a b = few
-    by_order (inl many) inside a b =
-        let more : g.page * (blocks * g.pages_per_block + 1) ≤ g.page * (off / g.page + len / g.page) = mul-le-mul_left g.page (omega arith) in
-        absurd (omega (arith, page-some g, more))
+range_in_device g blocks off len h = few_pieces g.page (blocks * g.pages_per_block) off len (page-some g) (rw (← regrouped g blocks) h)
+
+-- the blocks of a range that ends in the device
+pub blocks_in_device : (g : Geometry) (blocks off len : ℕ) → off + len ≤ device_bytes g blocks → off / block_size g + len / block_size g ≤ blocks
+blocks_in_device g blocks off len h = few_pieces (block_size g) blocks off len (block_size-some g) h
 
 -- the units of so many bytes
 pub unit_count-few : (size n : ℕ) → 2048 ≤ size → n ≤ 4294967295 → (n + (size - 1)) / size ≤ 2097153

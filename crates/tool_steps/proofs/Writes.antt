@@ -1,13 +1,12 @@
 -- The units of a nandwrite, and its places.
-use Rattle.std.proofs.Common.{◌≡◌, ℕ, zero, suc, ◌+◌, ◌-◌, ◌*◌, ◌/◌, ◌%◌, ◌<◌, ◌≤◌, Bool, true, false, List, [], ◌∷◌, ◌++◌, take, drop, replicate, length, min, refl, sym, ap, ◌∙◌, arith, length-drop}
-use Rattle.std.proofs.lemmas.List.{take-append-le, drop-append-le, take-replicate, drop-replicate, take_all, length-take}
-use Rattle.std.proofs.lemmas.Bool.{cases_lt}
+use Rattle.std.proofs.Common.{◌≡◌, ℕ, zero, suc, ◌+◌, ◌-◌, ◌*◌, ◌/◌, ◌%◌, ◌<◌, List, [], ◌∷◌, ◌++◌, take, drop, replicate, length, refl, sym, ap, ◌∙◌, arith, length-drop}
+use Rattle.std.proofs.lemmas.List.{take-replicate, drop-replicate}
 use Rattle.std.proofs.Math.Seq.{drop-nil}
 use Rattle.nand_model.specs.declared.geometry.Geometry.{Geometry}
-use Rattle.command_model.specs.Command.{Script, WriteMode, WriteCounts, block_size, unit_count, unit_size, units_of, write_blocks}
+use Rattle.command_model.specs.Command.{block_size, unit_count, unit_size, units_of, write_blocks}
 use Rattle.tool_steps.specs.declared.writing.Called.{Called}
 use Rattle.tool_steps.specs.declared.writing.BlockAt.{BlockAt}
-use Rattle.tool_steps.specs.Writing.{unit_at, units_at, write_mode, write_from_start, counts_before, units_from, taken, later_blocks, pages_left}
+use Rattle.tool_steps.specs.Writing.{unit_at, units_at, write_mode, write_from_start, units_from, taken, pages_left}
 
 take-both : (n : ℕ) (xs ys : List ℕ) → take n (xs ++ ys) ≡ take n xs ++ take (n - length xs) ys
 take-both zero xs ys = let e : 0 ≡ 0 - length xs = omega arith in ap (λ (k : ℕ). take k ys) e

@@ -3,5 +3,6 @@ pub mod Ranges
 pub mod Erasing
 pub mod Writing
 pub mod Dumping
+pub mod Testing
 pub mod Work
 pub mod Boot

@@ -1,16 +1,16 @@
 // How many operations a command takes at most.
-ghost use Rattle.std.specs.Prelude.{◌≡◌, [], ◌+◌, ◌-◌, ◌/◌, ◌*◌, ◌^◌, ◌<◌, ◌≤◌, not};
+ghost use Rattle.std.specs.Prelude.{◌≡◌, [], ◌+◌, ◌-◌, ◌/◌, ◌*◌, ◌^◌, ◌<◌, ◌≤◌, if◌then◌else◌, not};
 ghost use Rattle.nand_model.specs.declared.geometry.Geometry.{Geometry as Sizes};
 ghost use Rattle.command_model.specs.Command.{block_size, blocks_touched, cost_of, next_step, unit_count};
 ghost use Rattle.command_model.specs.Cost.{troubled_blocks};
 ghost use Rattle.command_model.specs.Laws.{CommandsEnd};
-ghost use Rattle.command_model.specs.Runnable.{DumpsPages, Fits, WritesPages};
+ghost use Rattle.command_model.specs.Runnable.{DumpsPages, Fits, TestsBlocks, WritesPages};
 ghost use Rattle.command_model.specs.Command.{command_blocks};
-ghost use Rattle.tool_steps.specs.Ranges.{range_pages};
+ghost use Rattle.tool_steps.specs.Ranges.{range_blocks, range_pages};
 ghost use Rattle.tool_steps.specs.Steps.{asks_something, is_over, EndsAtLast};
 
 use crate::copies::{block_len, unit_len};
-use crate::ranges::pages_in_range;
+use crate::ranges::{blocks_in_range, pages_in_range};
 use nand_model::{Command, Geometry, Part};
 
 /// Whether a command asks for an operation: false exactly for a nandwrite of no data. It takes no
@@ -68,7 +68,13 @@ fn most(command: &Command, g: &Geometry, blocks: u32, weak: u32) -> u64
         }
         Command::NandDump { off, len, .. } => dump_cost(g, blocks, *off, *len),
         Command::IsBad { .. } | Command::MarkBad { .. } | Command::Stats { .. } => 1,
-        Command::NandTest { .. } => unreachable!(),
+        Command::NandTest {
+            keep,
+            passes,
+            off,
+            len,
+            ..
+        } => test_cost(g, blocks, *passes, *off, *len, *keep),
     }
 }
 
@@ -103,4 +109,42 @@ fn dump_cost(g: &Geometry, blocks: u32, off: u64, len: u64) -> u64
     let first = off / u64::from(g.page);
     let per_block = u64::from(g.pages_per_block);
     pages + ((first + pages + (per_block - 1)) / per_block - first / per_block)
+}
+
+// The operations of a nandtest: for each block in each pass a question, an erase, a write and a
+// read of each page, and a mark; with `-k` a read of each page before, and an erase and a write of
+// each page after.
+fn test_cost(g: &Geometry, blocks: u32, passes: u32, off: u64, len: u64, keep: bool) -> u64
+    requires { TestsBlocks g.now blocks passes off len }
+    ensures { let count = range_blocks g.now blocks off len in
+        result ≡ passes * count * (2 * g.now.pages_per_block + 3)
+        + (if keep then passes * count * (2 * g.now.pages_per_block + 1) else 0) }
+{
+    let tests = tests_of(passes, blocks_in_range(g, blocks, off, len));
+    let pages = u64::from(g.pages_per_block);
+    let for_keeping = if keep {
+        tests_cost(tests, 2 * pages + 1)
+    } else {
+        0
+    };
+    tests_cost(tests, 2 * pages + 3) + for_keeping
+}
+
+// How often a block is tested.
+fn tests_of(passes: u32, blocks: u32) -> u64
+    requires { blocks ≤ 32768 }
+    ensures tests { result ≡ passes * blocks }
+    ensures few { result < 2 ^ 47 }
+{
+    u64::from(passes) * u64::from(blocks)
+}
+
+// The operations of so many tests of a block.
+fn tests_cost(tests: u64, each: u64) -> u64
+    requires tests { tests < 2 ^ 47 }
+    requires each { each ≤ 259 }
+    ensures cost { result ≡ tests * each }
+    ensures small { result < 2 ^ 56 }
+{
+    tests * each
 }

@@ -1,6 +1,7 @@
 // Bytes that a command copies: units, images, bodies and replies.
 ghost use Rattle.std.specs.Prelude.{◌≡◌, ◌≤◌, ◌<◌, ◌+◌, ◌-◌, ◌^◌, ◌++◌, length, take, drop, replicate, IfOk};
 ghost use Rattle.command_model.specs.Command.{block_size, unit_size};
+ghost use Rattle.command_model.specs.NandTest.{body_read};
 
 use nand_model::{Bytes, Geometry, Reply};
 use std::alloc::{AllocError, Global};
@@ -29,6 +30,19 @@ pub fn body_of(alloc: Global, image: &[u8], page: u32) -> Result<Bytes, AllocErr
 {
     let len = image.len().min(page as usize);
     Bytes::from_slice(alloc, &image[..len])
+}
+
+// The body in a reply; no bytes where it is not a page.
+pub fn page_body<'a>(g: &Geometry, reply: &'a Reply) -> &'a [u8]
+    ensures { result.now ≡ body_read g.now reply.now }
+{
+    match reply {
+        Reply::Page { image, .. } => {
+            let image = image.as_slice();
+            &image[..image.len().min(g.page as usize)]
+        }
+        _ => &[],
+    }
 }
 
 // A copy of a reply.

@@ -216,6 +216,14 @@ impl Called {
         }
     }
 
+    // An empty dump, with room for so many pages.
+    fn empty_dump(&self, alloc: Global, g: &Geometry, pages: u32) -> Result<Bytes, AllocError>
+        requires { pages ≤ 4194304 }
+        ensures { IfOk result (λ bytes. bytes ≡ []) }
+    {
+        Bytes::with_room(alloc, pages as usize * unit_len(g, self.oob) as usize)
+    }
+
     // What is dumped for so many pages of a bad block.
     fn passed(&self, alloc: Global, g: &Geometry, pages: u32) -> Result<Bytes, AllocError>
         requires { pages ≤ 4194304 }
@@ -236,7 +244,7 @@ impl Dumping {
     ghost use Rattle.tool_steps.specs.Dumping.{counts_with, dump_end, dump_from_start, dump_mode, dumping_left, later_left, look_left, place_left, read_left};
 
     /// nanddump at its start, of the pages from the offset `off` on, so many bytes of bodies or
-    /// all.
+    /// all. It takes the room of its dump.
     pub fn start(
         alloc: Global,
         g: &Geometry,
@@ -268,7 +276,7 @@ impl Dumping {
         };
         Ok(Dumping {
             place: at.first(),
-            dump: Bytes::filled(alloc, 0xff, 0)?,
+            dump: called.empty_dump(alloc, g, pages)?,
         })
     }
 
@@ -377,7 +385,7 @@ impl Dumping {
             ≡ Turn.End (dump_end (counts_with counts (self.old.dump ++ part.now)))) }
         ensures no_memory { OnErr result (self.new ≡ self.old) }
     {
-        let empty = Bytes::filled(alloc, 0xff, 0)?;
+        let empty = Bytes::with_room(alloc, 0)?;
         self.dump.push_slice(part)?;
         Ok(Turn::End(Outcome::NandDump {
             pages: counts.pages,

@@ -2,6 +2,7 @@
 //! of a boot.
 #![tactic(auto)]
 
+mod bodies;
 mod boot;
 mod bound;
 mod copies;
@@ -10,6 +11,7 @@ mod erasing;
 mod ranges;
 mod replies;
 mod step;
+mod testing;
 #[cfg(test)]
 mod tests;
 mod tool;

@@ -1,5 +1,5 @@
 // Commands, reply by reply.
-ghost use Rattle.std.specs.Prelude.{◌≡◌, IfOk};
+ghost use Rattle.std.specs.Prelude.{◌≡◌, ◌≤◌, IfOk};
 
 use crate::{BadMode, Command, Ending, Outcome, Step, Tool};
 use nand_model::{Bytes, Geometry, Op, PageKind, PageRead, Reply};
@@ -172,5 +172,166 @@ fn asks_for_statistics(rt: HostRuntime) -> Result<(), Fail> {
             }
         )
     );
+    Ok(())
+}
+
+// What goes wrong on a device.
+#[derive(Clone, Copy, PartialEq, Eq)]
+enum Trouble {
+    Nothing,
+    EraseFails,
+    WriteRefused,
+    // Pages 66 and 69 are read erased.
+    TwoPagesDiffer,
+}
+
+// A device whose replies show block 1, from page 64 on: the bodies that were written since it was
+// erased, and how many operations it has answered.
+#[derive(Drop)]
+struct Device {
+    trouble: Trouble,
+    bodies: Vec<Bytes>,
+    answers: u32,
+}
+
+impl Device {
+    fn reply(&mut self, alloc: Global, op: Op) -> Result<Reply, Fail> {
+        self.answers = self.answers.saturating_add(1);
+        match op {
+            Op::IsBad { .. } => Ok(Reply::State(0)),
+            Op::Erase { .. } if self.trouble == Trouble::EraseFails => Ok(Reply::EraseFailed),
+            Op::Erase { .. } => {
+                self.bodies.clear();
+                Ok(Reply::Done)
+            }
+            Op::Write { .. } if self.trouble == Trouble::WriteRefused => Ok(Reply::BadBlock),
+            Op::Write { body, .. } => {
+                self.bodies.push(body)?;
+                Ok(Reply::Done)
+            }
+            Op::Read { page, .. } => self.page(alloc, page),
+            _ => Ok(Reply::Done),
+        }
+    }
+
+    fn page(&self, alloc: Global, page: u32) -> Result<Reply, Fail> {
+        let mut image = Bytes::filled(alloc, 0xff, 2112)?;
+        let erased = self.trouble == Trouble::TwoPagesDiffer && (page == 66 || page == 69);
+        let place = page.saturating_sub(64) as usize;
+        if place < self.bodies.len() && !erased {
+            image = Bytes::from_slice(alloc, self.bodies[place].as_slice())?;
+            image.push_slice(&[0xff; 64])?;
+        }
+        Ok(Reply::Page {
+            kind: PageKind::Clean,
+            read: PageRead {
+                corrected: 1,
+                greatest: 1,
+                failed: 0,
+            },
+            image,
+        })
+    }
+}
+
+// nandtest of block 1 to its end.
+fn tested(
+    alloc: Global,
+    keep: bool,
+    mark: bool,
+    passes: u32,
+    device: &mut Device,
+) -> Result<Outcome, Fail>
+    requires { 1 ≤ passes }
+{
+    let command = Command::NandTest {
+        dev: 1,
+        blocks: 2,
+        keep,
+        mark,
+        seed: 7,
+        passes,
+        off: 131_072,
+        len: 0,
+    };
+    let mut tool = Tool::start(alloc, &command, &sizes()?)?;
+    let mut step = tool.next(None)?;
+    for _ in 0..1000 {
+        let Step::Do(op) = step else {
+            break;
+        };
+        let reply = device.reply(alloc, op)?;
+        step = tool.next(Some(&reply))?;
+    }
+    if !tool.ends(None) {
+        return Err("it goes on".into());
+    }
+    Ok(tool.finish())
+}
+
+#[test]
+fn tests_a_block(rt: HostRuntime) -> Result<(), Fail> {
+    let alloc = rt.alloc();
+    let rows = [
+        ((false, false, Trouble::Nothing), 130, (1, 0, 0, 0, 64)),
+        ((true, true, Trouble::Nothing), 259, (1, 0, 0, 0, 128)),
+        (
+            (true, true, Trouble::TwoPagesDiffer),
+            195,
+            (0, 0, 1, 2, 128),
+        ),
+        (
+            (false, false, Trouble::TwoPagesDiffer),
+            130,
+            (0, 0, 1, 2, 64),
+        ),
+        ((false, true, Trouble::EraseFails), 3, (0, 0, 1, 0, 0)),
+        ((false, true, Trouble::WriteRefused), 3, (0, 1, 0, 0, 0)),
+    ];
+    for ((keep, mark, trouble), answers, counts) in rows {
+        let mut device = Device {
+            trouble,
+            bodies: Vec::new(alloc),
+            answers: 0,
+        };
+        let outcome = tested(alloc, keep, mark, 1, &mut device)?;
+        assert_eq!(rt; device.answers, answers);
+        if let Outcome::NandTest {
+            blocks,
+            bad,
+            worn,
+            mismatched,
+            corrected,
+            ..
+        } = outcome
+        {
+            assert_eq!(rt; (blocks, bad, worn, mismatched, corrected), counts);
+        }
+    }
+    Ok(())
+}
+
+// The first bytes of page 64 are those of SplitMix64 from the page's place on, as another program
+// gives them for seed 7, and in the second pass for seed 8.
+#[test]
+fn each_pass_has_a_seed_of_its_own(rt: HostRuntime) -> Result<(), Fail> {
+    let alloc = rt.alloc();
+    let rows = [
+        (1, [0x66, 0xc8, 0xaf, 0xfe, 0x44, 0xa5, 0xea, 0xf9]),
+        (2, [0xc5, 0xfc, 0x91, 0x0c, 0x78, 0x21, 0x6f, 0x6d]),
+    ];
+    for (passes, head) in rows {
+        let mut device = Device {
+            trouble: Trouble::Nothing,
+            bodies: Vec::new(alloc),
+            answers: 0,
+        };
+        let outcome = tested(alloc, false, false, passes, &mut device)?;
+        assert!(rt; matches!(outcome, Outcome::NandTest { failed: 0, .. }));
+        assert_eq!(rt; device.bodies.len(), 64);
+        if let Some(body) = device.bodies.first() {
+            assert!(rt; body.as_slice().starts_with(&head));
+        }
+    }
     Ok(())
 }

@@ -12,9 +12,10 @@ ghost use Rattle.tool_steps.specs.Writing.{write_from_start, write_mode};
 use crate::dumping::Dumping;
 use crate::erasing::Erasing;
 use crate::step::{State, Step, Turn};
+use crate::testing::Testing;
 use crate::work::Work;
 use crate::writing::Writing;
-use crate::{dumping, writing};
+use crate::{dumping, testing, writing};
 use nand_model::{Command, Geometry, Outcome, Reply};
 use std::alloc::{AllocError, Global};
 
@@ -178,7 +179,26 @@ fn first_state(alloc: Global, command: &Command, g: &Geometry) -> Result<State<W
             block: *block,
         })),
         Command::Stats { dev, .. } => Ok(State::At(Work::Counting { dev: *dev })),
-        Command::NandTest { .. } => unreachable!(),
+        Command::NandTest {
+            dev,
+            blocks,
+            keep,
+            mark,
+            seed,
+            passes,
+            off,
+            len,
+        } => {
+            let called = testing::Called {
+                dev: *dev,
+                keep: *keep,
+                mark: *mark,
+                seed: *seed,
+                passes: *passes,
+            };
+            let testing = Testing::start(alloc, g, called, *blocks, *off, *len)?;
+            Ok(State::At(Work::Testing(testing)))
+        }
     }
 }
 

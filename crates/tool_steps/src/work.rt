@@ -6,6 +6,7 @@ use crate::dumping::Dumping;
 use crate::erasing::Erasing;
 use crate::replies::counted;
 use crate::step::{State, Turn};
+use crate::testing::Testing;
 use crate::writing::Writing;
 use nand_model::{Geometry, Op, Outcome, Reply};
 use std::alloc::{AllocError, Global};
@@ -19,6 +20,8 @@ pub enum Work {
     Writing(Writing),
     /// nanddump.
     Dumping(Dumping),
+    /// nandtest.
+    Testing(Testing),
     /// markbad: the mark of a block.
     Marking { dev: u32, block: u32 },
     /// isbad: the state of a block.
@@ -40,6 +43,7 @@ impl Work {
             Work::Erasing(erasing) => Ok(erasing.op()),
             Work::Writing(writing) => writing.op(alloc, g),
             Work::Dumping(dumping) => Ok(dumping.op(g)),
+            Work::Testing(testing) => testing.op(alloc, g),
             Work::Marking { dev, block } => Ok(Op::Mark {
                 dev: *dev,
                 block: *block,
@@ -67,6 +71,7 @@ impl Work {
             Work::Erasing(erasing) => Ok(erasing.answered(reply)),
             Work::Writing(writing) => writing.answered(alloc, g, reply),
             Work::Dumping(dumping) => dumping.answered(alloc, g, reply),
+            Work::Testing(testing) => testing.answered(alloc, g, reply),
             Work::Marking { .. } => Ok(Turn::End(Outcome::MarkBad {
                 reply: copy_of(alloc, reply)?,
             })),
@@ -86,6 +91,7 @@ impl Work {
             Work::Erasing(erasing) => matches!(erasing.after(reply), State::Over(_)),
             Work::Writing(writing) => writing.ends_at(g, reply),
             Work::Dumping(dumping) => dumping.place.ends_at(reply),
+            Work::Testing(testing) => testing.place.ends_at(g, reply),
             Work::Marking { .. } | Work::Asking { .. } | Work::Counting { .. } => true,
         }
     }

@@ -1,6 +1,5 @@
-use Rattle.std.proofs.Common.{◌≡◌, ℕ, List, length, not, ap, ◌∙◌, sym}
+use Rattle.std.proofs.Common.{ℕ, List, length, not, ap, ◌∙◌, sym}
 use Rattle.std.specs.Prelude.{◌==◌}
-use Rattle.nand_model.specs.declared.words.Command.{Command}
 use Rattle.tool_steps.specs.Steps.{asks_something}
 use Rattle.tool_steps.proofs.Asks.{asks_at_all, some_tells}
 use Rattle.tool_steps.proofs.bound.has_operation.Goals as goal

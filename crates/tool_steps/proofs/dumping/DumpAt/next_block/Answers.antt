@@ -1,4 +1,4 @@
-use Rattle.std.proofs.Common.{◌≡◌, suc, ◌+◌, ◌-◌, ◌≤◌, min, refl, sym, arith}
+use Rattle.std.proofs.Common.{◌≡◌, suc, ◌+◌, ◌-◌, min, refl, sym, arith}
 use Rattle.nand_model.proofs.Bounds.{pages-le, pages-some}
 use Rattle.tool_steps.specs.declared.dumping.DumpAt.{DumpAt}
 use Rattle.tool_steps.proofs.Dumps.{later_left-next}

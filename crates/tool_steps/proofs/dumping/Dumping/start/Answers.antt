@@ -1,10 +1,10 @@
-use Rattle.std.proofs.Common.{◌≡◌, suc, ◌+◌, ◌-◌, ◌*◌, ◌/◌, ◌%◌, ◌<◌, ◌≤◌, ℕ, List, min, refl, sym, ap, ◌∙◌, arith}
+use Rattle.std.proofs.Common.{◌≡◌, suc, ◌+◌, ◌-◌, ◌*◌, ◌/◌, ◌%◌, ◌<◌, ◌≤◌, ℕ, min, refl, sym, ap, ◌∙◌, arith}
 use Rattle.std.proofs.Math.Nat.{div-le_self, mod-lt}
 use Rattle.nand_model.proofs.Bounds.{pages-le, pages-some}
 use Rattle.nand_model.specs.declared.geometry.Geometry.{Geometry}
 use Rattle.command_model.specs.Runnable.{DumpsPages}
 use Rattle.command_model.specs.Command.{blocks_touched, dump_blocks}
-use Rattle.tool_steps.specs.Dumping.{counts_with, dump_mode}
+use Rattle.tool_steps.specs.Dumping.{dump_mode}
 use Rattle.tool_steps.specs.declared.dumping.Called.{Called}
 use Rattle.tool_steps.specs.declared.dumping.DumpAt.{DumpAt}
 use Rattle.tool_steps.proofs.Dumps.{first_block}
@@ -81,8 +81,8 @@ returns c =
     let at : DumpAt = first_at a.g.now a.called (a.off / c.from.result) c.pages_in_range-pages.result c.min-here.result
     (fits_in a.g.now a.blocks a.off a.len c.from.result c.pages_in_range-pages.result c.requires c.from.ensures c.pages_in_range-pages.ensures.few)
     c.pages_in_range-pages.ensures.some c.min-here.ensures in
-    c.first.ensures a.g.now c.in_ok-filled.field-0
-    ∙ sym (first_block a.g.now at c.pages_in_range-pages.result (c.args.off / c.from.result) c.in_ok-filled.field-0 c.pages_in_range-pages.ensures.some refl refl here left)
+    c.first.ensures a.g.now c.in_ok-empty_dump.field-0
+    ∙ sym (first_block a.g.now at c.pages_in_range-pages.result (c.args.off / c.from.result) c.in_ok-empty_dump.field-0 c.pages_in_range-pages.ensures.some refl refl here left)
     ∙ (λ i. dump_blocks a.g.now (dump_mode c.args.called)
     (blocks_touched a.g.now (c.pages_in_range-pages.ensures.pages i) (c.args.off / c.from.ensures i)) (c.pages_in_range-pages.ensures.pages i)
-    (c.args.off / c.from.ensures i) (record { pages = 0; bad = 0; corrected = 0; failed = 0; dump = c.in_ok-filled.ensures i }))
+    (c.args.off / c.from.ensures i) (record { pages = 0; bad = 0; corrected = 0; failed = 0; dump = c.in_ok-empty_dump.ensures i }))

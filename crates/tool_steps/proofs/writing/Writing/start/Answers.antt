@@ -1,7 +1,7 @@
-use Rattle.std.proofs.Common.{◌≡◌, ℕ, suc, ◌+◌, ◌-◌, ◌*◌, ◌/◌, ◌%◌, ◌<◌, ◌≤◌, ◌++◌, length, replicate, ap, ◌∙◌, sym, arith}
+use Rattle.std.proofs.Common.{◌≡◌, ℕ, suc, ◌+◌, ◌-◌, ◌*◌, ◌/◌, ◌%◌, ◌<◌, ◌++◌, length, replicate, ap, ◌∙◌, sym, arith}
 use Rattle.std.proofs.Math.Nat.{mod-lt}
 use Rattle.nand_model.proofs.Bounds.{pages-le, pages-some}
-use Rattle.command_model.specs.Command.{block_size, unit_count, unit_size}
+use Rattle.command_model.specs.Command.{unit_size}
 use Rattle.tool_steps.proofs.Sizes.{block_of_offset-lt, unit_count-few, unit_size-low}
 use Rattle.tool_steps.proofs.Writes.{write_starts}
 use Rattle.tool_steps.proofs.writing.Writing.start.Goals as goal
