@@ -11,19 +11,15 @@ use Rattle.nand_model.specs.declared.words.Op.{Op}
 use Rattle.nand_model.specs.declared.words.Op.TheVariants.{Read, RawRead, Erase}
 use Rattle.nand_model.specs.declared.words.Reply.{Reply}
 use Rattle.nand_model.specs.declared.words.Reply.TheVariants.{Done, BadBlock, MarkerByte, ProgramFailed, EraseFailed}
-use Rattle.command_model.specs.Scripts.{Script, End, Ask, is_done, says_bad, one_if, unit_size}
+use Rattle.command_model.specs.Scripts.{Script, Ask, is_done, says_bad, one_if, unit_size}
 use Rattle.command_model.specs.FlashErase.{erase_blocks}
 use Rattle.command_model.specs.NandWrite.{WriteMode, WriteCounts, units_of, write_unit, after_write, write_pages, write_blocks}
 use Rattle.command_model.specs.NandDump.{DumpMode, DumpCounts, is_dump_bad, dump_pages, dump_block, dump_blocks}
 use Rattle.command_model.specs.NandTest.{TestMode, TestCounts, read_bodies, compare_bodies, after_change, write_bodies, pass_body, kept_body, page_at, test_worn, test_change, test_restore, test_rewrite, test_block, test_blocks, test_passes}
 use Rattle.command_model.specs.Command.{script_of}
 use Rattle.run_model.specs.Survival.{WritesAPage}
+use Rattle.headline_laws.specs.Bodies.{WritesBodies}
 use Rattle.headline_laws.proofs.Numbers.{length-numbers}
-
--- each write that a script asks for has a body of one page
-abbrev pub WritesBodies : Geometry → Script → Type 0
-WritesBodies g (End outcome) = ⊤
-WritesBodies g (Ask op go_on) = WritesAPage g op × ((reply : Reply) → WritesBodies g (go_on reply))
 
 -- units that have at least a body
 abbrev AreLong : Geometry → List (List ℕ) → Type 0

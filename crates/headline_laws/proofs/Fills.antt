@@ -21,7 +21,8 @@ use Rattle.run_model.specs.History.{LastChips, is_chip, last_after, notes_of_chi
 use Rattle.run_model.specs.Run.{AreInOrder}
 use Rattle.run_model.specs.Survival.{WritesAPage}
 use Rattle.crash_laws.specs.Marked.{WritesFill}
-use Rattle.headline_laws.proofs.Bodies.{WritesBodies, bodies_whole}
+use Rattle.headline_laws.specs.Bodies.{WritesBodies}
+use Rattle.headline_laws.proofs.Bodies.{bodies_whole}
 
 -- a script that has got some replies still writes whole bodies, and asks its own device
 still_writes : (g : Geometry) (replies : List Reply) (script : Script) → WritesBodies g script → WritesBodies g (after_replies replies script)

@@ -3,7 +3,9 @@ pub mod Parts
 pub mod Turns
 pub mod Replays
 pub mod Bodies
+pub mod TableBlocks
 pub mod Histories
 pub mod Fills
 pub mod Marks
 pub mod Sizes
+pub mod Reports

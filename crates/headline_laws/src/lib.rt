@@ -2,21 +2,31 @@
 //! controllers and boots.
 #![tactic(auto)]
 
-ghost use Rattle.std.specs.Prelude.{◌≡◌, ℕ, List, ◌++◌, ◌∷◌, [], length, map};
+ghost use Rattle.std.specs.Prelude.{◌≡◌, ℕ, List, ◌++◌, ◌∷◌, [], length, map, true};
 ghost use Rattle.nand_model.specs.Chip.{ChipState, SimFaults, sim_faults};
+ghost use Rattle.nand_model.specs.declared.geometry.Geometry.{Geometry};
+ghost use Rattle.nand_model.specs.declared.words.Command.{Command};
 ghost use Rattle.run_model.specs.Course.{Course};
+ghost use Rattle.run_model.specs.Run.{HasTableBlocks};
+ghost use Rattle.command_model.specs.Command.{script_of};
 ghost use Rattle.command_model.specs.Boot.{AreAscending};
 ghost use Rattle.plan_model.specs.Plan.{BootPlan, ChipPlan, PlanData, boot_part, new_chips};
+ghost use Rattle.plan_grammar.specs.Hardware.{leaves_table_blocks};
+ghost use Rattle.report_model.specs.Report.{report_text};
 ghost use Rattle.headline_model.specs.Headline.{
   AreReplay,
   AreTrueHistories,
   Courses,
+  IsReplayOf,
+  IsReportOfRun,
   IsRun,
   KeepMarks,
+  notes_of_run,
   replay_turns,
   starts_at,
 };
 ghost use Rattle.run_laws.specs.Replay.{IsReplayed, rounds_after, session_numbers};
+ghost use Rattle.headline_laws.specs.Bodies.{WritesBodies};
 ghost use Rattle.headline_laws.specs.Replays.{
   AreReplaysOfAll,
   AreReplaysOfBoots,
@@ -78,6 +88,19 @@ pub fn marks_are_kept()
         IsRun plan turns courses → KeepMarks plan courses }
 {}
 
+/// Whatever the replies, a command writes bodies of one page alone: so nothing that it writes
+/// shifts a byte of parity onto a marker.
+pub fn commands_write_whole_bodies()
+    ensures { (g : Geometry) (command : Command) → WritesBodies g (script_of g command) }
+{}
+
+/// The rule of plans on bad blocks is what the laws of marks ask of a chip: with tables, at most
+/// two of its last four blocks are factory-bad.
+pub fn plans_leave_table_blocks()
+    ensures { (g : Geometry) (bad : List ℕ) → leaves_table_blocks g bad ≡ true →
+        HasTableBlocks g bad }
+{}
+
 /// Each boot of a controller's replays begins with chips of the plan's sizes.
 pub fn sizes_stay()
     ensures { (plan : PlanData) (c : ℕ) (chips : List ChipPlan) (boots : List BootPlan)
@@ -85,6 +108,21 @@ pub fn sizes_stay()
         AreReplaysOfBoots plan c chips (new_chips chips) boots courses →
         map (λ (s : ChipState SimFaults). s.geometry) (starts_at (new_chips chips) courses n)
         ≡ map (λ (chip : ChipPlan). chip.geometry) chips }
+{}
+
+/// The report of a plan's replay says all of the headline: it is that of the only replay, its
+/// histories are true and the marks are kept. So does the report of any legal run. A plan has one
+/// report of its replay.
+pub fn reports_are_whole()
+    ensures replay { (plan : PlanData) (courses : Courses) (text : List ℕ) →
+        AreReplay plan courses → text ≡ report_text plan (notes_of_run plan courses) →
+        IsReplayOf plan text }
+    ensures run { (plan : PlanData) (turns : List (List (List ℕ))) (courses : Courses)
+        (text : List ℕ) →
+        IsRun plan turns courses → text ≡ report_text plan (notes_of_run plan courses) →
+        IsReportOfRun plan text }
+    ensures one { (plan : PlanData) (text other : List ℕ) → IsReplayOf plan text →
+        IsReplayOf plan other → other ≡ text }
 {}
 
 /// The numbers of a controller's sessions ascend in each boot.

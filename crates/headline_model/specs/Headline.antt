@@ -91,9 +91,9 @@ AreTrueHistories plan courses =
     (c : ℕ) (chips : List ChipPlan) (own : List (Course SimFaults)) →
     slice_get plan.controllers c ≡ Some chips → slice_get courses c ≡ Some own → IsTrueHistory plan c chips own
 
--- (Not proved yet of plans.) The third part: after any cut, rescanning shows bad what was
--- acknowledged, and nothing whose marking had not begun; and at each moment of each boot one whole
--- copy of a table stays, and two whole copies hold the table in memory.
+-- the third part: after any cut, rescanning shows bad what was acknowledged, and nothing whose
+-- marking had not begun; and at each moment of each boot one whole copy of a table stays, and two
+-- whole copies hold the table in memory
 pub record KeepsMarks (plan : PlanData) (c : ℕ) (chips : List ChipPlan) (own : List (Course SimFaults)) : Type 0 where
   pub marks : (k : ℕ) (chip : ChipPlan) → slice_get chips k ≡ Some chip
       → MarksSurvive (devices_of plan c chips) k chip.geometry chip.bad own
@@ -105,7 +105,7 @@ pub record KeepsMarks (plan : PlanData) (c : ℕ) (chips : List ChipPlan) (own :
       → WholeCopiesHoldTheTable sim_faults k chip.geometry chip.bad (take n own) boot
       (starts_at (new_chips chips) own n)
 
--- (Not proved yet of plans.) The same of each controller.
+-- the same of each controller
 abbrev pub KeepMarks : PlanData → Courses → Type 0
 KeepMarks plan courses =
     (c : ℕ) (chips : List ChipPlan) (own : List (Course SimFaults)) →
@@ -137,20 +137,24 @@ pub record AreReplay (plan : PlanData) (courses : Courses) : Type 0 where
   pub rounds : ℕ
   pub run : IsRun plan (all_replay_turns plan rounds) courses
 
--- the text is the report of the plan's replay; the plan has no other replay
+-- the text is the report of the plan's replay, with all three parts of the headline; the plan has
+-- no other replay
 pub record IsReplayOf (plan : PlanData) (text : List ℕ) : Type 0 where
   pub courses : Courses
   pub replay : AreReplay plan courses
   pub only : (other : Courses) → AreReplay plan other → other ≡ courses
   pub histories : AreTrueHistories plan courses
+  pub marks : KeepMarks plan courses
   pub printed : text ≡ report_text plan (notes_of_run plan courses)
 
--- the text is the report of a run of the plan, whichever turns the threads took
+-- the text is the report of a run of the plan, whichever turns the threads took, with all three
+-- parts
 pub record IsReportOfRun (plan : PlanData) (text : List ℕ) : Type 0 where
   pub turns : List (List (List ℕ))
   pub courses : Courses
   pub run : IsRun plan turns courses
   pub histories : AreTrueHistories plan courses
+  pub marks : KeepMarks plan courses
   pub printed : text ≡ report_text plan (notes_of_run plan courses)
 
 -- a report is legal where it is that of a legal run of the plan

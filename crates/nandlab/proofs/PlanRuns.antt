@@ -42,11 +42,11 @@ use Rattle.ctl_core.specs.Start.{HasSession}
 use Rattle.ctl_core.proofs.LastStates.{mapped_push}
 use Rattle.ctl_core.proofs.Sessions.{one_number_each}
 use Rattle.session_run.specs.Replay.{IsReplayed, rounds_after, session_numbers}
-use Rattle.run_laws.proofs.Once.{replayed_once}
+use Rattle.headline_laws.proofs.Reports.{replay_reported}
 use Rattle.headline_model.specs.Headline.{IsReplayOf}
 use Rattle.nandlab.specs.Ends.{end_by, ends_by, stats_by, stats_of}
 use Rattle.nandlab.specs.Run.{EndsRun}
-use Rattle.nandlab.proofs.OneBoot.{IsOwnCourse, OwnHistory, one_history, one_replay, one_run}
+use Rattle.nandlab.proofs.OneBoot.{IsOwnCourse, one_run}
 use Rattle.nandlab.proofs.PlanTurns.{numbered, replay_turns-rounds}
 
 number_there : (m n k : ℕ) → k < n → slice_get (numbers_from m n) k ≡ Some (m + k)
@@ -84,12 +84,6 @@ module _ (plan : PlanLines) (notes : List Note) where
   ends_are =
       ends_from 0 plan.sessions
       ∙ ap (λ sizes. ends_by sizes 0 (boot_of plan).sessions notes) (same_sizes plan)
-
--- the new chips of a plan are fresh
-chips_fresh : (chips : List ChipLines) (k : ℕ) (s : ChipState SimFaults) → slice_get (new_chips (map chip_of chips)) k ≡ Some s → IsFresh s
-chips_fresh [] k s h = absurd (none-some s h)
-chips_fresh (chip ∷ chips) zero s h = subst IsFresh (same_Some (new_chip (geometry_of chip) [] []) s h) (new_fresh (geometry_of chip) [])
-chips_fresh (chip ∷ chips) (suc k) s h = chips_fresh chips k s h
 
 -- each number from m on stands once among n of them
 none_before : (s m n : ℕ) → s < m → count_by (λ k. k == s) (numbers_from m n) ≡ 0
@@ -134,20 +128,10 @@ once plan session commands has =
     stands_once session 0 (length plan.sessions) within.0 within.1
 
 -- what the run of a plan leaves
-module _ (plan : PlanLines) (notes : List Note) (ends : List EndOfSession) (stats : List (ℕ × Stats)) (legal : IsPlan plan) (ready : CanStart (the_boot plan) (the_chips plan))
+module _ (plan : PlanLines) (notes : List Note) (ends : List EndOfSession) (stats : List (ℕ × Stats)) (legal : IsPlan plan)
     (run : EndsRun plan notes ends stats) where
-  one : HaveOneNumberEach (the_boot plan).sessions
-  one = one_number_each (the_boot plan).sessions ready.ascending
-
   abbrev turns : List ℕ
   turns = rounds_after plan.schedule (session_numbers (the_boot plan)) run.replayed.rounds
-
-  complete_notes : AreComplete (the_boot plan) (the_chips plan) run.course.notes
-  complete_notes =
-      subst (λ (course : Course SimFaults). AreComplete (the_boot plan) (the_chips plan) course.notes) (sym run.replayed.steps)
-      ((faithful sim_faults (the_boot plan) (the_chips plan) run.replayed.attaches turns).complete one
-      (ap is_over (sym run.replayed.steps) ∙ run.replayed.over)
-      (ap (λ (course : Course SimFaults). course.dark) (sym run.replayed.steps) ∙ run.lit))
 
   -- how the sessions ended
   pub run_ends : ends ≡ ends_by (geometry_in (plan_of plan) 0) 0 (boot_of plan).sessions notes
@@ -171,15 +155,6 @@ module _ (plan : PlanLines) (notes : List Note) (ends : List EndOfSession) (stat
       ∙ ap (λ devices. stats_by 0 devices (length plan.sessions) run.course.notes) (length-parts_by 0 plan.chips)
       ∙ ap (stats_by 0 (length plan.chips) (length plan.sessions)) (sym run.notes_are)
 
-  as_replayed : (course : Course SimFaults) (rounds : ℕ) → IsOwnCourse plan rounds course
-      → IsReplayed sim_faults (the_boot plan) (the_chips plan) plan.schedule course
-  as_replayed course rounds whole = record {
-    attaches = whole.attaches;
-    rounds = rounds;
-    steps = whole.steps ∙ ap (course_after sim_faults (the_boot plan) (the_chips plan) whole.attaches) (replay_turns-rounds plan rounds legal.schedule);
-    over = whole.over;
-  }
-
   own_course : IsOwnCourse plan run.replayed.rounds run.course
   own_course = record {
     attaches = run.replayed.attaches;
@@ -188,34 +163,12 @@ module _ (plan : PlanLines) (notes : List Note) (ends : List EndOfSession) (stat
     over = run.replayed.over;
   }
 
-  own_history : OwnHistory plan run.course
-  own_history = subst (OwnHistory plan) (sym run.replayed.steps) (record {
-    lives = found.lives;
-    log = found.log;
-    counted = found.counted;
-    of_log = found.of_log;
-    one_thread = found.one_thread;
-    reads_back = λ k chip life at has. read.reads_back k chip life at (chips_fresh plan.chips k chip at) has;
-    in_order = found.in_order one;
-    complete = subst (λ (course : Course SimFaults). AreComplete (the_boot plan) (the_chips plan) course.notes) run.replayed.steps complete_notes;
-  })
-    where
-      read : CoursesReadBack sim_faults (the_boot plan) (the_chips plan) run.replayed.attaches turns
-      read = course_reads sim_faults (the_boot plan) (the_chips plan) run.replayed.attaches turns
-
-      found : CoursesAreFaithful sim_faults (the_boot plan) (the_chips plan) run.replayed.attaches turns
-      found = read.faithful
-
   -- the text of these notes is the report of the plan's replay
   pub run_report : (text : List ℕ) → text ≡ report_text (plan_of plan) ((notes ∷ []) ∷ []) → IsReplayOf (plan_of plan) text
-  run_report text printed = record {
-    courses = (run.course ∷ []) ∷ [];
-    replay = record { rounds = run.replayed.rounds; run = one_run plan run.replayed.rounds run.course own_course };
-    only = one_replay plan run.course (λ other rounds whole. replayed_once sim_faults (the_boot plan) (the_chips plan) one plan.schedule run.course other
-        run.replayed (as_replayed other rounds whole));
-    histories = one_history plan run.course own_history;
-    printed = printed ∙ ap (λ ns. report_text (plan_of plan) ((ns ∷ []) ∷ [])) run.notes_are;
-  }
+  run_report text printed =
+      replay_reported (plan_of plan) ((run.course ∷ []) ∷ []) text
+      (record { rounds = run.replayed.rounds; run = one_run plan run.replayed.rounds run.course own_course })
+      (printed ∙ ap (λ ns. report_text (plan_of plan) ((ns ∷ []) ∷ [])) run.notes_are)
 
 -- one more new chip
 pub one_flash_more : {A : Type 0} (state : A → ChipState SimFaults) (flashes : List A) (flash : A) (chips : List ChipLines) (n : ℕ) (chip : ChipLines)

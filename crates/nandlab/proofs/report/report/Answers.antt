@@ -8,18 +8,18 @@ use Rattle.nandlab.proofs.report.report.Goals as goal
 
 pub boot_report-requires-clause-ends : goal.boot_report-requires-clause-ends
 boot_report-requires-clause-ends c =
-    run_ends c.args.plan.now c.in_ok-ended.ended.notes.notes c.in_ok-ended.ended.outcomes c.in_ok-ended.ended.stats c.requires.legal c.requires.ready
+    run_ends c.args.plan.now c.in_ok-ended.ended.notes.notes c.in_ok-ended.ended.outcomes c.in_ok-ended.ended.stats c.requires.legal
     c.in_ok-ended.ensures
 
 pub boot_report-requires-clause-stats : goal.boot_report-requires-clause-stats
 boot_report-requires-clause-stats c =
-    run_stats c.args.plan.now c.in_ok-ended.ended.notes.notes c.in_ok-ended.ended.outcomes c.in_ok-ended.ended.stats c.requires.legal c.requires.ready
+    run_stats c.args.plan.now c.in_ok-ended.ended.notes.notes c.in_ok-ended.ended.outcomes c.in_ok-ended.ended.stats c.requires.legal
     c.in_ok-ended.ensures
 
 pub returns : goal.returns
 returns c =
     IfOk-weaker c.boot_report.result (λ text. text ≡ report_text (plan_of c.args.plan.now) ((c.in_ok-ended.ended.notes.notes ∷ []) ∷ []))
     (IsReplayOf (plan_of c.args.plan.now))
-    (run_report c.args.plan.now c.in_ok-ended.ended.notes.notes c.in_ok-ended.ended.outcomes c.in_ok-ended.ended.stats c.requires.legal c.requires.ready
+    (run_report c.args.plan.now c.in_ok-ended.ended.notes.notes c.in_ok-ended.ended.outcomes c.in_ok-ended.ended.stats c.requires.legal
     c.in_ok-ended.ensures)
     c.boot_report.ensures
