@@ -1,3 +1,4 @@
+pub mod Idle
 pub mod Scripts
 pub mod Steps
 pub mod Sets

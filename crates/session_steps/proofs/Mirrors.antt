@@ -12,7 +12,7 @@ use Rattle.nand_model.specs.declared.words.Reply.{Reply}
 use Rattle.command_model.specs.Command.{Script, End, Ask, Next, Do, Over, next_in, next_step, script_of}
 use Rattle.command_model.specs.Session.{SessionRun, with_reply, next_op_of, is_finished}
 use Rattle.command_model.specs.Runnable.{Fits}
-use Rattle.tool_steps.specs.Steps.{after_last, step_of, is_over}
+use Rattle.tool_steps.specs.Steps.{after_last, asks_something, step_of, is_over}
 use Rattle.tool_steps.specs.declared.step.Step.{Step}
 use Rattle.tool_steps.specs.declared.step.Step.TheVariants.{Done as Finished}
 use Rattle.tool_steps.proofs.Asks.{asks_first}
@@ -21,18 +21,19 @@ use Rattle.tool_steps.specs.declared.tool.Tool.{Tool}
 use Rattle.session_steps.specs.declared.session.Session.{Session}
 use Rattle.session_steps.specs.Standing.{Standing, standing, standing_alone, reply_in, reply_at, script_after, outcomes_by, commands_by, op_asked, put_down, begun, IsBetween, First, IsAsking, IsWaiting}
 use Rattle.session_steps.specs.Mirrors.{CanAllRun, IsPlaced, Shows, Mirrors}
+use Rattle.session_steps.proofs.Idle.{next_asks}
 use Rattle.session_steps.proofs.Steps.{first_is, shows_put_down, shows_begun, shows_reply, shows_op}
 
--- a first step that is no operation is none of a command that can be run
-pub starts_with_op : (g : Geometry) (command : Command) (script : Script) (step : Step) → Fits g command → script ≡ script_of g command
+-- a first step that is no operation is none of a command that asks for something
+pub starts_with_op : (g : Geometry) (command : Command) (script : Script) (step : Step) → Fits g command → asks_something command ≡ true → script ≡ script_of g command
     → step ≡ step_of (next_in script) → step ≡ Finished → ⊥
-starts_with_op g command script step runs e s f = by_next (next_in script) (ap next_in e) s
+starts_with_op g command script step runs asks e s f = by_next (next_in script) (ap next_in e) s
   where
     by_next : (next : Next) → next ≡ next_step g command [] → step ≡ step_of next → ⊥
     by_next (Do op) n s = cc
     by_next (Over outcome) n s =
         let over : true ≡ is_over (next_step g command []) = ap is_over n in
-        let not_over : is_over (next_step g command []) ≡ false = asks_first g command runs in
+        let not_over : is_over (next_step g command []) ≡ false = asks_first g command runs asks in
         cc
 
 -- a session with no last reply stands alone
@@ -64,17 +65,37 @@ between None e = tt
 between (Some (End outcome)) e = tt
 between (Some (Ask op go_on)) e = cc
 
+-- where a command waits for a reply, the outcomes of the finished ones are all put down
+pub asked_kept : (commands : List Command) (st alone : Standing) (o : Option Op) → alone ≡ st → o ≡ op_asked st.script → is_some o ≡ true
+    → alone.outcomes ≡ outcomes_by commands st
+asked_kept commands st alone o same e some = ap (λ (x : Standing). x.outcomes) same ∙ by_script st.script e
+  where
+    by_script : (script : Option Script) → o ≡ op_asked script → st.outcomes ≡ outcomes_by commands (record { number = st.number; script = script; outcomes = st.outcomes })
+    by_script None e = cc
+    by_script (Some (End outcome)) e = cc
+    by_script (Some (Ask op go_on)) e = refl
+
 -- the place of the next command is the number of those that are finished
-place_of : (st alone put : Standing) (place : ℕ) → alone ≡ st → put ≡ put_down alone → place ≡ length put.outcomes → place ≡ length (outcomes_by st)
-place_of st alone put place a p n = n ∙ ap (λ (x : Standing). length x.outcomes) p ∙ ap (λ (x : Standing). length (outcomes_by x)) a
+place_of : (commands : List Command) (st alone put : Standing) (place : ℕ) → alone ≡ st → put ≡ put_down commands alone → place ≡ length put.outcomes
+    → place ≡ length (outcomes_by commands st)
+place_of commands st alone put place a p n = n ∙ ap (λ (x : Standing). length x.outcomes) p ∙ ap (λ (x : Standing). length (outcomes_by commands x)) a
 
 -- the next command, as it is looked up after the last one is put down
 pub next_there : (commands : List Command) (P : Command → Type 0) (st alone put : Standing) (place : ℕ) (command : Command) → alone ≡ st
-    → put ≡ put_down alone → place ≡ length put.outcomes
+    → put ≡ put_down commands alone → place ≡ length put.outcomes
     → First P (commands_by commands st) → slice_get commands place ≡ Some command → P command
 next_there commands P st alone put place command a p n first there =
-    (first_is P (length (outcomes_by st)) commands command first (subst (λ (k : ℕ). slice_get commands k ≡ Some command)
-    (place_of st alone put place a p n) there)).2
+    (first_is P (length (outcomes_by commands st)) commands command first (subst (λ (k : ℕ). slice_get commands k ≡ Some command)
+    (place_of commands st alone put place a p n) there)).2
+
+-- the next command asks for something
+pub next_asking : (commands : List Command) (P : Command → Type 0) (st alone put : Standing) (place : ℕ) (command : Command) → alone ≡ st
+    → put ≡ put_down commands alone → place ≡ length put.outcomes
+    → op_asked st.script ≡ None → First P (commands_by commands st) → slice_get commands place ≡ Some command → asks_something command ≡ true
+next_asking commands P st alone put place command a p n none first there =
+    let found = first_is P (length (outcomes_by commands st)) commands command first (subst (λ (k : ℕ). slice_get commands k ≡ Some command)
+    (place_of commands st alone put place a p n) there) in
+    next_asks commands st command found.0 (between st.script none) found.1
 
 -- an item stays at its place where others are added
 get_before : (notes more : List Note) (place : ℕ) → place < length notes → slice_get (notes ++ more) place ≡ slice_get notes place
@@ -133,20 +154,20 @@ module _ (sizes : Command → Geometry) (commands : List Command) where
   }
 
   -- the next command is begun after the last one is put down
-  pub next_begun : (st alone put : Standing) (run : SessionRun) (g : Geometry) (place : ℕ) (command : Command) → alone ≡ st → put ≡ put_down alone
+  pub next_begun : (st alone put : Standing) (run : SessionRun) (g : Geometry) (place : ℕ) (command : Command) → alone ≡ st → put ≡ put_down commands alone
       → place ≡ length put.outcomes
       → Shows sizes commands st run → op_asked st.script ≡ None → First (λ c. sizes c ≡ g) run.commands → Fits g command
       → slice_get commands place ≡ Some command
       → Shows sizes commands (begun (script_of g command) put) run
   next_begun st alone put run g place command a p n shows none sized runs there =
-      subst (λ (x : Standing). Shows sizes commands (begun (script_of g command) x) run) (sym (p ∙ ap put_down a))
+      subst (λ (x : Standing). Shows sizes commands (begun (script_of g command) x) run) (sym (p ∙ ap (put_down commands) a))
       (shows_begun sizes commands st run g command shows (between st.script none) sized runs
-      (subst (λ (k : ℕ). slice_get commands k ≡ Some command) (place_of st alone put place a p n) there))
+      (subst (λ (k : ℕ). slice_get commands k ≡ Some command) (place_of commands st alone put place a p n) there))
 
   -- the session mirrors the same run whether or not its next command was begun
   pub next_mirrors : {A E : Type 0} (result : Result A E) (notes : List Note) (old mid new : Session) (run : SessionRun) (g : Geometry) (place : ℕ)
       (command : Command) (alone : Standing)
-      → Mirrors sizes commands notes old run → alone ≡ standing notes old → standing_alone mid ≡ put_down alone → place ≡ length mid.outcomes.items
+      → Mirrors sizes commands notes old run → alone ≡ standing notes old → standing_alone mid ≡ put_down commands alone → place ≡ length mid.outcomes.items
       → op_asked (standing notes old).script ≡ None → First (λ c. sizes c ≡ g) run.commands → Fits g command → slice_get commands place ≡ Some command
       → OnOk result (standing_alone new ≡ begun (script_of g command) (standing_alone mid)) → OnErr result (standing_alone new ≡ standing_alone mid)
       → new.last ≡ None
@@ -155,13 +176,13 @@ module _ (sizes : Command → Geometry) (commands : List Command) where
       mirrors_alone notes new run mirrors.runnable last (subst (λ (st : Standing). Shows sizes commands st run) (sym ok)
       (next_begun (standing notes old) alone (standing_alone mid) run g place command a p n mirrors.shows none sized runs there))
   next_mirrors (Err x) notes old mid new run g place command alone mirrors a p n none sized runs there ok err last =
-      mirrors_alone notes new run mirrors.runnable last (subst (λ (st : Standing). Shows sizes commands st run) (sym (err ∙ p ∙ ap put_down a))
+      mirrors_alone notes new run mirrors.runnable last (subst (λ (st : Standing). Shows sizes commands st run) (sym (err ∙ p ∙ ap (put_down commands) a))
       (shows_put_down sizes commands (standing notes old) run (between (standing notes old).script none) mirrors.shows))
 
   -- the commands that are left can be run
   pub left_runs : (notes : List Note) (s : Session) (run : SessionRun) → Mirrors sizes commands notes s run → CanAllRun sizes run.commands
   left_runs notes s run mirrors =
-      subst (CanAllRun sizes) (sym mirrors.shows.left) (All-drop (λ c. Fits (sizes c) c) (length (outcomes_by (standing notes s))) commands mirrors.runnable)
+      subst (CanAllRun sizes) (sym mirrors.shows.left) (All-drop (λ c. Fits (sizes c) c) (length (outcomes_by commands (standing notes s))) commands mirrors.runnable)
 
   -- the next command can be run with its own sizes
   pub next_runs : (notes : List Note) (s : Session) (run : SessionRun) (g : Geometry) → Mirrors sizes commands notes s run
@@ -186,7 +207,7 @@ module _ (sizes : Command → Geometry) (commands : List Command) where
 -- the operation with which the next command begins is the next one of the session of the course
 pub next_op_if : {E : Type 0} (result : Result Op E) (commands : List Command) (notes : List Note) (old : Session) (alone put : Standing) (g : Geometry)
     (place : ℕ) (command : Command)
-    → alone ≡ standing notes old → put ≡ put_down alone → place ≡ length put.outcomes
+    → alone ≡ standing notes old → put ≡ put_down commands alone → place ≡ length put.outcomes
     → op_asked (standing notes old).script ≡ None → Fits g command → slice_get commands place ≡ Some command
     → IfOk result (λ op. op_asked (Some (script_of g command)) ≡ Some op)
     → IfOk result (λ op. (sizes : Command → Geometry) (run : SessionRun) → Mirrors sizes commands notes old run → First (λ c. sizes c ≡ g) run.commands

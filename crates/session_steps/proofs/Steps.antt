@@ -1,5 +1,5 @@
 -- The steps of a session, and of the session of a course that it mirrors.
-use Rattle.std.proofs.Common.{◌≡◌, ℕ, zero, suc, true, false, List, [], ◌∷◌, ◌++◌, length, drop, Option, Some, None, refl, sym, ap, ◌∙◌, subst, arith, append-nil, length-append, slice_get}
+use Rattle.std.proofs.Common.{◌≡◌, ℕ, zero, suc, true, false, List, [], ◌∷◌, ◌++◌, length, drop, Option, Some, None, refl, sym, ap, ◌∙◌, subst, arith, length-append, slice_get}
 use Rattle.std.proofs.lemmas.List.Elements.{All-drop}
 use Rattle.nand_model.specs.declared.geometry.Geometry.{Geometry}
 use Rattle.nand_model.specs.declared.words.Command.{Command}
@@ -9,12 +9,13 @@ use Rattle.nand_model.specs.declared.words.Reply.{Reply}
 use Rattle.command_model.specs.Command.{Script, End, Ask, Over, next_in, next_step, after_replies, script_of}
 use Rattle.command_model.specs.Session.{SessionRun, without_finished, with_reply, next_op_of, op_of_next}
 use Rattle.command_model.specs.Runnable.{Fits}
-use Rattle.tool_steps.specs.Steps.{is_over}
+use Rattle.tool_steps.specs.Steps.{asks_something, is_over}
 use Rattle.tool_steps.proofs.Asks.{asks_first}
 use Rattle.tool_steps.proofs.Scripts.{after_replies-append}
 use Rattle.session_steps.specs.Standing.{Standing, outcomes_by, commands_by, op_asked, put_down, begun, IsBetween, First}
 use Rattle.session_steps.specs.Mirrors.{IsUnderWay, CanAllRun, Shows}
-use Rattle.session_steps.proofs.Scripts.{none_finished, not_finished, one_finished}
+use Rattle.session_steps.proofs.Idle.{next_asks, put_down-again}
+use Rattle.session_steps.proofs.Scripts.{not_finished, one_finished, settled}
 
 some_is : (x y : Command) → Some x ≡ Some y → x ≡ y
 some_is x y e = cc
@@ -34,22 +35,25 @@ module _ (sizes : Command → Geometry) (commands : List Command) where
   no_reply left replies (Some (End outcome)) h g = g
   no_reply left replies (Some (Ask op go_on)) h g = absurd h
 
-  -- an outcome is put down
-  pub shows_put_down : (st : Standing) (run : SessionRun) → IsBetween st.script → Shows sizes commands st run → Shows sizes commands (put_down st) run
-  shows_put_down st run h shows = record {
-    number = shows.number;
-    outcomes = shows.outcomes ∙ sym (append-nil (outcomes_by st));
-    left = shows.left ∙ ap (λ (os : List Outcome). drop (length os) commands) (sym (append-nil (outcomes_by st)));
-    goes_on = no_reply run.commands run.replies st.script h shows.goes_on;
-  }
+  -- the outcomes of all finished commands are put down
+  pub shows_put_down : (st : Standing) (run : SessionRun) → IsBetween st.script → Shows sizes commands st run
+      → Shows sizes commands (put_down commands st) run
+  shows_put_down st run h shows =
+      let again = put_down-again commands st h in
+      record {
+        number = shows.number;
+        outcomes = shows.outcomes ∙ sym again;
+        left = shows.left ∙ ap (λ (os : List Outcome). drop (length os) commands) (sym again);
+        goes_on = no_reply run.commands run.replies st.script h shows.goes_on;
+      }
 
-  -- the script of a command that can be run asks for an operation
-  script_asks : (g : Geometry) (command : Command) → Fits g command → (script : Script) → script_of g command ≡ script
+  -- the script of a command that asks for something asks for an operation
+  script_asks : (g : Geometry) (command : Command) → Fits g command → asks_something command ≡ true → (script : Script) → script_of g command ≡ script
       → (op : Op) × (go_on : Reply → Script) × (script ≡ Ask op go_on)
-  script_asks g command h (Ask op go_on) e = (op, go_on, refl)
-  script_asks g command h (End outcome) e =
+  script_asks g command h asks (Ask op go_on) e = (op, go_on, refl)
+  script_asks g command h asks (End outcome) e =
       let over : is_over (next_step g command []) ≡ true = ap (λ (s : Script). is_over (next_in s)) e in
-      absurd (true-not-false (sym over ∙ asks_first g command h))
+      absurd (true-not-false (sym over ∙ asks_first g command h asks))
     where
       true-not-false : true ≡ false → ⊥
       true-not-false e = cc
@@ -58,12 +62,12 @@ module _ (sizes : Command → Geometry) (commands : List Command) where
   pub shows_new : (number : ℕ) → CanAllRun sizes commands → Shows sizes commands (record { number = number; script = None; outcomes = [] })
       (without_finished sizes number commands [] [])
   shows_new number runnable = subst (Shows sizes commands (record { number = number; script = None; outcomes = [] }))
-      (sym (none_finished sizes number commands [] runnable))
+      (sym (settled sizes number commands [] runnable))
       (record { number = refl; outcomes = refl; left = refl; goes_on = refl })
 
   -- the first command is begun
   begins : (run : SessionRun) (number : ℕ) (outcomes : List Outcome) (command : Command) (rest : List Command) (op : Op) (go_on : Reply → Script)
-      → run.number ≡ number → run.outcomes ≡ outcomes ++ [] → run.commands ≡ drop (length (outcomes ++ [])) commands → run.replies ≡ []
+      → run.number ≡ number → run.outcomes ≡ outcomes → run.commands ≡ drop (length outcomes) commands → run.replies ≡ []
       → run.commands ≡ command ∷ rest
       → script_of (sizes command) command ≡ Ask op go_on
       → Shows sizes commands (record { number = number; script = Some (Ask op go_on); outcomes = outcomes }) run
@@ -77,16 +81,16 @@ module _ (sizes : Command → Geometry) (commands : List Command) where
 
   -- the next command is begun
   pub shows_begun : (st : Standing) (run : SessionRun) (g : Geometry) (command : Command) → Shows sizes commands st run → IsBetween st.script
-      → First (λ c. sizes c ≡ g) run.commands → Fits g command → slice_get commands (length (outcomes_by st)) ≡ Some command
-      → Shows sizes commands (begun (script_of g command) (put_down st)) run
+      → First (λ c. sizes c ≡ g) run.commands → Fits g command → slice_get commands (length (outcomes_by commands st)) ≡ Some command
+      → Shows sizes commands (begun (script_of g command) (put_down commands st)) run
   shows_begun st run g command shows h sized runs there =
       let sized_first : First (λ c. sizes c ≡ g) (commands_by commands st) = subst (First (λ c. sizes c ≡ g)) shows.left sized in
       let first : (rest : List Command) × (commands_by commands st ≡ command ∷ rest) × (sizes command ≡ g) =
-      first_is (λ c. sizes c ≡ g) (length (outcomes_by st)) commands command sized_first there in
-      let asks : (op : Op) × (go_on : Reply → Script) × (script_of g command ≡ Ask op go_on) = script_asks g command runs (script_of g command) refl in
-      let put : Shows sizes commands (put_down st) run = shows_put_down st run h shows in
-      subst (λ (script : Script). Shows sizes commands (begun script (put_down st)) run) (sym asks.2)
-      (begins run st.number (outcomes_by st) command first.0 asks.0 asks.1 put.number put.outcomes put.left put.goes_on (shows.left ∙ first.1)
+      first_is (λ c. sizes c ≡ g) (length (outcomes_by commands st)) commands command sized_first there in
+      let asks : (op : Op) × (go_on : Reply → Script) × (script_of g command ≡ Ask op go_on) = script_asks g command runs (next_asks commands st command first.0 h first.1) (script_of g command) refl in
+      subst (λ (script : Script). Shows sizes commands (begun script (put_down commands st)) run) (sym asks.2)
+      (begins run st.number (outcomes_by commands st) command first.0 asks.0 asks.1 shows.number shows.outcomes shows.left
+      (no_reply run.commands run.replies st.script h shows.goes_on) (shows.left ∙ first.1)
       (ap (λ (k : Geometry). script_of k command) first.2 ∙ asks.2))
 
   -- the commands after the first one
@@ -101,25 +105,24 @@ module _ (sizes : Command → Geometry) (commands : List Command) where
 
   -- the reply ends the command
   reply_ends : (number : ℕ) (outcomes : List Outcome) (run : SessionRun) (reply : Reply) (command : Command) (rest : List Command) (outcome : Outcome)
-      → CanAllRun sizes commands → run.number ≡ number → run.outcomes ≡ outcomes ++ [] → command ∷ rest ≡ drop (length (outcomes ++ [])) commands
+      → CanAllRun sizes commands → run.number ≡ number → run.outcomes ≡ outcomes → command ∷ rest ≡ drop (length outcomes) commands
       → next_step (sizes command) command (run.replies ++ reply ∷ []) ≡ Over outcome
       → Shows sizes commands (at number outcomes (End outcome)) (without_finished sizes run.number (command ∷ rest) (run.replies ++ reply ∷ []) run.outcomes)
   reply_ends number outcomes run reply command rest outcome runnable n o l over =
-      let same : run.outcomes ≡ outcomes = o ∙ append-nil outcomes in
-      let one_more : suc (length (outcomes ++ [])) ≡ length (outcomes ++ outcome ∷ []) =
-      omega (arith, length-append outcomes [], length-append outcomes (outcome ∷ [])) in
+      let one_more : suc (length outcomes) ≡ length (outcomes ++ outcome ∷ []) = omega (arith, length-append outcomes (outcome ∷ [])) in
       let later : rest ≡ drop (length (outcomes ++ outcome ∷ [])) commands = drop_first _ commands command rest l ∙ ap (λ (k : ℕ). drop k commands) one_more in
-      let run_on : CanAllRun sizes rest = subst (CanAllRun sizes) (sym later) (All-drop (λ c. Fits (sizes c) c)
-      (length (outcomes ++ outcome ∷ [])) commands runnable) in
+      let run_on : CanAllRun sizes (drop (length (outcomes ++ outcome ∷ [])) commands) = All-drop (λ c. Fits (sizes c) c)
+      (length (outcomes ++ outcome ∷ [])) commands runnable in
       subst (Shows sizes commands (at number outcomes (End outcome)))
       (sym (one_finished sizes run.number command rest (run.replies ++ reply ∷ []) run.outcomes outcome over
-      ∙ none_finished sizes run.number rest (run.outcomes ++ outcome ∷ []) run_on))
-      (record { number = n; outcomes = ap (λ (os : List Outcome). os ++ outcome ∷ []) same; left = later; goes_on = refl })
+      ∙ (λ i. without_finished sizes run.number (later i) [] (o i ++ outcome ∷ []))
+      ∙ settled sizes run.number commands (outcomes ++ outcome ∷ []) run_on))
+      (record { number = n; outcomes = refl; left = refl; goes_on = refl })
 
   -- the command asks for more
   reply_goes_on : (number : ℕ) (outcomes : List Outcome) (run : SessionRun) (reply : Reply) (command : Command) (rest : List Command) (op : Op)
       (go_on : Reply → Script)
-      → run.number ≡ number → run.outcomes ≡ outcomes ++ [] → command ∷ rest ≡ drop (length (outcomes ++ [])) commands
+      → run.number ≡ number → run.outcomes ≡ outcomes → command ∷ rest ≡ drop (length outcomes) commands
       → Ask op go_on ≡ after_replies (run.replies ++ reply ∷ []) (script_of (sizes command) command)
       → Shows sizes commands (at number outcomes (Ask op go_on)) (without_finished sizes run.number (command ∷ rest) (run.replies ++ reply ∷ []) run.outcomes)
   reply_goes_on number outcomes run reply command rest op go_on n o l asks =

@@ -1,4 +1,4 @@
--- Commands that can be run ask for operations of their own device that a chip without tables takes.
+-- Commands that can be run ask for operations of their own device that a chip takes.
 use Rattle.std.proofs.Common.{◌≡◌, ◌≤◌, ℕ, zero, suc, ◌+◌, ◌-◌, ◌*◌, ◌/◌, ◌%◌, Bool, true, false, List, [], ◌∷◌, ◌++◌, length, take, drop, replicate, Some, sym, subst, arith, length-append, length-drop}
 use Rattle.std.specs.Prelude.{⊤, if◌then◌else◌, ◌==◌}
 use Rattle.std.proofs.lemmas.List.{length-replicate, length-take}
@@ -6,9 +6,9 @@ use Rattle.nand_model.specs.declared.geometry.Geometry.{Geometry}
 use Rattle.nand_model.specs.declared.words.Command.{Command}
 use Rattle.nand_model.specs.declared.words.Command.TheVariants.{FlashErase, NandWrite, NandDump, NandTest, MarkBad, IsBad as AskBad, Stats as AskStats}
 use Rattle.nand_model.specs.declared.words.Op.{Op}
-use Rattle.nand_model.specs.declared.words.Op.TheVariants.{Mark, RawRead, Read}
+use Rattle.nand_model.specs.declared.words.Op.TheVariants.{RawRead, Read}
 use Rattle.nand_model.specs.declared.words.Reply.{Reply}
-use Rattle.nand_model.specs.declared.words.Reply.TheVariants.{Done, BadBlock, MarkerByte, ProgramFailed}
+use Rattle.nand_model.specs.declared.words.Reply.TheVariants.{Done, BadBlock, MarkerByte, ProgramFailed, EraseFailed}
 use Rattle.nand_model.specs.Sizes.{parity_start}
 use Rattle.nand_model.specs.Partitions.{device_of, command_device}
 use Rattle.command_model.specs.Command.{Script, End, Ask, next_in, after_replies, script_of, erase_blocks, erase_and_mark, write_unit, write_pages, write_blocks, after_write, says_bad, is_dump_bad, unit_size, unit_count, units_of, count_or_rest, block_size, WriteMode, WriteCounts, DumpMode, DumpCounts, dump_pages, dump_block, dump_blocks}
@@ -16,7 +16,8 @@ use Rattle.command_model.specs.Session.{SessionRun, next_op_of, op_of_next}
 use Rattle.command_model.specs.Laws.{AsksOnly}
 use Rattle.command_model.proofs.Devices.{own_device}
 use Rattle.command_model.specs.Taken.{IsTaken}
-use Rattle.command_model.specs.Runnable.{AsksUnmarked, Fits}
+use Rattle.command_model.specs.NandTest.{TestMode, TestCounts, after_change, read_bodies, compare_bodies, write_bodies, kept_body, pass_body, test_worn, test_change, test_rewrite, test_block, test_blocks, test_passes}
+use Rattle.tool_steps.proofs.Numbered.{numbered-length}
 use Rattle.tool_steps.proofs.Scripts.{parity_start-low}
 use Rattle.session_steps.specs.Standing.{First}
 use Rattle.session_steps.specs.Mirrors.{CanAllRun}
@@ -83,11 +84,11 @@ unit_taken g m page unit long = by_mode m.raw m.oob long
       free_length = omega (arith, length-replicate {A = ℕ} (parity_start g - 2) 0xff, parity_start-low g);
     }
 
-module _ (g : Geometry) (m : WriteMode) (unmarked : m.mark ≡ false) where
+module _ (g : Geometry) (m : WriteMode) where
   erased_taken : (block : ℕ) (rest : Script) → AsksTaken g rest → AsksTaken g (erase_and_mark m block rest)
-  erased_taken block rest h = (tt, λ r. subst (λ b. AsksTaken g (if b then Ask (Mark m.dev block) (λ s. rest) else rest)) (sym unmarked) h)
+  erased_taken block rest h = (tt, λ r. either_taken g m.mark _ _ (tt, λ s. h) h)
 
-  -- nandwrite without marks
+  -- nandwrite
   pages_taken : (block : ℕ) (taken : List (List ℕ)) (c : WriteCounts) (next_block : List (List ℕ) → WriteCounts → Script)
       → ((us : List (List ℕ)) (d : WriteCounts) → AreLong (unit_size g m.oob) us → AsksTaken g (next_block us d)) → AreLong (unit_size g m.oob) taken
       → (in_block place : ℕ) (units : List (List ℕ)) → AreLong (unit_size g m.oob) units → AsksTaken g (write_pages g m block taken c next_block in_block place units)
@@ -129,16 +130,87 @@ module _ (g : Geometry) (m : DumpMode) where
   dump_taken zero left page c = tt
   dump_taken (suc blocks) left page c = block_taken _ page c _ (λ d. dump_taken blocks _ _ d)
 
-all_taken : (g : Geometry) (command : Command) → AsksUnmarked command → AsksTaken g (script_of g command)
-all_taken g (FlashErase dev blocks no_scan start count) h = erase_taken g dev no_scan (count_or_rest count start blocks) start 0 0 0
-all_taken g (NandWrite dev blocks mark raw oob pad off bytes) h =
-    blocks_taken g (record { dev = dev; mark = mark; raw = raw; oob = oob }) h.0 (blocks - off / block_size g) (off / block_size g) (off / g.page % g.pages_per_block)
+module _ (g : Geometry) (m : TestMode) where
+  -- nandtest
+  change_taken : (r : Reply) (good worn refused : Script) → AsksTaken g good → AsksTaken g worn → AsksTaken g refused → AsksTaken g (after_change r good worn refused)
+  change_taken ProgramFailed good worn refused a b c = b
+  change_taken EraseFailed good worn refused a b c = b
+  change_taken BadBlock good worn refused a b c = c
+  change_taken _ good worn refused a b c = a
+
+  kept_taken : (block left place : ℕ) (kept : List ℕ) (c : TestCounts) (go_on : List ℕ → TestCounts → Script) → ((bytes : List ℕ) (d : TestCounts) → AsksTaken g (go_on bytes d))
+      → AsksTaken g (read_bodies g m.dev block left place kept c go_on)
+  kept_taken block zero place kept c go_on h = h kept c
+  kept_taken block (suc left) place kept c go_on h = (tt, λ r. kept_taken block left (place + 1) _ _ go_on h)
+
+  compared_taken : (block : ℕ) (body : ℕ → List ℕ) (left place : ℕ) (differ : Bool) (c : TestCounts) (go_on : Bool → TestCounts → Script)
+      → ((b : Bool) (d : TestCounts) → AsksTaken g (go_on b d)) → AsksTaken g (compare_bodies g m.dev block body left place differ c go_on)
+  compared_taken block body zero place differ c go_on h = h differ c
+  compared_taken block body (suc left) place differ c go_on h = (tt, λ r. compared_taken block body left (place + 1) _ _ go_on h)
+
+  written_taken : (block : ℕ) (body : ℕ → List ℕ) → ((place : ℕ) → length (body place) ≡ g.page) → (left place : ℕ) (good worn refused : Script)
+      → AsksTaken g good → AsksTaken g worn → AsksTaken g refused → AsksTaken g (write_bodies g m.dev block body left place good worn refused)
+  written_taken block body whole zero place good worn refused a b c = a
+  written_taken block body whole (suc left) place good worn refused a b c = (
+    record {
+      body_length = whole place;
+      free_length = omega (arith, length-replicate {A = ℕ} (parity_start g - 2) 0xff, parity_start-low g);
+    },
+    λ r. change_taken r _ worn refused (written_taken block body whole left (place + 1) good worn refused a b c) b c,
+  )
+
+  module _ (next_block : TestCounts → Script) (h : (d : TestCounts) → AsksTaken g (next_block d)) where
+    worn_taken : (block : ℕ) (c : TestCounts) → AsksTaken g (test_worn m block c next_block)
+    worn_taken block c = either_taken g m.mark _ _ (tt, λ r. h _) (h _)
+
+    rewritten_taken : (block : ℕ) (body : ℕ → List ℕ) → ((place : ℕ) → length (body place) ≡ g.page) → (c : TestCounts) (done : Script) → AsksTaken g done
+        → AsksTaken g (test_change g m block body c next_block done)
+    rewritten_taken block body whole c done d =
+        (tt, λ r. change_taken r _ _ _ (written_taken block body whole g.pages_per_block 0 done _ _ d (worn_taken block c) (h _)) (worn_taken block c) (h _))
+
+    kept_whole : (kept : List ℕ) (place : ℕ) → length (kept_body g kept place) ≡ g.page
+    kept_whole kept place = omega (
+      arith,
+      length-take g.page (drop (place * g.page) kept ++ replicate g.page 0xff),
+      length-append (drop (place * g.page) kept) (replicate g.page 0xff),
+      length-replicate {A = ℕ} g.page 0xff,
+    )
+
+    tested_taken : (seed block : ℕ) (kept : List ℕ) (c : TestCounts) → AsksTaken g (test_rewrite g m seed block kept c next_block)
+    tested_taken seed block kept c =
+        rewritten_taken block (pass_body g seed block) (λ place. numbered-length _ 0 g.page) c _
+        (compared_taken block (pass_body g seed block) g.pages_per_block 0 false c _
+        (λ differ d. either_taken g differ _ _ (worn_taken block d)
+        (either_taken g m.keep _ _ (rewritten_taken block (kept_body g kept) (kept_whole kept) d _ (h _)) (h _))))
+
+    test_taken : (seed block : ℕ) (c : TestCounts) → AsksTaken g (test_block g m seed block c next_block)
+    test_taken seed block c = (
+      tt,
+      λ r. either_taken g (says_bad r) _ _ (h _)
+          (either_taken g m.keep _ _ (kept_taken block g.pages_per_block 0 [] c _ (λ kept d. tested_taken seed block kept d)) (tested_taken seed block [] c)),
+    )
+
+  tests_taken : (seed left block : ℕ) (c : TestCounts) (next_pass : TestCounts → Script) → ((d : TestCounts) → AsksTaken g (next_pass d))
+      → AsksTaken g (test_blocks g m seed left block c next_pass)
+  tests_taken seed zero block c next_pass h = h c
+  tests_taken seed (suc left) block c next_pass h = test_taken _ (λ d. tests_taken seed left (block + 1) d next_pass h) seed block c
+
+  passes_taken : (first count left : ℕ) (c : TestCounts) → AsksTaken g (test_passes g m first count left c)
+  passes_taken first count zero c = tt
+  passes_taken first count (suc left) c = tests_taken _ count first c _ (λ d. passes_taken first count left d)
+
+-- each operation that a command asks for, whatever the replies, is taken
+all_taken : (g : Geometry) (command : Command) → AsksTaken g (script_of g command)
+all_taken g (FlashErase dev blocks no_scan start count) = erase_taken g dev no_scan (count_or_rest count start blocks) start 0 0 0
+all_taken g (NandWrite dev blocks mark raw oob pad off bytes) =
+    blocks_taken g (record { dev = dev; mark = mark; raw = raw; oob = oob }) (blocks - off / block_size g) (off / block_size g) (off / g.page % g.pages_per_block)
     (units_of (unit_size g oob) (unit_count g oob bytes) bytes) (record { pages = 0; skipped = 0; failed = 0 }) (units_long (unit_size g oob) (unit_count g oob bytes) bytes)
-all_taken g (NandDump dev blocks off len raw oob bad) h = dump_taken g (record { dev = dev; raw = raw; oob = oob; bad = bad }) _ _ _ _
-all_taken g (NandTest dev blocks keep mark seed passes off len) h = absurd h
-all_taken g (MarkBad dev blocks block) h = absurd h
-all_taken g (AskBad dev blocks block) h = (tt, λ r. tt)
-all_taken g (AskStats dev blocks) h = (tt, λ r. tt)
+all_taken g (NandDump dev blocks off len raw oob bad) = dump_taken g (record { dev = dev; raw = raw; oob = oob; bad = bad }) _ _ _ _
+all_taken g (NandTest dev blocks keep mark seed passes off len) =
+    passes_taken g (record { dev = dev; keep = keep; mark = mark; seed = seed; passes = passes }) _ _ passes _
+all_taken g (MarkBad dev blocks block) = (tt, λ r. tt)
+all_taken g (AskBad dev blocks block) = (tt, λ r. tt)
+all_taken g (AskStats dev blocks) = (tt, λ r. tt)
 
 taken_later : (g : Geometry) (replies : List Reply) (script : Script) → AsksTaken g script → AsksTaken g (after_replies replies script)
 taken_later g [] script h = h
@@ -168,7 +240,6 @@ next_taken sizes run op runnable e = by_commands run.commands runnable e
         → First (λ c. (device_of op ≡ command_device c) × IsTaken (sizes c) op) commands
     by_commands [] h e = cc
     by_commands (command ∷ commands) h e =
-        let runs : Fits (sizes command) command = h 0 command (omega arith) in
-        let taken : AsksTaken (sizes command) (script_of (sizes command) command) = all_taken (sizes command) command runs.1 in
+        let taken : AsksTaken (sizes command) (script_of (sizes command) command) = all_taken (sizes command) command in
         asked_taken (sizes command) (command_device command) (after_replies run.replies (script_of (sizes command) command)) op
         (own_later (command_device command) run.replies _ (own_device (sizes command) command)) (taken_later (sizes command) run.replies _ taken) e

@@ -23,7 +23,7 @@ IsUnderWay sizes (command ∷ commands) replies (Some (Ask op go_on)) =
 pub record Shows (sizes : Command → Geometry) (commands : List Command) (st : Standing) (run : SessionRun) : Type 0
   where
     pub number : run.number ≡ st.number
-    pub outcomes : run.outcomes ≡ outcomes_by st
+    pub outcomes : run.outcomes ≡ outcomes_by commands st
     pub left : run.commands ≡ commands_by commands st
     pub goes_on : IsUnderWay sizes run.commands run.replies st.script
 

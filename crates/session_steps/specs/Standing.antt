@@ -1,13 +1,15 @@
 -- Where a session stands, beside the notes of its controller.
-use Rattle.std.specs.Prelude.{◌≡◌, ℕ, Bool, List, [], ◌∷◌, ◌++◌, length, drop, slice_get, Option, Some, None, option_map, ⊤}
+use Rattle.std.specs.Prelude.{◌≡◌, ℕ, suc, Bool, List, [], ◌∷◌, ◌++◌, length, drop, replicate, slice_get, Option, Some, None, option_map, if◌then◌else◌, ⊤}
 use Rattle.nand_model.specs.declared.words.Command.{Command}
 use Rattle.nand_model.specs.declared.words.Note.{Note}
 use Rattle.nand_model.specs.declared.words.Note.TheVariants.{Answered}
 use Rattle.nand_model.specs.declared.words.Op.{Op}
+use Rattle.nand_model.specs.declared.words.Ending.TheVariants.{Whole}
 use Rattle.nand_model.specs.declared.words.Outcome.{Outcome}
+use Rattle.nand_model.specs.declared.words.Outcome.TheVariants.{NandWrite as Written}
 use Rattle.nand_model.specs.declared.words.Reply.{Reply}
 use Rattle.command_model.specs.Command.{Script, End, Ask}
-use Rattle.tool_steps.specs.Steps.{after_last}
+use Rattle.tool_steps.specs.Steps.{after_last, asks_something}
 use Rattle.tool_steps.specs.Work.{left_of}
 use Rattle.tool_steps.specs.declared.tool.Tool.{Tool}
 use Rattle.session_steps.specs.Ended.{EndOfSession}
@@ -44,29 +46,42 @@ standing notes s =
 abbrev pub standing_alone : Session → Standing
 standing_alone s = record { number = s.number; script = script_after None s.tool; outcomes = s.outcomes.items }
 
--- the outcome of a command that is over
-abbrev pub outcome_of : Option Script → List Outcome
-outcome_of None = []
-outcome_of (Some (End outcome)) = outcome ∷ []
-outcome_of (Some (Ask op go_on)) = []
-
 -- the operation that a command asks for
 abbrev pub op_asked : Option Script → Option Op
 op_asked None = None
 op_asked (Some (End outcome)) = None
 op_asked (Some (Ask op go_on)) = Some op
 
+-- how many of these commands stand before the first that asks for an operation
+abbrev pub idle_first : List Command → ℕ
+idle_first [] = 0
+idle_first (command ∷ commands) = if asks_something command then 0 else suc (idle_first commands)
+
+-- the outcome of a nandwrite of no data, the one command that asks for no operation
+abbrev pub nothing_written : Outcome
+nothing_written = Written 0 0 0 Whole
+
+-- these outcomes of the first commands, and those of the next ones that ask for no operation
+abbrev pub with_idle : List Command → List Outcome → List Outcome
+with_idle commands outcomes = outcomes ++ replicate (idle_first (drop (length outcomes) commands)) nothing_written
+
+-- the outcomes of all finished commands, where so many were put down before the one begun last
+abbrev pub outcomes_with : List Command → List Outcome → Option Script → List Outcome
+outcomes_with commands outcomes None = with_idle commands outcomes
+outcomes_with commands outcomes (Some (End outcome)) = with_idle commands (outcomes ++ outcome ∷ [])
+outcomes_with commands outcomes (Some (Ask op go_on)) = outcomes
+
 -- the outcomes of all finished commands
-abbrev pub outcomes_by : Standing → List Outcome
-outcomes_by st = st.outcomes ++ outcome_of st.script
+abbrev pub outcomes_by : List Command → Standing → List Outcome
+outcomes_by commands st = outcomes_with commands st.outcomes st.script
 
 -- the commands that are not finished
 abbrev pub commands_by : List Command → Standing → List Command
-commands_by commands st = drop (length (outcomes_by st)) commands
+commands_by commands st = drop (length (outcomes_by commands st)) commands
 
--- a command that is over is put down, and none is begun
-abbrev pub put_down : Standing → Standing
-put_down st = record { number = st.number; script = None; outcomes = outcomes_by st }
+-- the outcomes of all finished commands are put down, and none is begun
+abbrev pub put_down : List Command → Standing → Standing
+put_down commands st = record { number = st.number; script = None; outcomes = outcomes_by commands st }
 
 -- a command is begun
 abbrev pub begun : Script → Standing → Standing
@@ -97,6 +112,6 @@ IsWaiting s = (s.last ≡ None) × IsAsking (script_after None s.tool)
 abbrev pub number_of : Session → ℕ
 number_of s = s.number
 
--- the end of a session that stands so
-abbrev pub end_of : Bool → Standing → EndOfSession
-end_of cut st = record { session = st.number; cut = cut; outcomes = outcomes_by st }
+-- the end of a session with these commands that stands so
+abbrev pub end_of : List Command → Bool → Standing → EndOfSession
+end_of commands cut st = record { session = st.number; cut = cut; outcomes = outcomes_by commands st }

@@ -19,8 +19,8 @@ pub fn notes_leave_sessions()
         Mirrors sizes commands (notes ++ more) session run }
 {}
 
-/// The next operation of commands that can be run is one that a chip without tables takes, on the
-/// device of the first of them.
+/// The next operation of commands that can be run is one that a chip takes, on the device of the
+/// first of them.
 pub fn next_operations_are_taken()
     ensures { (sizes : Command → Geometry) (run : SessionRun) (op : Op) →
         CanAllRun sizes run.commands → next_op_of sizes run.commands run.replies ≡ Some op →

@@ -1,5 +1,5 @@
 // A session that goes through its commands.
-ghost use Rattle.std.specs.Prelude.{◌≡◌, ℕ, [], List, length, slice_get, OnOk, IfOk, OnErr, option_copied};
+ghost use Rattle.std.specs.Prelude.{◌≡◌, ◌≤◌, ◌<◌, ◌+◌, ◌^◌, ◌++◌, ℕ, [], List, length, drop, replicate, slice_get, true, vec_len, vec_capacity, OnOk, IfOk, OnErr, option_copied};
 ghost use Rattle.nand_model.specs.declared.geometry.Geometry.{Geometry as Sizes};
 ghost use Rattle.nand_model.specs.declared.words.Command.{Command as Ordered};
 ghost use Rattle.nand_model.specs.declared.words.Note.{Note as Noted};
@@ -8,14 +8,15 @@ ghost use Rattle.nand_model.specs.declared.words.Reply.{Reply as Replied};
 ghost use Rattle.command_model.specs.Command.{script_of};
 ghost use Rattle.command_model.specs.Session.{SessionRun, without_finished, with_reply, next_op_of, is_finished};
 ghost use Rattle.command_model.specs.Runnable.{Fits};
+ghost use Rattle.tool_steps.specs.Steps.{asks_something};
 ghost use Rattle.session_steps.specs.Mirrors.{CanAllRun, Mirrors};
-ghost use Rattle.session_steps.specs.Standing.{standing, outcomes_by, commands_by, op_asked, put_down, begun, standing_alone, reply_at, end_of, number_of, IsBetween, First, IsWaiting};
+ghost use Rattle.session_steps.specs.Standing.{standing, idle_first, nothing_written, outcomes_by, commands_by, op_asked, put_down, begun, standing_alone, reply_at, end_of, number_of, IsBetween, First, IsWaiting};
 
 use crate::SessionEnd;
 use nand_iface::History;
-use nand_model::{Command, Geometry, ItemList, Note, Op, Outcome, Reply};
+use nand_model::{Command, Ending, Geometry, ItemList, Note, Op, Outcome, Reply};
 use std::alloc::{AllocError, Global};
-use tool_steps::{Step, Tool};
+use tool_steps::{Step, Tool, has_operation};
 
 /// Where a session of a controller stands: the tool of the command that it began last, the place of
 /// that tool's last reply in the controller's notes if the tool does not have it yet, and the
@@ -69,7 +70,7 @@ impl Session {
         ensures { option_copied result
             ≡ slice_get (commands_by commands.now (standing notes.now.notes self.now)) 0 }
     {
-        let finished = self.finished(notes);
+        let finished = self.finished(commands, notes);
         if finished < commands.len() {
             Some(commands.get(finished))
         } else {
@@ -102,7 +103,7 @@ impl Session {
         if let Some(op) = self.resume(notes)? {
             return Ok(op);
         }
-        self.put_outcome_down()?;
+        self.put_outcomes_down(commands)?;
         let place = self.outcomes.len();
         self.begin(commands.get(place), g)
     }
@@ -121,13 +122,17 @@ impl Session {
 
     /// The end of the session, with the outcomes of all finished commands; `cut` tells that others
     /// were left. Err comes for want of memory alone.
-    pub fn finish(self, notes: &History, cut: bool) -> Result<SessionEnd, AllocError>
-        ensures { IfOk result (λ ended. ended ≡ end_of cut (standing notes.now.notes self)) }
+    pub fn finish(
+        self,
+        commands: &ItemList<Command>,
+        notes: &History,
+        cut: bool,
+    ) -> Result<SessionEnd, AllocError>
+        ensures { IfOk result
+            (λ ended. ended ≡ end_of commands.now cut (standing notes.now.notes self)) }
     {
         let mut session = self;
-        if session.resume(notes)?.is_none() {
-            session.put_outcome_down()?;
-        }
+        session.settle(commands, notes)?;
         let Session {
             number,
             outcomes,
@@ -136,18 +141,30 @@ impl Session {
         Ok(SessionEnd::with_outcomes(number, cut, outcomes))
     }
 
-    // The number of finished commands.
-    fn finished(&self, notes: &History) -> usize
-        ensures { result ≡ length (outcomes_by (standing notes.now.notes self.now)) }
+    // The outcomes of all finished commands are put down.
+    fn settle(&mut self, commands: &ItemList<Command>, notes: &History) -> Result<(), AllocError>
+        ensures number { OnOk result (self.new.number ≡ self.old.number) }
+        ensures outcomes { OnOk result (self.new.outcomes.items
+            ≡ outcomes_by commands.now (standing notes.now.notes self.old)) }
     {
-        let over = match &self.tool {
-            Some(tool) => tool.ends(last_reply(notes, self.last)),
-            None => false,
-        };
-        if over {
-            self.outcomes.len() + 1
-        } else {
-            self.outcomes.len()
+        if self.resume(notes)?.is_none() {
+            self.put_outcomes_down(commands)?;
+        }
+        Ok(())
+    }
+
+    // The number of finished commands.
+    fn finished(&self, commands: &ItemList<Command>, notes: &History) -> usize
+        ensures { result
+            ≡ length (outcomes_by commands.now (standing notes.now.notes self.now)) }
+    {
+        let put_down = self.outcomes.len();
+        match &self.tool {
+            None => put_down + idle_from(commands, put_down),
+            Some(tool) if tool.ends(last_reply(notes, self.last)) => {
+                put_down + 1 + idle_from(commands, put_down + 1)
+            }
+            Some(_) => put_down,
         }
     }
 
@@ -172,24 +189,28 @@ impl Session {
         }
     }
 
-    // The outcome of a command that is over is put down, and no tool stands.
-    fn put_outcome_down(&mut self) -> Result<(), AllocError>
+    // The outcomes of all finished commands are put down, and no tool stands.
+    fn put_outcomes_down(&mut self, commands: &ItemList<Command>) -> Result<(), AllocError>
         requires { IsBetween (standing_alone self.old).script }
         ensures put_down { OnOk result
-            (standing_alone self.new ≡ put_down (standing_alone self.old)) }
+            (standing_alone self.new ≡ put_down commands.now (standing_alone self.old)) }
         ensures no_memory { OnErr result (standing_alone self.new ≡ standing_alone self.old) }
         ensures last { self.new.last ≡ self.old.last }
     {
-        self.outcomes.reserve(1)?;
+        let over = usize::from(self.tool.is_some());
+        let idle = idle_from(commands, self.outcomes.len() + over);
+        self.outcomes.reserve(over + idle)?;
         if let Some(tool) = self.tool.take() {
             self.outcomes.push_reserved(tool.finish());
         }
+        put_idle_down(&mut self.outcomes, idle);
         Ok(())
     }
 
     // The command is begun: its tool gives the first operation.
     fn begin(&mut self, command: &Command, g: &Geometry) -> Result<Op, AllocError>
-        requires { Fits g.now command.now }
+        requires fits { Fits g.now command.now }
+        requires asks { asks_something command.now ≡ true }
         ensures op { IfOk result (λ op. op_asked (Some (script_of g.now command.now)) ≡ Some op) }
         ensures begun { OnOk result
             (standing_alone self.new
@@ -205,6 +226,34 @@ impl Session {
             }
             Step::Done => unreachable!(),
         }
+    }
+}
+
+// How many commands from this place on stand before the first that asks for an operation.
+fn idle_from(commands: &ItemList<Command>, from: usize) -> usize
+    ensures idle { result ≡ idle_first (drop from commands.now) }
+    ensures fits { from + result < 2 ^ 64 }
+{
+    for place in from..commands.len() {
+        if has_operation(commands.get(place)) {
+            return place - from;
+        }
+    }
+    commands.len().saturating_sub(from)
+}
+
+// So many outcomes of commands that ask for no operation are put down.
+fn put_idle_down(outcomes: &mut Vec<Outcome>, idle: usize)
+    requires { vec_len outcomes.old + idle ≤ vec_capacity outcomes.old }
+    ensures { outcomes.new.items ≡ outcomes.old.items ++ replicate idle nothing_written }
+{
+    for _ in 0..idle {
+        outcomes.push_reserved(Outcome::NandWrite {
+            pages: 0,
+            skipped: 0,
+            failed: 0,
+            ending: Ending::Whole,
+        });
     }
 }
 

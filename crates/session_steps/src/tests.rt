@@ -87,7 +87,7 @@ fn goes_through_two_commands(rt: HostRuntime) -> Result<(), Fail> {
     assert!(rt; session.is_over(&commands, &notes));
     assert!(rt; session.next_command(&commands, &notes).is_none());
 
-    let ended = session.finish(&notes, false)?;
+    let ended = session.finish(&commands, &notes, false)?;
     assert_eq!(rt; ended.session(), 7);
     assert!(rt; !ended.cut());
     assert_eq!(rt; ended.len(), 2);

@@ -91,7 +91,7 @@ module _ (sizes : Command → Geometry) where
     where
       by_order : (length replies < command_cost sizes command) ⊎ (command_cost sizes command ≤ length replies) → length replies < command_cost sizes command
       by_order (inl less) = less
-      by_order (inr enough) = absurd (subst IsOver e (command_ends_at_last (sizes command) command runs.0 replies enough))
+      by_order (inr enough) = absurd (subst IsOver e (command_ends_at_last (sizes command) command runs replies enough))
 
   -- a reply brings a session that is not over one operation further
   pub reply_costs : (s : SessionRun) (reply : Reply) (op : Op) → Good s → next_op_of sizes s.commands s.replies ≡ Some op
