@@ -13,19 +13,9 @@ use Rattle.plan_grammar.specs.Rules.{last_of, with_last}
 use Rattle.plan_grammar.specs.Devices.{Device, device_at, data_named, weak_programs}
 use Rattle.plan_grammar.specs.Costs.{sessions_cost, line_cost, cost_on, device_in, marks_one, marks_many, count_in, weak_for, command_on, bytes_of}
 use Rattle.plan_index.specs.Boots.{with_command_line, with_boot_command}
+use Rattle.plan_index.proofs.LastItems.{sum-with_last}
 use Rattle.plan_costs.specs.Troubles.{offset_on, offsets_on, trouble_cost, troubles_cost, base_on, base_cost}
 use Rattle.plan_costs.specs.Laws.{CostsGrow}
-
--- a sum with another last item
-sum-with_last : {A : Type 0} (f : A → ℕ) (g : A → A) (n : ℕ) (xs : List A) (x : A) → last_of xs ≡ Some x →
-    f (g x) ≡ f x + n → sum_by f (with_last g xs) ≡ sum_by f xs + n
-sum-with_last f g n [] x e more = absurd (cc e)
-sum-with_last f g n (y ∷ []) x e more =
-    let same : y ≡ x = cc e in
-    let here : f (g y) ≡ f y + n = subst (λ z. f (g z) ≡ f z + n) (sym same) more in
-    omega (arith, sum_by-cons f (g y) [], sum_by-cons f y [], here)
-sum-with_last f g n (y ∷ z ∷ xs) x e more =
-    omega (arith, sum_by-cons f y (with_last g (z ∷ xs)), sum_by-cons f y (z ∷ xs), sum-with_last f g n (z ∷ xs) x e more)
 
 -- the cost of a command without the troubles on one device
 abbrev rest_line : PlanLines → ℕ → List SessionLines → CommandLine → ℕ
@@ -121,7 +111,7 @@ sessions_split plan device dev at (session ∷ later) before =
     )
 
 -- marks on other devices than a command's are the same with it
-count_with : (test : CommandLine → Bool) (command : CommandLine) (before sessions : List SessionLines) (session : SessionLines) →
+pub count_with : (test : CommandLine → Bool) (command : CommandLine) (before sessions : List SessionLines) (session : SessionLines) →
     last_of sessions ≡ Some session →
     count_in test (before ++ with_last (with_command_line command) sessions) ≡ count_in test (before ++ sessions) + cond (test command) 1 0
 count_with test command before sessions session e =
@@ -139,7 +129,7 @@ false_and true c e = e
 false_and false c e = refl
 
 -- a command marks no other device than its own
-not_one : (dev : ℕ) (command : CommandLine) → eqb (device_in command) dev ≡ false → marks_one dev command ≡ false
+pub not_one : (dev : ℕ) (command : CommandLine) → eqb (device_in command) dev ≡ false → marks_one dev command ≡ false
 not_one dev (MarkBad d block) e = e
 not_one dev (FlashErase d no_scan start count) e = refl
 not_one dev (NandWrite d mark raw oob pad off name) e = refl
@@ -148,7 +138,7 @@ not_one dev (NandTest d keep mark seed passes off len) e = refl
 not_one dev (IsBad d block) e = refl
 not_one dev (Stats d) e = refl
 
-not_many : (dev : ℕ) (command : CommandLine) → eqb (device_in command) dev ≡ false → marks_many dev command ≡ false
+pub not_many : (dev : ℕ) (command : CommandLine) → eqb (device_in command) dev ≡ false → marks_many dev command ≡ false
 not_many dev (NandWrite d mark raw oob pad off name) e = false_and mark (eqb d dev) e
 not_many dev (NandTest d keep mark seed passes off len) e = false_and mark (eqb d dev) e
 not_many dev (FlashErase d no_scan start count) e = refl
@@ -162,7 +152,7 @@ pub record SameMarks (dev : ℕ) (one other : List SessionLines) : Type 0 where
   pub ones : count_in (marks_one dev) one ≡ count_in (marks_one dev) other
   pub many : count_in (marks_many dev) one ≡ count_in (marks_many dev) other
 
-same_marks : (dev : ℕ) (command : CommandLine) (before sessions : List SessionLines) (session : SessionLines) →
+pub same_marks : (dev : ℕ) (command : CommandLine) (before sessions : List SessionLines) (session : SessionLines) →
     last_of sessions ≡ Some session → eqb (device_in command) dev ≡ false →
     SameMarks dev (before ++ with_last (with_command_line command) sessions) (before ++ sessions)
 same_marks dev command before sessions session e apart = record {
@@ -173,7 +163,7 @@ same_marks dev command before sessions session e apart = record {
 }
 
 -- a nandwrite costs the same beside the same marks on its device
-write_same : (plan : PlanLines) (one other : List SessionLines) (d : ℕ) (mark raw oob pad : Bool) (off : ℕ) (name : List ℕ)
+pub write_same : (plan : PlanLines) (one other : List SessionLines) (d : ℕ) (mark raw oob pad : Bool) (off : ℕ) (name : List ℕ)
     (o : Option Device) → SameMarks d one other →
     cost_on plan one (NandWrite d mark raw oob pad off name) o ≡ cost_on plan other (NandWrite d mark raw oob pad off name) o
 write_same plan one other d mark raw oob pad off name None same = refl
@@ -186,7 +176,7 @@ write_same plan one other d mark raw oob pad off name (Some device) same =
     + n * device.part.count))) same.many
 
 -- a command that is no nandwrite costs the same beside any sessions
-other_same : (plan : PlanLines) (one other : List SessionLines) (dev : ℕ) (command : CommandLine) →
+pub other_same : (plan : PlanLines) (one other : List SessionLines) (dev : ℕ) (command : CommandLine) →
     ((d : ℕ) → eqb dev d ≡ false → SameMarks d one other) → rest_line plan dev one command ≡ rest_line plan dev other command
 other_same plan one other dev (NandWrite d mark raw oob pad off name) same = by_test (eqb d dev) refl
   where
@@ -237,7 +227,7 @@ other_same plan one other dev (Stats d) same = any_count (device_at plan d)
     any_count None = refl
     any_count (Some device) = refl
 
-sum_same : {A : Type 0} (f g : A → ℕ) → ((x : A) → f x ≡ g x) → (xs : List A) → sum_by f xs ≡ sum_by g xs
+pub sum_same : {A : Type 0} (f g : A → ℕ) → ((x : A) → f x ≡ g x) → (xs : List A) → sum_by f xs ≡ sum_by g xs
 sum_same f g same [] = refl
 sum_same f g same (x ∷ xs) = omega (arith, sum_by-cons f x xs, sum_by-cons g x xs, same x, sum_same f g same xs)
 

@@ -1,2 +1,5 @@
 pub mod Troubles
 pub mod Laws
+pub mod Room
+pub mod Kept
+pub mod Costs

@@ -1,6 +1,8 @@
 -- Lists with another last item.
-use Rattle.std.proofs.Common.{◌≡◌, ℕ, zero, suc, ◌-◌, List, [], ◌∷◌, Option, Some, None, length, get_or, refl, ap, arith}
+use Rattle.std.proofs.Common.{◌≡◌, ℕ, zero, suc, ◌+◌, ◌-◌, List, [], ◌∷◌, ◌++◌, Option, Some, None, length, get_or, refl, sym, ap, subst, arith}
 use Rattle.std.specs.Prelude.{slice_set, slice_get}
+use Rattle.std.specs.List.{sum_by}
+use Rattle.std.proofs.lemmas.List.Sums.{sum_by-cons}
 use Rattle.plan_grammar.specs.Rules.{with_last, last_of}
 
 -- an item written to its place before the end
@@ -51,3 +53,34 @@ last_of-with_last change (y ∷ z ∷ xs) x e = further change y z xs x (last_of
         → last_of (with_last change (y ∷ z ∷ xs)) ≡ Some (change x)
     further change y z [] x e = e
     further change y z (w ∷ ws) x e = e
+
+-- a sum with another last item
+pub sum-with_last : {A : Type 0} (f : A → ℕ) (g : A → A) (n : ℕ) (xs : List A) (x : A) → last_of xs ≡ Some x →
+    f (g x) ≡ f x + n → sum_by f (with_last g xs) ≡ sum_by f xs + n
+sum-with_last f g n [] x e more = absurd (cc e)
+sum-with_last f g n (y ∷ []) x e more =
+    let same : y ≡ x = cc e in
+    let here : f (g y) ≡ f y + n = subst (λ z. f (g z) ≡ f z + n) (sym same) more in
+    omega (arith, sum_by-cons f (g y) [], sum_by-cons f y [], here)
+sum-with_last f g n (y ∷ z ∷ xs) x e more =
+    omega (arith, sum_by-cons f y (with_last g (z ∷ xs)), sum_by-cons f y (z ∷ xs), sum-with_last f g n (z ∷ xs) x e more)
+
+-- a sum with another last item of the same value
+pub sum_kept : {A : Type 0} (f : A → ℕ) (g : A → A) → ((x : A) → f (g x) ≡ f x) → (xs : List A) →
+    sum_by f (with_last g xs) ≡ sum_by f xs
+sum_kept f g same [] = refl
+sum_kept f g same (x ∷ []) = omega (arith, sum_by-cons f (g x) [], sum_by-cons f x [], same x)
+sum_kept f g same (x ∷ y ∷ xs) =
+    omega (arith, sum_by-cons f x (with_last g (y ∷ xs)), sum_by-cons f x (y ∷ xs), sum_kept f g same (y ∷ xs))
+
+-- the last item of a list with one more
+pub last_of_push : {A : Type 0} (xs : List A) (x : A) → last_of (xs ++ x ∷ []) ≡ Some x
+last_of_push [] x = refl
+last_of_push (y ∷ []) x = refl
+last_of_push (y ∷ z ∷ xs) x = last_of_push (z ∷ xs) x
+
+-- a list with another last item is as long
+pub length-with_last : {A : Type 0} (g : A → A) (xs : List A) → length (with_last g xs) ≡ length xs
+length-with_last g [] = refl
+length-with_last g (x ∷ []) = refl
+length-with_last g (x ∷ y ∷ xs) = ap suc (length-with_last g (y ∷ xs))

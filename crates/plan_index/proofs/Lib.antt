@@ -5,3 +5,4 @@ pub mod Chips
 pub mod WeakPlaces
 pub mod Parts
 pub mod LastItems
+pub mod DataPlaces

@@ -38,10 +38,6 @@ pub record IsMarked (chip : ChipLines) (marks : ChipMarks) : Type 0 where
   pub weak : marks.weak_programs ≡ weak_programs chip
   pub counted : weak_programs chip ≡ count_by (λ flag. flag) marks.programs.items
 
--- a chip without lines of its own
-abbrev pub new_chip : ChipLines → ChipLines
-new_chip chip = record chip { defects = []; parts = [] }
-
 -- the chip with one more line of what is wrong with it
 abbrev pub with_defect_line : DefectLine → ChipLines → ChipLines
 with_defect_line defect chip = record chip { defects = chip.defects ++ defect ∷ [] }

@@ -1,3 +1,5 @@
 pub mod Places
 pub mod Chip
 pub mod Boots
+pub mod Devices
+pub mod Data

@@ -2,11 +2,13 @@
 //! it.
 #![tactic(auto)]
 
+mod data;
 mod device;
 mod grow;
 mod lists;
 mod marks;
 
+pub use data::{DataIndex, DataPlace};
 pub use device::DeviceSize;
 pub use grow::{add_chip, add_command, add_defect, add_fault, add_part, add_session, set_schedule};
 pub use lists::last;

@@ -4,7 +4,7 @@ use Rattle.std.specs.List.{sum_by, list_all}
 use Rattle.std.proofs.lemmas.Bool.{and_from, and_parts, le-leb}
 use Rattle.std.proofs.lemmas.List.Folds.{list_all-append}
 use Rattle.std.proofs.lemmas.List.{append-nil, map-append}
-use Rattle.std.proofs.lemmas.List.Sums.{sum_by-cons, sum_by_push}
+use Rattle.std.proofs.lemmas.List.Sums.{sum_by_push}
 use Rattle.nand_model.specs.Sizes.{page_count}
 use Rattle.nand_model.specs.declared.geometry.Geometry.{Geometry}
 use Rattle.nand_model.proofs.Bounds.{bounds, pages-le}
@@ -16,32 +16,16 @@ use Rattle.plan_grammar.specs.Rules.{last_of, with_last}
 use Rattle.plan_grammar.specs.Devices.{Device, pages_of_chips, devices_on, devices_of_chips, devices_from, weak_programs}
 use Rattle.plan_index.specs.declared.marks.ChipMarks.{ChipMarks}
 use Rattle.plan_index.specs.declared.device.DeviceSize.{DeviceSize}
+use Rattle.plan_index.specs.Devices.{size_of}
 use Rattle.plan_index.specs.Chip.{IsMarked, with_defect_line, with_part_line}
-use Rattle.plan_index.proofs.LastItems.{last_of-with_last}
+use Rattle.plan_index.proofs.LastItems.{last_of-with_last, last_of_push, length-with_last, sum-with_last}
 use Rattle.plan_store.specs.declared.hardware.HardwareIndex.{HardwareIndex}
-use Rattle.plan_store.specs.Hardware.{HardwareInStep, AreMarks, open_chip, last_in, size_of}
+use Rattle.plan_store.specs.Hardware.{HardwareInStep, AreMarks, open_chip, last_in}
 use Rattle.std.proofs.Math.Nat.{mul-le-mul_left, mul-le-mul_right}
 
 -- the pages of a chip
 pub few_pages : (g : Geometry) → page_count g ≤ 524288
 few_pages g = omega (arith, mul-le-mul_right g.pages_per_block (bounds g).blocks_high, mul-le-mul_left 4096 (pages-le g))
-
--- the last item of a list with one more
-pub last_of_push : {A : Type 0} (xs : List A) (x : A) → last_of (xs ++ x ∷ []) ≡ Some x
-last_of_push [] x = refl
-last_of_push (y ∷ []) x = refl
-last_of_push (y ∷ z ∷ xs) x = last_of_push (z ∷ xs) x
-
--- a sum with another last item
-pub sum-with_last : {A : Type 0} (f : A → ℕ) (g : A → A) (n : ℕ) (xs : List A) (x : A) → last_of xs ≡ Some x →
-    f (g x) ≡ f x + n → sum_by f (with_last g xs) ≡ sum_by f xs + n
-sum-with_last f g n [] x e more = absurd (cc e)
-sum-with_last f g n (y ∷ []) x e more =
-    let same : y ≡ x = cc e in
-    let here : f (g y) ≡ f y + n = subst (λ z. f (g z) ≡ f z + n) (sym same) more in
-    omega (arith, sum_by-cons f (g y) [], sum_by-cons f y [], here)
-sum-with_last f g n (y ∷ z ∷ xs) x e more =
-    omega (arith, sum_by-cons f y (with_last g (z ∷ xs)), sum_by-cons f y (z ∷ xs), sum-with_last f g n (z ∷ xs) x e more)
 
 abbrev sizes : List Device → List DeviceSize
 sizes devices = map size_of devices
@@ -129,14 +113,8 @@ pub open_at : (controllers : List (List ChipLines)) (chips : List ChipLines) (ch
     last_of chips ≡ Some chip → open_chip controllers ≡ Some chip
 open_at controllers chips chip e f = ap last_in e ∙ f
 
--- a list with another last item is as long
-pub length-with_last : {A : Type 0} (g : A → A) (xs : List A) → length (with_last g xs) ≡ length xs
-length-with_last g [] = refl
-length-with_last g (x ∷ []) = refl
-length-with_last g (x ∷ y ∷ xs) = ap suc (length-with_last g (y ∷ xs))
-
 -- items that pass a test, with another last one that passes
-all-with_last : {A : Type 0} (p : A → Bool) (g : A → A) (xs : List A) (x : A) → last_of xs ≡ Some x → p (g x) ≡ true →
+pub all-with_last : {A : Type 0} (p : A → Bool) (g : A → A) (xs : List A) (x : A) → last_of xs ≡ Some x → p (g x) ≡ true →
     list_all p xs ≡ true → list_all p (with_last g xs) ≡ true
 all-with_last p g [] x e here pass = refl
 all-with_last p g (y ∷ []) x e here pass =
@@ -147,7 +125,7 @@ all-with_last p g (y ∷ z ∷ xs) x e here pass =
     and_from (p y) (list_all p (with_last g (z ∷ xs))) parts.0 (all-with_last p g (z ∷ xs) x e here parts.1)
 
 -- the last of items that pass a test passes
-last_passes : {A : Type 0} (p : A → Bool) (xs : List A) (x : A) → last_of xs ≡ Some x → list_all p xs ≡ true → p x ≡ true
+pub last_passes : {A : Type 0} (p : A → Bool) (xs : List A) (x : A) → last_of xs ≡ Some x → list_all p xs ≡ true → p x ≡ true
 last_passes p [] x e pass = absurd (cc e)
 last_passes p (y ∷ []) x e pass =
     let same : y ≡ x = cc e in

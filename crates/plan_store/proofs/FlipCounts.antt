@@ -1,7 +1,7 @@
 -- The flip lines of boots, line by line.
 use Rattle.std.proofs.Common.{◌≡◌, ℕ, ◌+◌, ◌≤◌, cond, List, [], ◌∷◌, ◌++◌, Some, refl, sym, ap, ◌∙◌, arith}
 use Rattle.std.specs.List.{sum_by, count_by}
-use Rattle.std.proofs.lemmas.List.Sums.{sum_by-cons, sum_by_push}
+use Rattle.std.proofs.lemmas.List.Sums.{sum_by_push}
 use Rattle.plan_grammar.specs.declared.lines.BootLines.{BootLines}
 use Rattle.plan_grammar.specs.declared.lines.FaultLine.{FaultLine}
 use Rattle.plan_grammar.specs.Limits.{most_flips}
@@ -9,14 +9,7 @@ use Rattle.plan_grammar.specs.Rules.{last_of, with_last}
 use Rattle.plan_grammar.specs.Faults.{is_flip, flips_of}
 use Rattle.plan_index.specs.Boots.{with_fault_line}
 use Rattle.plan_store.specs.FlipCount.{AreFlips}
-use Rattle.plan_store.proofs.Controllers.{sum-with_last}
-
-sum_kept : {A : Type 0} (f : A → ℕ) (g : A → A) → ((x : A) → f (g x) ≡ f x) → (xs : List A) →
-    sum_by f (with_last g xs) ≡ sum_by f xs
-sum_kept f g same [] = refl
-sum_kept f g same (x ∷ []) = omega (arith, sum_by-cons f (g x) [], sum_by-cons f x [], same x)
-sum_kept f g same (x ∷ y ∷ xs) =
-    omega (arith, sum_by-cons f x (with_last g (y ∷ xs)), sum_by-cons f x (y ∷ xs), sum_kept f g same (y ∷ xs))
+use Rattle.plan_index.proofs.LastItems.{sum-with_last, sum_kept}
 
 -- with one more boot, which has no fault
 pub flips_push : (boots : List BootLines) (flips : ℕ) (boot : BootLines) → boot.faults ≡ [] → AreFlips boots flips →

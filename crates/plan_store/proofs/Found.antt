@@ -1,13 +1,19 @@
 -- What is known where rules were kept.
-use Rattle.std.proofs.Common.{◌≡◌, Bool, true, false, List, [], ◌∷◌, Option, Some, None, Result, Ok, Err, refl, subst}
+use Rattle.std.proofs.Common.{◌≡◌, ℕ, Bool, true, false, ◌&&◌, ◌||◌, List, [], ◌∷◌, Option, Some, None, Result, Ok, Err, refl, subst}
+use Rattle.std.specs.BTreeMap.{BTreeMap}
+use Rattle.plan_costs.specs.declared.troubles.DeviceTroubles.{DeviceTroubles}
+use Rattle.plan_costs.specs.declared.costs.CostIndex.{CostIndex}
+use Rattle.plan_costs.specs.Costs.{AreCosts, KnowsBoot}
 use Rattle.plan_grammar.specs.declared.kind.PlanKind.{PlanKind}
 use Rattle.plan_grammar.specs.declared.kind.PlanKind.TheVariants.{WrongPlace}
 use Rattle.plan_grammar.specs.declared.lines.PlanLines.{PlanLines}
 use Rattle.plan_grammar.specs.declared.lines.ChipLines.{ChipLines}
 use Rattle.plan_grammar.specs.declared.lines.BootLines.{BootLines}
 use Rattle.plan_grammar.specs.Rules.{◌>>=◌, rule, there, is_empty, last_of}
-use Rattle.plan_grammar.specs.Hardware.{is_hardware, last_chips, last_chip, open_chip}
+use Rattle.std.proofs.lemmas.Bool.{and_parts}
+use Rattle.plan_grammar.specs.Hardware.{is_hardware, has_chip, last_chips, last_chip, open_chip}
 use Rattle.plan_grammar.specs.Faults.{last_boot, open_boot}
+use Rattle.plan_grammar.specs.Sessions.{running_boot}
 
 abbrev good : {A : Type 0} → A → Result A PlanKind
 good x = Ok x
@@ -78,3 +84,37 @@ open_boot_found plan boot e =
     let second = rule_kept (is_empty first.0.sessions) WrongPlace (λ u. Ok first.0) boot first.2 in
     let same : first.0 ≡ boot = let whole : good first.0 ≡ good boot = second.1 in cc whole in
     there_found (last_of plan.boots) WrongPlace boot (subst (λ (b : BootLines). last_boot plan ≡ Ok b) same first.1)
+
+-- the boot to which sessions, commands and a schedule may be added is the last
+pub running_boot_found : (plan : PlanLines) (boot : BootLines) → running_boot plan ≡ Ok boot → last_of plan.boots ≡ Some boot
+unfolding running_boot
+running_boot_found plan boot e =
+    let first = step_kept (last_boot plan) (λ (b : BootLines). rule (is_empty b.schedule) WrongPlace >>= λ u. Ok b) boot e in
+    let second = rule_kept (is_empty first.0.schedule) WrongPlace (λ u. Ok first.0) boot first.2 in
+    let same : first.0 ≡ boot = let whole : good first.0 ≡ good boot = second.1 in cc whole in
+    there_found (last_of plan.boots) WrongPlace boot (subst (λ (b : BootLines). last_boot plan ≡ Ok b) same first.1)
+
+-- lines of hardware stand before the first boot
+pub hardware_none : (plan : PlanLines) → is_hardware plan ≡ true → plan.boots ≡ []
+hardware_none plan e = empty_is plan.boots (and_parts (is_empty plan.payloads) (is_empty plan.boots) e).1
+
+-- so does a controller
+pub beginning_none : (plan : PlanLines) → (plan.begun && is_hardware plan && (is_empty plan.controllers || has_chip plan)) ≡ true → plan.boots ≡ []
+beginning_none plan e =
+    hardware_none plan (and_parts plan.begun (is_hardware plan) (and_parts (plan.begun && is_hardware plan) (is_empty plan.controllers || has_chip plan) e).0).1
+
+-- and a line of a chip
+pub open_none : (plan : PlanLines) (chip : ChipLines) → open_chip plan ≡ Ok chip → plan.boots ≡ []
+unfolding open_chip
+open_none plan chip e =
+    let first = rule_kept (is_hardware plan) WrongPlace (λ u. last_chip plan >>= λ (c : ChipLines). rule (is_empty c.parts) WrongPlace >>= λ u. Ok c) chip e in
+    hardware_none plan first.0
+
+knows_begun : (plan : PlanLines) (o : Option BootLines) (devices : BTreeMap ℕ DeviceTroubles) → KnowsBoot plan o devices →
+    KnowsBoot (record plan { begun = true }) o devices
+knows_begun plan None devices k = k
+knows_begun plan (Some boot) devices k = k
+
+-- the header costs nothing
+pub costs_begun : (plan : PlanLines) (index : CostIndex) → AreCosts plan index → AreCosts (record plan { begun = true }) index
+costs_begun plan index s = record { cost_is = s.cost_is; few = s.few; boot = knows_begun plan (last_of plan.boots) index.devices s.boot }

@@ -5,3 +5,7 @@ pub mod Refused
 pub mod FlipCounts
 pub mod FlipLines
 pub mod ChipsAt
+pub mod SessionCounts
+pub mod Named
+pub mod CommandLines
+pub mod ScheduleLines

@@ -4,10 +4,10 @@ use Rattle.std.specs.List.{list_all}
 use Rattle.plan_grammar.specs.declared.lines.ChipLines.{ChipLines}
 use Rattle.plan_grammar.specs.Limits.{most_controllers, most_chips, most_pages}
 use Rattle.plan_grammar.specs.Rules.{last_of}
-use Rattle.plan_grammar.specs.Devices.{Device, pages_of_chips, devices_from, weak_programs}
+use Rattle.plan_grammar.specs.Devices.{pages_of_chips, devices_from}
 use Rattle.plan_index.specs.declared.marks.ChipMarks.{ChipMarks}
-use Rattle.plan_index.specs.declared.device.DeviceSize.{DeviceSize}
 use Rattle.plan_index.specs.Chip.{IsMarked}
+use Rattle.plan_index.specs.Devices.{size_of}
 use Rattle.plan_store.specs.declared.hardware.HardwareIndex.{HardwareIndex}
 
 -- the last chip
@@ -23,15 +23,6 @@ open_chip controllers = last_in (last_of controllers)
 abbrev pub AreMarks : Option ChipLines → ChipMarks → Type 0
 AreMarks None marks = Unit {0}
 AreMarks (Some chip) marks = IsMarked chip marks
-
--- what commands need of a device
-abbrev pub size_of : Device → DeviceSize
-size_of device = record {
-  controller = device.controller;
-  geometry = device.chip.geometry;
-  blocks = device.part.count;
-  weak = weak_programs device.chip;
-}
 
 -- what is kept of these controllers
 pub record HardwareInStep (controllers : List (List ChipLines)) (index : HardwareIndex) : Type 0 where

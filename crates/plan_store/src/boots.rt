@@ -1,9 +1,11 @@
 // The lines of boots, of their faults, sessions and schedules.
-ghost use Rattle.std.specs.Prelude.{◌≡◌, IsSome};
+ghost use Rattle.std.specs.Prelude.{◌≡◌, ◌≤◌, nat_lt, true, IfOk, IsSome};
+ghost use Rattle.std.specs.List.{list_all};
 ghost use Rattle.plan_grammar.specs.Rules.{last_of};
 ghost use Rattle.plan_grammar.specs.Faults.{boot_line, flip_line, cut_line};
 ghost use Rattle.plan_grammar.specs.Sessions.{session_line, schedule_line};
 ghost use Rattle.plan_store.specs.Flips.{flip_words};
+ghost use Rattle.plan_store.specs.SessionCount.{session_numbers};
 ghost use Rattle.plan_words.specs.Answer.{Answers};
 
 use crate::draft::PlanDraft;
@@ -11,12 +13,12 @@ use crate::faults::{chip_at, has_bits, has_controller, has_cut};
 use crate::places::{has_chip, open_boot, rule, running_boot};
 use nand_model::{BlockList, CutAt, Flip, ItemList};
 use plan_grammar::{BootLines, FaultLine, PlanKind, SessionLines};
-use plan_index::{add_fault, add_session};
+use plan_index::{add_fault, add_session, set_schedule};
 use plan_words::{
-    LineError, Words, chip_numbers, number, one_word, positive_number, small_number, small_numbers,
-    tear, three_words,
+    LineError, Words, chip_numbers, number, numbers, one_word, positive_number, small_number,
+    small_numbers, tear, three_words,
 };
-use std::alloc::Global;
+use std::alloc::{AllocError, Global};
 
 /// The greatest number of flip lines.
 const MOST_FLIPS: u32 = 65_536;
@@ -51,6 +53,40 @@ fn flip_words(alloc: Global, words: Words<'_>) -> Result<FlipWords, LineError>
     })
 }
 
+// Whether each of these numbers is the number of one of so many sessions.
+fn are_sessions(numbers: &ItemList<u64>, count: usize) -> bool
+    ensures { result ≡ list_all (λ s. nat_lt s count) numbers.now }
+{
+    numbers.iter().all(|number| *number < count as u64)
+}
+
+// The numbers of at most 64 sessions, in half the memory.
+fn short_numbers(alloc: Global, numbers: &ItemList<u64>) -> Result<ItemList<u32>, AllocError>
+    requires { list_all (λ s. nat_lt s 64) numbers.now ≡ true }
+    ensures { IfOk result (λ short. short ≡ numbers.now) }
+{
+    let mut short = ItemList::new(alloc);
+    for number in numbers {
+        short.append(*number as u32)?;
+    }
+    Ok(short)
+}
+
+// The numbers of a schedule's words.
+#[tactic(auto, unfolding(crate::specs::SessionCount::session_numbers))]
+fn session_numbers(
+    alloc: Global,
+    words: Words<'_>,
+    count: usize,
+) -> Result<ItemList<u32>, LineError>
+    requires { count ≤ 64 }
+    ensures { Answers result (session_numbers count words.entry) }
+{
+    let numbers = numbers(alloc, words)?;
+    rule(are_sessions(&numbers, count), PlanKind::OutOfChip)?;
+    Ok(short_numbers(alloc, &numbers)?)
+}
+
 impl PlanDraft {
     ghost use Rattle.plan_store.specs.Flips.{flip_rules};
 
@@ -59,17 +95,29 @@ impl PlanDraft {
     pub fn boot_line(self, alloc: Global, words: Words<'_>) -> Result<PlanDraft, LineError>
         ensures { Answers result (boot_line self words.entry) }
     {
-        let mut draft = self;
-        rule(has_chip(&draft.lines), PlanKind::WrongPlace)?;
+        let PlanDraft {
+            mut lines,
+            hardware,
+            flips,
+            data,
+            costs,
+        } = self;
+        rule(has_chip(&lines), PlanKind::WrongPlace)?;
         rule(words.is_empty(), PlanKind::BadWords)?;
-        rule(draft.lines.boots.len() < 64, PlanKind::TooLarge)?;
+        rule(lines.boots.len() < 64, PlanKind::TooLarge)?;
         let boot = BootLines {
             faults: ItemList::new(alloc),
             sessions: ItemList::new(alloc),
             schedule: ItemList::new(alloc),
         };
-        draft.lines.boots.append(boot)?;
-        Ok(draft)
+        lines.boots.append(boot)?;
+        Ok(PlanDraft {
+            lines,
+            hardware,
+            flips,
+            data,
+            costs: costs.with_boot(alloc),
+        })
     }
 
     /// `session C`, in a boot.
@@ -154,6 +202,19 @@ impl PlanDraft {
             cut: CutAt { event, tear },
         };
         add_fault(&mut draft.lines, fault)?;
+        Ok(draft)
+    }
+
+    /// `schedule S` and further Ss, in a boot, after its sessions, at most once.
+    #[tactic(auto, unfolding(plan_grammar::specs::Sessions::schedule_line, crate::specs::SessionCount::session_numbers))]
+    pub fn schedule_line(self, alloc: Global, words: Words<'_>) -> Result<PlanDraft, LineError>
+        ensures { Answers result (schedule_line self words.entry) }
+    {
+        let mut draft = self;
+        let sessions = running_boot(&draft.lines)?.sessions.len();
+        rule(!words.is_empty(), PlanKind::BadWords)?;
+        let schedule = session_numbers(alloc, words, sessions)?;
+        set_schedule(&mut draft.lines, schedule);
         Ok(draft)
     }
 }

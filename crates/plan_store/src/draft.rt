@@ -4,15 +4,20 @@ ghost use Rattle.plan_grammar.specs.Limits.{most_chips, most_pages};
 ghost use Rattle.plan_grammar.specs.Rules.{is_empty};
 ghost use Rattle.plan_grammar.specs.Grammar.{no_lines};
 ghost use Rattle.plan_grammar.specs.Hardware.{header_line, controller_line, chip_line, bad_line, weak_line, part_line, is_version, is_hardware, has_chip};
+ghost use Rattle.std.specs.Option.{option_copied, option_map};
+ghost use Rattle.plan_grammar.specs.Devices.{data_named, device_at};
+ghost use Rattle.plan_index.specs.Devices.{size_of};
 ghost use Rattle.plan_words.specs.Answer.{Answers};
 
+use crate::commands::size_at;
 use crate::faults::page_count;
 use crate::geometry::sizes;
 use crate::hardware::HardwareIndex;
 use crate::places::{has_chip, is_hardware, last_chip, last_chips, open_chip, rule};
 use nand_model::{Geometry, ItemList, Weak};
-use plan_grammar::{ChipLines, DefectLine, PlanKind, PlanLines};
-use plan_index::{ChipMarks, DeviceSize, add_chip, add_defect, add_part};
+use plan_costs::CostIndex;
+use plan_grammar::{ChipLines, DataLine, DefectLine, PlanKind, PlanLines};
+use plan_index::{ChipMarks, DataIndex, DeviceSize, add_chip, add_defect, add_part};
 use plan_words::{
     LineError, Words, four_words, one_word, small_number, small_numbers, tear, two_words, weak_kind,
 };
@@ -25,6 +30,8 @@ pub struct PlanDraft {
     pub(crate) lines: PlanLines,
     pub(crate) hardware: HardwareIndex,
     pub(crate) flips: u32,
+    pub(crate) data: DataIndex,
+    pub(crate) costs: CostIndex,
 }
 
 impl Model for PlanDraft {
@@ -53,7 +60,40 @@ impl PlanDraft {
             },
             hardware: HardwareIndex::new(alloc),
             flips: 0,
+            data: DataIndex::new(alloc),
+            costs: CostIndex::new(alloc),
         }
+    }
+
+    /// Lends its lines.
+    pub fn lines(&self) -> &PlanLines
+        ensures { result.now ≡ self.now }
+    {
+        &self.lines
+    }
+
+    /// Its lines.
+    pub fn into_lines(self) -> PlanLines
+        ensures { result ≡ self }
+    {
+        self.lines
+    }
+
+    /// Lends the line of data of a NAME, which no list is searched for. None comes exactly where no
+    /// line has it.
+    pub fn payload(&self, name: &[u8]) -> Option<&DataLine>
+        ensures { option_copied result ≡ data_named self.now name.now }
+    {
+        let at = self.data.find(name)?;
+        Some(self.lines.payloads.get(at.place))
+    }
+
+    /// Lends what commands need of the device of a number, counted from 0. None comes exactly where
+    /// there is no such device.
+    pub fn device(&self, dev: u64) -> Option<&DeviceSize>
+        ensures { option_copied result ≡ option_map size_of (device_at self.now dev) }
+    {
+        size_at(&self.hardware.devices, dev)
     }
 
     /// The header, `nandlab 1`: the first line with words.
@@ -90,6 +130,8 @@ impl PlanDraft {
             mut lines,
             mut hardware,
             flips,
+            data,
+            costs,
         } = self;
         rule(is_hardware(&lines), PlanKind::WrongPlace)?;
         let chips = last_chips(&lines)?.len();
@@ -109,6 +151,8 @@ impl PlanDraft {
             lines,
             hardware,
             flips,
+            data,
+            costs,
         })
     }
 
@@ -121,6 +165,8 @@ impl PlanDraft {
             mut lines,
             mut hardware,
             flips,
+            data,
+            costs,
         } = self;
         let chip = open_chip(&lines)?;
         rule(!words.is_empty(), PlanKind::BadWords)?;
@@ -131,6 +177,8 @@ impl PlanDraft {
             lines,
             hardware,
             flips,
+            data,
+            costs,
         })
     }
 
@@ -144,6 +192,8 @@ impl PlanDraft {
             mut lines,
             mut hardware,
             flips,
+            data,
+            costs,
         } = self;
         let chip = open_chip(&lines)?;
         let (kind, at, after, torn) = four_words(words)?;
@@ -159,6 +209,8 @@ impl PlanDraft {
             lines,
             hardware,
             flips,
+            data,
+            costs,
         })
     }
 
@@ -171,6 +223,8 @@ impl PlanDraft {
             mut lines,
             mut hardware,
             flips,
+            data,
+            costs,
         } = self;
         rule(is_hardware(&lines), PlanKind::WrongPlace)?;
         let chip = last_chip(&lines)?;
@@ -191,6 +245,8 @@ impl PlanDraft {
             lines,
             hardware,
             flips,
+            data,
+            costs,
         })
     }
 }

@@ -2,10 +2,14 @@
 #![tactic(auto)]
 
 mod boots;
+mod commands;
+mod data;
 mod draft;
 mod faults;
 mod geometry;
 mod hardware;
 mod places;
+#[cfg(test)]
+mod tests;
 
 pub use draft::PlanDraft;

@@ -1,12 +1,13 @@
 // Where a line may stand.
 ghost use Rattle.std.specs.Prelude.{◌≡◌, Ok, Err, MatchResult};
-ghost use Rattle.plan_grammar.specs.Rules.{rule};
+ghost use Rattle.plan_grammar.specs.declared.kind.PlanKind.TheVariants.{WrongPlace};
+ghost use Rattle.plan_grammar.specs.Rules.{rule, there, last_of};
 ghost use Rattle.plan_grammar.specs.Hardware.{is_hardware, has_chip, last_chips, last_chip, open_chip};
 ghost use Rattle.plan_grammar.specs.Faults.{last_boot, open_boot};
 ghost use Rattle.plan_grammar.specs.Sessions.{running_boot};
 
 use nand_model::ItemList;
-use plan_grammar::{BootLines, ChipLines, PlanKind, PlanLines};
+use plan_grammar::{BootLines, ChipLines, PlanKind, PlanLines, SessionLines};
 use plan_index::last;
 
 /// A rule that a test decides.
@@ -99,4 +100,13 @@ pub fn running_boot(lines: &PlanLines) -> Result<&BootLines, PlanKind>
         return Err(PlanKind::WrongPlace);
     }
     Ok(boot)
+}
+
+/// The last session of a boot.
+pub fn last_session(boot: &BootLines) -> Result<&SessionLines, PlanKind>
+    ensures { MatchResult result
+        (λ session. there (last_of boot.now.sessions) WrongPlace ≡ Ok session.now)
+        (λ kind. there (last_of boot.now.sessions) WrongPlace ≡ Err kind) }
+{
+    last(&boot.sessions).ok_or(PlanKind::WrongPlace)
 }

@@ -5,9 +5,14 @@ use Rattle.plan_grammar.specs.declared.kind.PlanKind.TheVariants.{TooLarge}
 use Rattle.plan_grammar.specs.declared.lines.PlanLines.{PlanLines}
 use Rattle.plan_grammar.specs.Rules.{last_of}
 use Rattle.plan_store.specs.FlipCount.{AreFlips}
+use Rattle.plan_index.specs.Data.{AreData}
+use Rattle.plan_costs.specs.Costs.{AreCosts}
+use Rattle.plan_costs.proofs.Boots.{costs_kept}
+use Rattle.plan_store.specs.SessionCount.{HaveFewSessions}
 use Rattle.plan_store.specs.Hardware.{HardwareInStep}
 use Rattle.plan_store.proofs.ChipsAt.{small_numbers_of, some_item}
 use Rattle.plan_store.proofs.FlipCounts.{flips_fault}
+use Rattle.plan_store.proofs.SessionCounts.{few_kept}
 use Rattle.plan_store.proofs.Found.{rule_true}
 use Rattle.plan_store.proofs.draft.PlanDraft.add_flip.Goals as goal
 
@@ -33,4 +38,9 @@ invariant_of-draft c =
       flips = subst (λ (plan : PlanLines). AreFlips plan.boots (c.draft.inside.flips + 1)) (sym c.in_ok-add_fault.ensures)
           (flips_fault c.draft.inside.lines.boots c.draft.inside.flips (c.draft.inside.flips + 1) some.0 _ last
           refl (omega (arith, room)) c.draft.invariant.flips);
+      sessions = subst (λ (plan : PlanLines). HaveFewSessions plan.boots) (sym c.in_ok-add_fault.ensures)
+          (few_kept c.draft.inside.lines.boots _ (λ boot. refl) c.draft.invariant.sessions);
+      payloads = subst (λ (plan : PlanLines). AreData plan.payloads c.draft.inside.data) (sym c.in_ok-add_fault.ensures) c.draft.invariant.payloads;
+      costs = subst (λ (plan : PlanLines). AreCosts plan c.draft.inside.costs) (sym c.in_ok-add_fault.ensures)
+          (costs_kept c.draft.inside.lines c.draft.inside.costs some.0 _ last (λ boot. refl) c.draft.invariant.costs);
     }

@@ -6,9 +6,13 @@ use Rattle.plan_grammar.specs.Hardware.{part_line, with_part}
 use Rattle.plan_index.specs.declared.device.DeviceSize.{DeviceSize}
 use Rattle.plan_store.specs.declared.hardware.HardwareIndex.{HardwareIndex}
 use Rattle.plan_store.specs.FlipCount.{AreFlips}
+use Rattle.plan_index.specs.Data.{AreData}
+use Rattle.plan_costs.specs.Costs.{AreCosts}
+use Rattle.plan_costs.proofs.Boots.{costs_of_none}
+use Rattle.plan_store.specs.SessionCount.{HaveFewSessions}
 use Rattle.plan_store.specs.Hardware.{HardwareInStep}
 use Rattle.plan_store.proofs.Controllers.{marks_of, open_at, step_part, some_items}
-use Rattle.plan_store.proofs.Found.{last_found, rule_true}
+use Rattle.plan_store.proofs.Found.{hardware_none, last_found, rule_true}
 use Rattle.plan_store.proofs.Refused.{part_taken}
 use Rattle.plan_store.proofs.draft.PlanDraft.part_line.Goals as goal
 
@@ -40,6 +44,12 @@ invariant_of-result c =
     } in
     record {
       flips = subst (λ (plan : PlanLines). AreFlips plan.boots c.self.inside.flips) (sym c.in_ok-add_part.ensures) c.self.invariant.flips;
+      sessions = subst (λ (plan : PlanLines). HaveFewSessions plan.boots) (sym c.in_ok-add_part.ensures) c.self.invariant.sessions;
+      payloads = subst (λ (plan : PlanLines). AreData plan.payloads c.self.inside.data) (sym c.in_ok-add_part.ensures) c.self.invariant.payloads;
+      costs =
+          let none = hardware_none c.self.inside.lines (sym c.is_hardware.ensures ∙ rule_true c.is_hardware.result WrongPlace c.in_ok-rule.field-0 (sym c.in_ok-rule.ensures)) in
+          subst (λ (plan : PlanLines). AreCosts plan c.self.inside.costs) (sym c.in_ok-add_part.ensures)
+          (costs_of_none c.self.inside.lines _ c.self.inside.costs none none c.self.invariant.costs);
       hardware = subst (λ (plan : PlanLines). HardwareInStep plan.controllers new) (sym c.in_ok-add_part.ensures)
           (step_part c.self.inside.lines.controllers c.self.inside.hardware new h.chips c.in_ok-chip.chip.now c.in_ok-part.part
           size c.self.invariant.hardware h.controller_is h.chip_is m refl
