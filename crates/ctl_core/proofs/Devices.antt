@@ -23,10 +23,12 @@ use Rattle.run_laws.proofs.Traces.{geometry_after}
 use Rattle.run_laws.proofs.Courses.{AtPlace, EndOf, by_log, Holds}
 use Rattle.run_laws.proofs.Faithful.{log_of}
 use Rattle.command_model.specs.Runnable.{Fits}
+use Rattle.tool_steps.specs.Steps.{asks_something}
 use Rattle.tool_steps.proofs.Asks.{asks_first}
 use Rattle.session_steps.specs.declared.session.Session.{Session}
-use Rattle.session_steps.specs.Standing.{standing}
+use Rattle.session_steps.specs.Standing.{IsBetween, standing}
 use Rattle.session_steps.specs.Mirrors.{IsUnderWay, Mirrors}
+use Rattle.session_steps.proofs.Idle.{next_asks}
 use Rattle.session_steps.proofs.Scripts.{an_op}
 use Rattle.run_model.specs.Start.{CanStart, IsOnChip, IsOfDevice}
 
@@ -116,21 +118,22 @@ drop_all P n xs all k d h =
 
 -- commands that are not over ask for an operation
 asks : (sizes : Command → Geometry) (command : Command) (rest : List Command) (replies : List Reply) (script : Option Script) → Fits (sizes command) command
-    → IsUnderWay sizes (command ∷ rest) replies script
+    → (IsBetween script → asks_something command ≡ true) → IsUnderWay sizes (command ∷ rest) replies script
     → (op : Op) × (next_op_of sizes (command ∷ rest) replies ≡ Some op)
-asks sizes command rest replies None can goes =
-    let n = an_op (next_step (sizes command) command []) (asks_first (sizes command) command can) in
+asks sizes command rest replies None can asking goes =
+    let n = an_op (next_step (sizes command) command []) (asks_first (sizes command) command can (asking tt)) in
     (n.0, ap (λ rs. op_of_next (next_step (sizes command) command rs)) goes ∙ ap op_of_next n.1)
-asks sizes command rest replies (Some (End outcome)) can goes =
-    let n = an_op (next_step (sizes command) command []) (asks_first (sizes command) command can) in
+asks sizes command rest replies (Some (End outcome)) can asking goes =
+    let n = an_op (next_step (sizes command) command []) (asks_first (sizes command) command can (asking tt)) in
     (n.0, ap (λ rs. op_of_next (next_step (sizes command) command rs)) goes ∙ ap op_of_next n.1)
-asks sizes command rest replies (Some (Ask op go_on)) can goes = (op, ap (λ s. op_of_next (next_in s)) (sym goes))
+asks sizes command rest replies (Some (Ask op go_on)) can asking goes = (op, ap (λ s. op_of_next (next_in s)) (sym goes))
 
 -- a session's next operation, by its commands that are left
 pub next_of : (sizes : Command → Geometry) (commands : List Command) (notes : List Note) (s : Session) (run : SessionRun) → Mirrors sizes commands notes s run
     → (command : Command) (rest : List Command) → run.commands ≡ command ∷ rest → Fits (sizes command) command
     → (op : Op) × (next_op_of sizes run.commands run.replies ≡ Some op)
 next_of sizes commands notes s run m command rest h can =
-    let a = asks sizes command rest run.replies (standing notes s).script can (subst (λ cs. IsUnderWay sizes cs run.replies (standing notes s).script) h
-    m.shows.goes_on) in
+    let a = asks sizes command rest run.replies (standing notes s).script can
+    (λ between. next_asks commands (standing notes s) command rest between (sym m.shows.left ∙ h))
+    (subst (λ cs. IsUnderWay sizes cs run.replies (standing notes s).script) h m.shows.goes_on) in
     (a.0, ap (λ cs. next_op_of sizes cs run.replies) h ∙ a.1)

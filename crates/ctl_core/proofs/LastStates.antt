@@ -9,6 +9,7 @@ use Rattle.std.proofs.lemmas.Option.{slice_get_within, slice_get-map, slice_get-
 use Rattle.nand_iface.specs.declared.flash.Flash.{Ghosts}
 use Rattle.nand_model.specs.declared.geometry.Geometry.{Geometry}
 use Rattle.nand_model.specs.declared.words.Command.{Command}
+use Rattle.nand_model.specs.declared.words.Note.{Note}
 use Rattle.nand_model.specs.declared.words.Op.{Op}
 use Rattle.nand_model.specs.declared.words.Reply.{Reply}
 use Rattle.nand_model.specs.declared.words.Part.{Part}
@@ -28,7 +29,7 @@ use Rattle.ctl_core.specs.declared.board.Board.{Board}
 use Rattle.ctl_core.specs.SlotState.{SlotState, slot_as, slots_as}
 use Rattle.ctl_core.specs.Past.{Past, starts_of, sizes_in, course_of}
 use Rattle.run_model.specs.Start.{IsOnChip}
-use Rattle.ctl_core.specs.Ended.{end_of_run, all_bad_blocks, slot_flash, slot_statistics_on, slot_statistics_at, slot_statistics, slot_bad_blocks}
+use Rattle.ctl_core.specs.Ended.{ends_beside, end_of_run, all_bad_blocks, slot_flash, slot_statistics_on, slot_statistics_at, slot_statistics, slot_bad_blocks}
 use Rattle.run_model.specs.Statistics.{statistics_known, statistics_on, statistics_at, device_numbers, device_statistics}
 use Rattle.ctl_core.specs.Board.{slot_states, IsOnCourse}
 use Rattle.ctl_core.proofs.Places.{item_at}
@@ -110,6 +111,39 @@ found_passes test is_it (y ∷ ys) x h g = by_test (is_it y) g (found_passes tes
     by_test true e later = let same : y ≡ x = cc in ap test (sym same) ∙ (and_parts _ _ h).0
     by_test false e later = later e
 
+-- sessions that ended each as the one at its place ended alike
+ends_alike : (begun : List (ℕ × List Command)) (notes : List Note) (sessions : List Session) (runs : List SessionRun) → length sessions ≡ length begun
+    → length runs ≡ length begun
+    → ((i : ℕ) (own : ℕ × List Command) (s : Session) (run : SessionRun) → slice_get begun i ≡ Some own → slice_get sessions i ≡ Some s
+    → slice_get runs i ≡ Some run → end_of own.1 false (standing notes s) ≡ end_of_run run)
+    → ends_beside begun notes sessions ≡ map end_of_run runs
+ends_alike [] notes sessions [] many runs_many same = refl
+ends_alike [] notes sessions (run ∷ runs) many runs_many same = absurd (omega arith)
+ends_alike (own ∷ begun) notes [] runs many runs_many same = absurd (omega arith)
+ends_alike (own ∷ begun) notes (s ∷ sessions) [] many runs_many same = absurd (omega arith)
+ends_alike (own ∷ begun) notes (s ∷ sessions) (run ∷ runs) many runs_many same =
+    let first : end_of own.1 false (standing notes s) ≡ end_of_run run = same 0 own s run refl refl refl in
+    let rest : ends_beside begun notes sessions ≡ map end_of_run runs =
+    ends_alike begun notes sessions runs (omega (arith, many)) (omega (arith, runs_many)) (λ i. same (suc i)) in
+    λ d. first d ∷ rest d
+
+-- no session ended yet
+pub ends_none : (begun : List (ℕ × List Command)) (notes : List Note) → ends_beside begun notes [] ≡ []
+ends_none [] notes = refl
+ends_none (own ∷ begun) notes = refl
+
+-- one more session ends
+pub ends_push : (begun : List (ℕ × List Command)) (notes : List Note) (sessions : List Session) (s : Session) (commands : List Command)
+    → option_map (λ (x : ℕ × List Command). x.1) (slice_get begun (length sessions)) ≡ Some commands
+    → ends_beside begun notes (sessions ++ s ∷ []) ≡ ends_beside begun notes sessions ++ end_of commands false (standing notes s) ∷ []
+ends_push [] notes sessions s commands here = cc
+ends_push (own ∷ begun) notes [] s commands here =
+    let own_first : Some own.1 ≡ Some commands = here in
+    let same : own.1 ≡ commands = cc in
+    ap (λ ends. end_of own.1 false (standing notes s) ∷ ends) (ends_none begun notes) ∙ ap (λ commands. end_of commands false (standing notes s) ∷ []) same
+ends_push (own ∷ begun) notes (first ∷ sessions) s commands here =
+    ap (λ ends. end_of own.1 false (standing notes first) ∷ ends) (ends_push begun notes sessions s commands here)
+
 module _ {F C : Type 0} {flash : Ghosts F} (past : Past F) (board : Board F C flash) (on : IsOnCourse past board) where
   -- the parts lie on chips that are there
   pub parts_there : All (λ (part : Part). part.chip < length board.slots.items) past.boot.partitions.parts
@@ -135,19 +169,16 @@ module _ {F C : Type 0} {flash : Ghosts F} (past : Past F) (board : Board F C fl
       (list_all (λ (s : SessionRun). is_finished s.commands) (course_of flash.fault_model flash.state past).sessions) on.stands.keeps.lit over).1 there
 
   pub last_outcomes : is_over (course_of flash.fault_model flash.state past) ≡ true
-      → map (λ (s : Session). end_of false (standing board.notes.notes s)) board.sessions.items
-      ≡ map end_of_run (course_of flash.fault_model flash.state past).sessions
-  last_outcomes over = same_mapped (λ (s : Session). end_of false (standing board.notes.notes s)) end_of_run board.sessions.items
-      (course_of flash.fault_model flash.state past).sessions
-      (on.stands.mirrors.many ∙ sym on.stands.mirrors.runs_many) same_end
+      → ends_beside past.boot.sessions board.notes.notes board.sessions.items ≡ map end_of_run (course_of flash.fault_model flash.state past).sessions
+  last_outcomes over = ends_alike past.boot.sessions board.notes.notes board.sessions.items
+      (course_of flash.fault_model flash.state past).sessions on.stands.mirrors.many on.stands.mirrors.runs_many same_end
     where
-      same_end : (i : ℕ) (s : Session) (run : SessionRun) → slice_get board.sessions.items i ≡ Some s
+      same_end : (i : ℕ) (own : ℕ × List Command) (s : Session) (run : SessionRun) → slice_get past.boot.sessions i ≡ Some own
+          → slice_get board.sessions.items i ≡ Some s
           → slice_get (course_of flash.fault_model flash.state past).sessions i ≡ Some run
-          → end_of false (standing board.notes.notes s) ≡ end_of_run run
-      same_end i s run at there =
-          let within = slice_get_within board.sessions.items i s at in
-          let b = item_at past.boot.sessions i (omega (arith, within, on.stands.mirrors.many)) in
-          let m = (on.stands.mirrors.each i b.0 s run b.1 at there).1 in
+          → end_of own.1 false (standing board.notes.notes s) ≡ end_of_run run
+      same_end i own s run begun at there =
+          let m = (on.stands.mirrors.each i own s run begun at there).1 in
           λ d. record { session = sym m.shows.number d; cut = not (sym (each_finished over i run there) d); outcomes = sym m.shows.outcomes d }
 
   pub last_statistics : slot_statistics past.boot.partitions (slot_states board) (device_numbers past.boot.partitions)

@@ -228,13 +228,13 @@ module _ {F C : Type 0} {flash : Ghosts F} (past : Past F) (board : Board F C fl
     pub first_left : (command : Command) → slice_get own_place.run.commands 0 ≡ Some command → FirstLeft command
     first_left command h =
         let f = first_of_list own_place.run.commands command h in
-        let own_at : slice_get own_place.own.1 (length (outcomes_by (standing board.notes.notes s))) ≡ Some command =
-        first_at (length (outcomes_by (standing board.notes.notes s))) own_place.own.1 command f.0 (sym own_place.mirrors.shows.left ∙ f.1) in
+        let own_at : slice_get own_place.own.1 (length (outcomes_by own_place.own.1 (standing board.notes.notes s))) ≡ Some command =
+        first_at (length (outcomes_by own_place.own.1 (standing board.notes.notes s))) own_place.own.1 command f.0 (sym own_place.mirrors.shows.left ∙ f.1) in
         let r = ready flash.fault_model past.boot (starts_of flash.state past) (course_of flash.fault_model flash.state past)
         (holds past board turn.on_course) turn.on_course.conditions
-        place (length (outcomes_by (standing board.notes.notes s))) own_place.own command own_place.begun_at own_at in
+        place (length (outcomes_by own_place.own.1 (standing board.notes.notes s))) own_place.own command own_place.begun_at own_at in
         let o = next_of (sizes_in flash.state past) own_place.own.1 board.notes.notes s own_place.run own_place.mirrors command f.0 f.1 r.can in
-        let all = drop_all (λ c. Fits (sizes_in flash.state past c) c) (length (outcomes_by (standing board.notes.notes s))) own_place.own.1
+        let all = drop_all (λ c. Fits (sizes_in flash.state past c) c) (length (outcomes_by own_place.own.1 (standing board.notes.notes s))) own_place.own.1
         own_place.mirrors.runnable in
         let taken = subst (First (λ c. (device_of o.0 ≡ command_device c) × IsTaken (sizes_in flash.state past c) o.0)) f.1
         (next_taken (sizes_in flash.state past) own_place.run o.0 (subst (All (λ c. Fits (sizes_in flash.state past c) c))

@@ -1,7 +1,9 @@
 -- What a controller that is over leaves.
-use Rattle.std.specs.Prelude.{not, ℕ, List, map, sum_by, Option, Some, None, slice_get}
+use Rattle.std.specs.Prelude.{not, ℕ, List, [], ◌∷◌, false, map, sum_by, Option, Some, None, slice_get}
 use Rattle.command_model.specs.Session.{SessionRun, exchanges_of, is_finished, session_after}
 use Rattle.session_steps.specs.Ended.{EndOfSession}
+use Rattle.session_steps.specs.Standing.{end_of, standing}
+use Rattle.session_steps.specs.declared.session.Session.{Session}
 use Rattle.nand_model.specs.Chip.{ChipState}
 use Rattle.command_model.specs.Boot.{Boot}
 use Rattle.run_model.specs.Course.{sizes_of, Course}
@@ -28,6 +30,13 @@ end_by_notes boot starts notes own = end_of_run
 -- how each session of a boot ended, by the notes of its controller
 abbrev pub ends_by_notes : {W : Type 0} → Boot → List (ChipState W) → List Note → List EndOfSession
 ends_by_notes boot starts notes = map (end_by_notes boot starts notes) boot.sessions
+
+-- how sessions that stand so ended, each beside the commands of the boot's session at its place
+abbrev pub ends_beside : List (ℕ × List Command) → List Note → List Session → List EndOfSession
+ends_beside [] notes sessions = []
+ends_beside (own ∷ begun) notes [] = []
+ends_beside (own ∷ begun) notes (s ∷ sessions) =
+    end_of own.1 false (standing notes s) ∷ ends_beside begun notes sessions
 
 -- the bad blocks of all chips of a course
 abbrev pub all_bad_blocks : {W : Type 0} → Partitions → Course W → ℕ

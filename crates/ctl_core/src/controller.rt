@@ -222,7 +222,7 @@ impl<F: Flash, C: PageCode> Core<F, C> {
             sessions,
             ..
         } = board;
-        let outcomes = end_all(alloc, sessions, &notes)?;
+        let outcomes = end_all(alloc, &journal.boot, sessions, &notes)?;
         let flashes = stop_all(alloc, slots)?;
         Ok(Ended {
             flashes,

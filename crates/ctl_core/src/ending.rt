@@ -1,9 +1,8 @@
 // What a controller that is over leaves.
-ghost use Rattle.std.specs.Prelude.{◌≡◌, ◌≤◌, ◌<◌, All, length, map, sum_by, false, IfOk};
+ghost use Rattle.std.specs.Prelude.{◌≡◌, ◌≤◌, ◌<◌, All, length, map, sum_by, IfOk};
 ghost use Rattle.nand_model.specs.declared.words.Part.{Part as Partition};
-ghost use Rattle.session_steps.specs.Standing.{standing, end_of};
 ghost use Rattle.nand_model.specs.Partitions.{chip_of};
-ghost use Rattle.ctl_core.specs.Ended.{slot_flash, slot_bad_blocks, slot_statistics, slot_statistics_at};
+ghost use Rattle.ctl_core.specs.Ended.{ends_beside, slot_flash, slot_bad_blocks, slot_statistics, slot_statistics_at};
 ghost use Rattle.run_model.specs.Statistics.{device_numbers};
 ghost use Rattle.ctl_core.specs.Board.{slot_state};
 
@@ -12,7 +11,7 @@ use mtd_part::Parts;
 use nand_iface::{Flash, History, PageCode, Stats};
 use session_steps::{OutcomeList, Session, StatsList};
 use std::alloc::{AllocError, Global};
-use tool_steps::FlashList;
+use tool_steps::{ControllerBoot, FlashList};
 
 /// What a controller that is over leaves.
 #[derive(Drop)]
@@ -45,18 +44,21 @@ pub fn stop_all<F: Flash, C: PageCode>(
     Ok(flashes)
 }
 
-// How the sessions ended.
+// How the sessions of the boot ended.
 pub fn end_all(
     alloc: Global,
+    boot: &ControllerBoot,
     sessions: Vec<Session>,
     notes: &History,
 ) -> Result<OutcomeList, AllocError>
-    ensures { IfOk result (λ ends. ends
-        ≡ map (λ s. end_of false (standing notes.now.notes s)) sessions.items) }
+    requires { length sessions.items ≤ length boot.now.sessions }
+    ensures { IfOk result
+        (λ ends. ends ≡ ends_beside boot.now.sessions notes.now.notes sessions.items) }
 {
     let mut ends = OutcomeList::new(alloc);
     for session in sessions {
-        let end = session.finish(notes, false)?;
+        let commands = boot.commands(ends.len());
+        let end = session.finish(commands, notes, false)?;
         ends.append(end)?;
     }
     Ok(ends)

@@ -11,7 +11,7 @@ use Rattle.command_model.specs.Command.{command_blocks}
 use Rattle.command_model.specs.Boot.{Boot, AreAscending}
 use Rattle.run_model.specs.Course.{sizes_of}
 use Rattle.run_model.specs.Start.{boot_cost, CanRunBoot, CanStart, IsPlain, IsOnChip, IsOfDevice, IsOnFlash}
-use Rattle.ctl_tests.specs.Small.{IsSmall, IsSmallFlip, ArePairOfSmall, erasing, asking, dumping, boot_of, first_block, reading_sessions, small_parts, small_sessions, small_sizes}
+use Rattle.ctl_tests.specs.Small.{IsSmall, IsSmallFlip, ArePairOfSmall, erasing, asking, marking, dumping, boot_of, first_block, reading_sessions, small_parts, small_sessions, small_sizes}
 
 all_one : {A : Type 0} (P : A → Type 0) (x : A) → P x → All P (x ∷ [])
 all_one P x p zero d h = p
@@ -28,7 +28,7 @@ ascending : AreAscending small_sessions
 ascending zero zero a b l h g = absurd (omega arith)
 ascending zero (suc zero) a b l h g =
     let one : (0, erasing 0 ∷ asking 1 ∷ []) ≡ a = cc (h) in
-    let other : (1, asking 0 ∷ erasing 1 ∷ []) ≡ b = cc (g) in
+    let other : (1, asking 0 ∷ marking 1 ∷ []) ≡ b = cc (g) in
     let first : a.0 ≡ 0 = ap (λ (x : ℕ × List Command). x.0) (sym one) in
     let second : b.0 ≡ 1 = ap (λ (x : ℕ × List Command). x.0) (sym other) in
     omega (arith, first, second)
@@ -44,21 +44,25 @@ alone zero (suc j) a b l h g = cc
 alone (suc i) j a b l h g = cc
 
 erases : (dev : ℕ) → Fits small_sizes (erasing dev)
-erases dev = (record { size = (omega arith, omega arith); first = omega arith; last = omega arith }, tt)
+erases dev = record { size = (omega arith, omega arith); first = omega arith; last = omega arith }
 
 asks : (dev : ℕ) → Fits small_sizes (asking dev)
-asks dev = ((omega arith, omega arith), tt)
+asks dev = (omega arith, omega arith)
+
+marks : (dev : ℕ) → Fits small_sizes (marking dev)
+marks dev = (omega arith, omega arith)
 
 dumps : Fits small_sizes (dumping 0)
-dumps = (record { size = (omega arith, omega arith); first = omega arith; last = omega arith }, tt)
+dumps = record { size = (omega arith, omega arith); first = omega arith; last = omega arith }
 
 -- the commands of all sessions are such
 abbrev AllAre : (Command → Type 0) → List (ℕ × List Command) → Type 0
 AllAre P sessions = All (λ (s : ℕ × List Command). All P s.1) sessions
 
-small_all : (P : Command → Type 0) → ((dev : ℕ) → dev < 2 → P (erasing dev)) → ((dev : ℕ) → dev < 2 → P (asking dev)) → AllAre P small_sessions
-small_all P e a = all_two (λ (s : ℕ × List Command). All P s.1) (0, erasing 0 ∷ asking 1 ∷ []) (1, asking 0 ∷ erasing 1 ∷ [])
-    (all_two P (erasing 0) (asking 1) (e 0 (omega arith)) (a 1 (omega arith))) (all_two P (asking 0) (erasing 1) (a 0 (omega arith)) (e 1 (omega arith)))
+small_all : (P : Command → Type 0) → ((dev : ℕ) → dev < 2 → P (erasing dev)) → ((dev : ℕ) → dev < 2 → P (asking dev))
+    → ((dev : ℕ) → dev < 2 → P (marking dev)) → AllAre P small_sessions
+small_all P e a m = all_two (λ (s : ℕ × List Command). All P s.1) (0, erasing 0 ∷ asking 1 ∷ []) (1, asking 0 ∷ marking 1 ∷ [])
+    (all_two P (erasing 0) (asking 1) (e 0 (omega arith)) (a 1 (omega arith))) (all_two P (asking 0) (marking 1) (a 0 (omega arith)) (m 1 (omega arith)))
 
 reading_all : (P : Command → Type 0) → P (dumping 0) → AllAre P reading_sessions
 reading_all P d = all_one (λ (s : ℕ × List Command). All P s.1) (0, dumping 0 ∷ dumping 0 ∷ dumping 0 ∷ [])
@@ -104,8 +108,9 @@ module _ {W : Type 0} where
 
     small_can : CanStart (boot_of [] small_sessions) pair
     small_can = can_start [] small_sessions (λ k d h. absurd (omega arith)) (omega arith)
-        (small_all (IsOfDevice small_parts) (λ dev h. device dev h (erasing dev) refl refl) (λ dev h. device dev h (asking dev) refl refl))
-        (small_all (λ c. Fits (sizes_of (boot_of [] small_sessions) pair c) c) (λ dev h. erases dev) (λ dev h. asks dev)) ascending (omega arith)
+        (small_all (IsOfDevice small_parts) (λ dev h. device dev h (erasing dev) refl refl) (λ dev h. device dev h (asking dev) refl refl)
+        (λ dev h. device dev h (marking dev) refl refl))
+        (small_all (λ c. Fits (sizes_of (boot_of [] small_sessions) pair c) c) (λ dev h. erases dev) (λ dev h. asks dev) (λ dev h. marks dev)) ascending (omega arith)
       where
         device : (dev : ℕ) → dev < 2 → (command : Command) → command_device command ≡ dev → command_blocks command ≡ 1 → IsOfDevice small_parts command
         device zero h command e n = (first_block 0, ap (part_of small_parts) e, n)

@@ -1,12 +1,12 @@
--- Boots of two chips with one device each: two sessions that erase and ask, and one that dumps a
--- page.
+-- Boots of two chips with one device each: two sessions that erase, ask and mark, and one that
+-- dumps a page.
 use Rattle.std.specs.Prelude.{◌≡◌, ◌<◌, ℕ, true, false, List, [], ◌∷◌, All, refl, ◌≤◌, length}
 use Rattle.nand_model.specs.Chip.{ChipState}
 use Rattle.nand_model.specs.Partitions.{Partitions}
 use Rattle.nand_model.specs.declared.geometry.Geometry.{Geometry}
 use Rattle.nand_model.specs.declared.words.BadMode.TheVariants.{DumpBad}
 use Rattle.nand_model.specs.declared.words.Command.{Command}
-use Rattle.nand_model.specs.declared.words.Command.TheVariants.{FlashErase, IsBad, NandDump}
+use Rattle.nand_model.specs.declared.words.Command.TheVariants.{FlashErase, IsBad, MarkBad, NandDump}
 use Rattle.nand_model.specs.declared.words.Flip.{Flip}
 use Rattle.nand_model.specs.declared.words.Part.{Part}
 use Rattle.command_model.specs.Boot.{Boot}
@@ -20,6 +20,10 @@ erasing dev = FlashErase dev 1 true 0 0
 abbrev pub asking : ℕ → Command
 asking dev = IsBad dev 1 0
 
+-- markbad of block 0 of a device of one block
+abbrev pub marking : ℕ → Command
+marking dev = MarkBad dev 1 0
+
 -- nanddump -n of the first page of a device of one block, whatever its state
 abbrev pub dumping : ℕ → Command
 dumping dev = NandDump dev 1 0 2048 true false DumpBad
@@ -32,9 +36,9 @@ first_block chip = record { chip = chip; start = 0; count = 1 }
 abbrev pub small_parts : Partitions
 small_parts = record { first = 0; parts = first_block 0 ∷ first_block 1 ∷ [] }
 
--- two sessions that erase and ask
+-- two sessions, of which one erases and asks, and the other asks and marks
 abbrev pub small_sessions : List (ℕ × List Command)
-small_sessions = (0, erasing 0 ∷ asking 1 ∷ []) ∷ (1, asking 0 ∷ erasing 1 ∷ []) ∷ []
+small_sessions = (0, erasing 0 ∷ asking 1 ∷ []) ∷ (1, asking 0 ∷ marking 1 ∷ []) ∷ []
 
 -- a session that dumps a page three times
 abbrev pub reading_sessions : List (ℕ × List Command)

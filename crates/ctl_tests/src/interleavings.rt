@@ -28,14 +28,18 @@ fn told(note: &Note) -> Told {
             session,
             op: Op::IsBad { dev, block: 0 },
         } => Told::Began(*session, *dev),
+        Note::Began {
+            session,
+            op: Op::Mark { dev, block: 0 },
+        } => Told::Began(*session, *dev),
         Note::Answered {
             session,
             reply: Reply::Done,
-        } => Told::Answered(*session),
+        } => Told::Answered(*session, 0),
         Note::Answered {
             session,
-            reply: Reply::State(0),
-        } => Told::Answered(*session),
+            reply: Reply::State(state),
+        } => Told::Answered(*session, *state),
         _ => Told::Other,
     }
 }
@@ -58,7 +62,7 @@ fn ended_well(end: &SessionEnd) -> bool {
     end.len() == 2 && !end.cut() && fine(end.get(0)) && fine(end.get(1))
 }
 
-// An erase of one block, or a good block.
+// An erase of one block, a mark, or a block that is good or worn.
 fn fine(outcome: &Outcome) -> bool {
     matches!(
         outcome,
@@ -67,8 +71,8 @@ fn fine(outcome: &Outcome) -> bool {
             bad: 0,
             failed: 0
         } | Outcome::IsBad {
-            reply: Reply::State(0)
-        }
+            reply: Reply::State(0 | 1)
+        } | Outcome::MarkBad { reply: Reply::Done }
     )
 }
 
@@ -83,7 +87,7 @@ fn play<F: Flash, C: PageCode>(
 {
     let mut first = Side::START;
     let mut second = Side::START;
-    for n in 0..20u32 {
+    for n in 0..24u32 {
         let asked = if n < 6 { order >> n } else { n };
         let (turn, note) = if asked % 2 == 0 {
             let (side, turn, note) = first.turn(0, second);
@@ -115,7 +119,7 @@ fn every_interleaving_goes_by_the_rules(rt: HostRuntime) -> Result<(), Fail> {
         attach_all(&mut core)?;
         let mut want = vec![in alloc; Told::Attached(0), Told::Attached(1)]?;
         assert!(rt; play(&mut core, order, &mut want)?, "at {order}");
-        assert_eq!(rt; core.turn_count(), 10);
+        assert_eq!(rt; core.turn_count(), 11);
         assert_eq!(rt; core.session(1), Some(1));
         assert_eq!(rt; core.session(2), None);
         if !core.over() {
@@ -125,7 +129,7 @@ fn every_interleaving_goes_by_the_rules(rt: HostRuntime) -> Result<(), Fail> {
         assert!(rt; all_told(&ended.notes, &want));
         assert_eq!(rt; ended.flashes.len(), 2);
         assert_eq!(rt; ended.stats.len(), 2);
-        assert_eq!(rt; ended.bad, 0);
+        assert_eq!(rt; ended.bad, 1);
         assert_eq!(rt; ended.outcomes.len(), 2);
         for n in 0..ended.outcomes.len() {
             assert!(rt; ended_well(ended.outcomes.get(n)));

@@ -9,8 +9,8 @@ pub enum Told {
     Attached(u32),
     /// A session began an operation on a device.
     Began(u32, u32),
-    /// A session was answered as it should be: the erase was done, or the block is good.
-    Answered(u32),
+    /// A session was answered: that its erase or its mark was done, or this state of the block.
+    Answered(u32, u32),
     /// Something else.
     Other,
 }
@@ -30,7 +30,7 @@ fn next(session: u32, answered: u32) -> Option<(u32, u32)> {
         (0, 0) => Some((0, 1)),
         (0, 1) => Some((1, 0)),
         (1, 0) => Some((0, 0)),
-        (1, 1) => Some((1, 1)),
+        (1, 1) => Some((1, 2)),
         _ => None,
     }
 }
@@ -58,7 +58,9 @@ impl Side {
                     answered: self.answered.saturating_add(1),
                     left: None,
                 };
-                (after, Turn::Did, Some(Told::Answered(session)))
+                // Session 0 sees the block marked where session 1 is done with its mark.
+                let worn = session == 0 && self.answered == 1 && other.answered == 2;
+                (after, Turn::Did, Some(Told::Answered(session, u32::from(worn))))
             }
             (Some(left), _) => {
                 let after = Side {

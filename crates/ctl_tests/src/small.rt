@@ -2,7 +2,7 @@
 ghost use Rattle.std.specs.Prelude.{◌≡◌, ◌<◌, ◌≤◌, ◌++◌, ◌∷◌, [], All, length, map, IfOk, OnOk};
 ghost use Rattle.chip_sim.specs.State.{sim_state};
 ghost use Rattle.tool_steps.specs.Boot.{with_command};
-ghost use Rattle.ctl_tests.specs.Small.{IsSmall, IsSmallFlip, ArePairOfSmall, asking, boot_of, dumping, erasing, reading_sessions, small_parts, small_sessions, small_sizes};
+ghost use Rattle.ctl_tests.specs.Small.{IsSmall, IsSmallFlip, ArePairOfSmall, asking, boot_of, dumping, erasing, marking, reading_sessions, small_parts, small_sessions, small_sizes};
 
 use chip_sim::SimChip;
 use ctl_core::{ControllerBoot, Core, FlashList};
@@ -15,7 +15,7 @@ use std::test::Fail;
 
 /// A controller of two chips of eight blocks, with device 0 on the first block of chip 0 and device
 /// 1 on that of chip 1. Session 0 erases device 0 and asks for the state of device 1's block;
-/// session 1 asks for that of device 0's block and erases device 1.
+/// session 1 asks for that of device 0's block and marks device 1's.
 pub fn small_core(alloc: Global) -> Result<Core<SimChip, EccPage>, Fail> {
     let boot = small_boot(alloc)?;
     let flashes = small_flashes(alloc)?;
@@ -90,7 +90,7 @@ fn small_parts(alloc: Global) -> Result<Parts, Fail>
     Ok(parts)
 }
 
-// The two sessions that erase and ask.
+// The two sessions that erase, ask and mark.
 fn small_boot(alloc: Global) -> Result<ControllerBoot, Fail>
     ensures { IfOk result (λ boot. boot ≡ boot_of [] small_sessions) }
 {
@@ -100,7 +100,7 @@ fn small_boot(alloc: Global) -> Result<ControllerBoot, Fail>
     add(&mut boot, ask(1))?;
     boot.add_session(1)?;
     add(&mut boot, ask(0))?;
-    add(&mut boot, erase(1))?;
+    add(&mut boot, mark(1))?;
     Ok(boot)
 }
 
@@ -145,6 +145,17 @@ fn ask(dev: u32) -> Command
     ensures { result ≡ asking dev }
 {
     Command::IsBad {
+        dev,
+        blocks: 1,
+        block: 0,
+    }
+}
+
+// Marks the block of a device of one block.
+fn mark(dev: u32) -> Command
+    ensures { result ≡ marking dev }
+{
+    Command::MarkBad {
         dev,
         blocks: 1,
         block: 0,

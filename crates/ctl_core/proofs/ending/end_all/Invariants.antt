@@ -1,7 +1,7 @@
-use Rattle.std.proofs.Common.{◌≡◌, map, false}
-use Rattle.session_steps.specs.declared.session.Session.{Session}
-use Rattle.session_steps.specs.Standing.{standing, end_of}
+use Rattle.std.proofs.Common.{◌≡◌, length}
+use Rattle.ctl_core.specs.Ended.{ends_beside}
 use Rattle.ctl_core.proofs.ending.end_all.Given as goal
 
+-- the sessions so far have ended
 abbrev pub invariant-loop-session : goal.invariant-loop-session
-invariant-loop-session l = l.ends ≡ map (λ (s : Session). end_of false (standing l.notes.notes s)) l.yielded
+invariant-loop-session l = record { ended : l.ends ≡ ends_beside l.boot.sessions l.notes.notes l.yielded; many : length l.ends ≡ length l.yielded }
