@@ -4,7 +4,8 @@ ghost use Rattle.std.specs.Prelude.{◌≡◌, [], ◌∷◌, IfOk, true, false,
 use crate::{Session, SessionEnd};
 use nand_iface::History;
 use nand_model::{
-    BadMode, Bytes, Command, Geometry, ItemList, Note, Op, Outcome, PageKind, PageRead, Reply,
+    BadMode, Bytes, Command, Ending, Geometry, ItemList, Note, Op, Outcome, PageKind, PageRead,
+    Reply,
 };
 use std::alloc::{AllocError, Global};
 use std::test::Fail;
@@ -19,10 +20,13 @@ fn sizes() -> Result<Geometry, Fail>
     )
 }
 
-// `isbad` of a block, and then `nanddump` of the first page.
+// `isbad` of a block, and then `nanddump` of the first page, each with a `nandwrite` of no data
+// behind it.
 fn commands(alloc: Global) -> Result<ItemList<Command>, Fail>
     ensures { IfOk result (λ commands. commands ≡ Command.IsBad 3 16 5
-        ∷ Command.NandDump 3 16 0 2048 true false BadMode.DumpBad ∷ []) }
+        ∷ Command.NandWrite 3 16 true false false true 0 []
+        ∷ Command.NandDump 3 16 0 2048 true false BadMode.DumpBad
+        ∷ Command.NandWrite 3 16 true false false true 0 [] ∷ []) }
 {
     let mut commands = ItemList::new(alloc);
     let asking = Command::IsBad {
@@ -40,8 +44,31 @@ fn commands(alloc: Global) -> Result<ItemList<Command>, Fail>
         bad: BadMode::DumpBad,
     };
     commands.push(asking).map_err(|_e| "memory")?;
+    commands
+        .push(writing_nothing(alloc)?)
+        .map_err(|_e| "memory")?;
     commands.push(dumping).map_err(|_e| "memory")?;
+    commands
+        .push(writing_nothing(alloc)?)
+        .map_err(|_e| "memory")?;
     Ok(commands)
+}
+
+// `nandwrite` of no data.
+fn writing_nothing(alloc: Global) -> Result<Command, AllocError>
+    ensures { IfOk result
+        (λ command. command ≡ Command.NandWrite 3 16 true false false true 0 []) }
+{
+    Ok(Command::NandWrite {
+        dev: 3,
+        blocks: 16,
+        mark: true,
+        raw: false,
+        oob: false,
+        pad: true,
+        off: 0,
+        bytes: Bytes::with_room(alloc, 0)?,
+    })
 }
 
 fn answered(notes: &mut History, reply: Reply) -> Result<usize, Fail>
@@ -55,7 +82,7 @@ fn answered(notes: &mut History, reply: Reply) -> Result<usize, Fail>
 }
 
 #[test]
-fn goes_through_two_commands(rt: HostRuntime) -> Result<(), Fail> {
+fn goes_through_its_commands(rt: HostRuntime) -> Result<(), Fail> {
     let alloc = rt.alloc();
     let g = sizes()?;
     let commands = commands(alloc)?;
@@ -90,7 +117,21 @@ fn goes_through_two_commands(rt: HostRuntime) -> Result<(), Fail> {
     let ended = session.finish(&commands, &notes, false)?;
     assert_eq!(rt; ended.session(), 7);
     assert!(rt; !ended.cut());
-    assert_eq!(rt; ended.len(), 2);
+    assert_eq!(rt; ended.len(), 4);
+    for n in [1, 3] {
+        let written = ended.get(n);
+        assert!(rt;
+            matches!(
+                written,
+                Outcome::NandWrite {
+                    pages: 0,
+                    skipped: 0,
+                    failed: 0,
+                    ending: Ending::Whole
+                }
+            )
+        );
+    }
     let asked = ended.get(0);
     assert!(rt;
         matches!(
@@ -100,7 +141,7 @@ fn goes_through_two_commands(rt: HostRuntime) -> Result<(), Fail> {
             }
         )
     );
-    let dumped = ended.get(1);
+    let dumped = ended.get(2);
     assert!(rt;
         matches!(
             dumped,

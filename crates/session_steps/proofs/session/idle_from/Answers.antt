@@ -12,13 +12,13 @@ loop-place-init c = omega arith
 pub returns-then-has_operation-clause-idle : goal.returns-then-has_operation-clause-idle
 returns-then-has_operation-clause-idle c =
     let none = idle-found c.args.commands.now c.loop-place.place c.get.result.now c.get.ensures
-        (sym c.has_operation.ensures.asked ∙ c.if-has_operation.true) in
+    (sym c.has_operation.ensures.asked ∙ c.if-has_operation.true) in
     omega (arith, none, c.loop-place.invariant, c.loop-place.auto.place)
 
 pub loop-place-preserved : goal.loop-place-preserved
 loop-place-preserved c =
     let more = idle-more c.args.commands.now c.loop-place.place c.get.result.now c.get.ensures
-        (sym c.has_operation.ensures.asked ∙ c.if-has_operation.false) in
+    (sym c.has_operation.ensures.asked ∙ c.if-has_operation.false) in
     omega (arith, more, c.loop-place.invariant)
 
 pub returns-clause-idle : goal.returns-clause-idle

@@ -10,12 +10,13 @@ pub push_reserved-requires : goal.push_reserved-requires
 push_reserved-requires c = omega (arith, c.loop.invariant.1, c.loop-test.true)
 
 pub loop-preserved : goal.loop-preserved
-loop-preserved c =
-    (c.push_reserved.ensures.items
-    ∙ ap (λ xs. xs ++ nothing_written ∷ []) c.loop.invariant.0
-    ∙ append_assoc c.args.outcomes.now.items (replicate c.loop.counter nothing_written) (nothing_written ∷ [])
-    ∙ ap (λ ys. c.args.outcomes.now.items ++ ys) (replicate_more c.loop.counter nothing_written),
-    omega (arith, c.loop.invariant.1, c.push_reserved.ensures.len, c.push_reserved.ensures.capacity))
+loop-preserved c = (
+  c.push_reserved.ensures.items
+      ∙ ap (λ xs. xs ++ nothing_written ∷ []) c.loop.invariant.0
+      ∙ append_assoc c.args.outcomes.now.items (replicate c.loop.counter nothing_written) (nothing_written ∷ [])
+      ∙ ap (λ ys. c.args.outcomes.now.items ++ ys) (replicate_more c.loop.counter nothing_written),
+  omega (arith, c.loop.invariant.1, c.push_reserved.ensures.len, c.push_reserved.ensures.capacity),
+)
 
 pub returns : goal.returns
 returns c =
