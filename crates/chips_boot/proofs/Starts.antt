@@ -181,7 +181,7 @@ module _ (chips : List ChipLines) (payload : List ℕ) (legal : All IsChip chips
       let size = has_size dev d in
       let least = size.0 in
       let first : 0 < device_bytes (sizes command) (blocks_of chips dev) = rw (pages, page) (omega (arith, least)) in
-      good_by command dev d refl refl (record { size = size; first = first; few = omega (arith, fits) }, (refl, some))
+      good_by command dev d refl refl (record { size = size; first = first; few = omega (arith, fits) })
       (write_cheap (sizes command) dev (blocks_of chips dev) raw payload page pages (few_blocks dev d) fits)
 
   -- the operations of a nanddump of one page
@@ -208,7 +208,7 @@ module _ (chips : List ChipLines) (payload : List ℕ) (legal : All IsChip chips
       let ends = page_ends off (blocks_of chips dev * 64) is_page.0 within in
       let first : off < device_bytes (sizes command) (blocks_of chips dev) = rw (pages, page) (omega (arith, within)) in
       let last : off + 2048 ≤ device_bytes (sizes command) (blocks_of chips dev) = rw (pages, page) (omega (arith, ends)) in
-      good_by command dev d refl refl (record { size = has_size dev d; first = first; last = last }, tt)
+      good_by command dev d refl refl (record { size = has_size dev d; first = first; last = last })
       (dump_cheap (sizes command) dev (blocks_of chips dev) off raw bad page)
 
   -- the first page of a device
@@ -222,17 +222,17 @@ module _ (chips : List ChipLines) (payload : List ℕ) (legal : All IsChip chips
       let least = size.0 in
       let few = few_blocks dev d in
       good_by (command_of chips payload (FlashErase dev)) dev d refl refl
-      (record { size = size; first = omega (arith, least); last = omega arith }, tt) (omega (arith, few))
+      (record { size = size; first = omega (arith, least); last = omega arith }) (omega (arith, few))
 
   good_ask : (dev block : ℕ) → dev < length chips → IsGood (command_of chips payload (IsBad dev block))
   good_ask dev block below =
       let d = has_device chips dev legal below in
-      good_by (command_of chips payload (IsBad dev block)) dev d refl refl (has_size dev d, tt) (omega arith)
+      good_by (command_of chips payload (IsBad dev block)) dev d refl refl (has_size dev d) (omega arith)
 
   good_count : (dev : ℕ) → dev < length chips → IsGood (command_of chips payload (Stats dev))
   good_count dev below =
       let d = has_device chips dev legal below in
-      good_by (command_of chips payload (Stats dev)) dev d refl refl (has_size dev d, tt) (omega arith)
+      good_by (command_of chips payload (Stats dev)) dev d refl refl (has_size dev d) (omega arith)
 
   good : (line : CommandLine) → length payload ≤ 2048 → IsCommand chips payload line → IsGood (command_of chips payload line)
   good (RawWrite dev) fits h = good_write dev true h.0 h.1 fits
