@@ -1,0 +1,4 @@
+pub mod FirstLine
+pub mod ReadLines
+pub mod Mapped
+pub mod WasRead

@@ -1,0 +1,11 @@
+use Rattle.std.proofs.Common.{length, ap, subst, arith}
+use Rattle.plan_grammar.specs.declared.lines.PlanLines.{PlanLines}
+use Rattle.plan_text.specs.Plan.{IsOfBytes}
+use Rattle.plan_text.proofs.WasRead.{few_controllers}
+use Rattle.plan_text.proofs.plan.Plan.controllers.Goals as goal
+
+pub overflow_cast-result : goal.overflow_cast-result
+overflow_cast-result c =
+    let read = subst IsOfBytes c.self.view_is c.self.invariant.read in
+    let lent = ap (λ (p : PlanLines). length p.controllers) c.lines.ensures in
+    omega (arith, few_controllers c.args.self.now read, lent, c.len.ensures)

@@ -1,0 +1,17 @@
+//! Plans: their reader, what they give to a run, and their canonical text.
+#![tactic(auto)]
+
+mod commands;
+mod error;
+mod payload;
+mod plan;
+mod reader;
+#[cfg(test)]
+mod tests;
+mod text;
+
+pub use error::PlanError;
+pub use plan::Plan;
+pub use plan_grammar::PlanKind;
+pub use reader::read_plan;
+pub use text::put_plan;
