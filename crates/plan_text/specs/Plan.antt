@@ -5,12 +5,13 @@ use Rattle.nand_model.specs.declared.words.Weak.{Weak}
 use Rattle.nand_model.specs.declared.words.WeakKind.{WeakKind}
 use Rattle.plan_model.specs.Plan.{PlanData, ChipPlan, BootPlan, SessionPlan}
 use Rattle.plan_grammar.specs.declared.lines.PlanLines.{PlanLines}
+use Rattle.plan_grammar.specs.declared.lines.ChipLines.{ChipLines}
 use Rattle.plan_grammar.specs.declared.lines.BootLines.{BootLines}
 use Rattle.plan_grammar.specs.declared.lines.SessionLines.{SessionLines}
 use Rattle.plan_grammar.specs.declared.lines.CommandLine.{CommandLine}
 use Rattle.plan_grammar.specs.Costs.{device_in}
 use Rattle.plan_grammar.specs.Grammar.{IsPlan}
-use Rattle.plan_grammar.specs.Devices.{is_same_kind}
+use Rattle.plan_grammar.specs.Devices.{bad_blocks, is_same_kind, weak_places}
 use Rattle.plan_grammar.specs.Meaning.{command_of}
 use Rattle.plan_laws.specs.Ready.{boot_at}
 
@@ -66,3 +67,7 @@ IsOfBytes plan = (bytes : List ℕ) × IsPlan bytes plan
 pub record IsKept (plan : PlanLines) (commands : List (List (List Command))) : Type 0 where
   pub read : IsOfBytes plan
   pub commands_are : commands ≡ all_commands plan
+
+-- a chip without weak places, whose bad blocks are there
+abbrev pub IsPlainChip : ChipLines → Type 0
+IsPlainChip chip = All (λ block. block < chip.geometry.blocks) (bad_blocks chip) × (weak_places chip ≡ [])

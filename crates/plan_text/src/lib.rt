@@ -1,6 +1,7 @@
 //! Plans: their reader, what they give to a run, and their canonical text.
 #![tactic(auto)]
 
+mod chips;
 mod commands;
 mod error;
 mod payload;

@@ -15,8 +15,8 @@ use std::marker::Model;
 /// of controllers, boots, sessions and commands are counted from 0.
 #[derive(Drop)]
 pub struct Plan {
-    draft: PlanDraft,
-    commands: ItemList<ItemList<ItemList<Command>>>,
+    pub(crate) draft: PlanDraft,
+    pub(crate) commands: ItemList<ItemList<ItemList<Command>>>,
 }
 
 impl Model for Plan {

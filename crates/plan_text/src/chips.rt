@@ -1,0 +1,74 @@
+// The new chips of a plan.
+ghost use Rattle.std.specs.Prelude.{◌≡◌, ◌<◌, ◌++◌, [], length, map, All, IfOk, OnOk};
+ghost use Rattle.chip_sim.specs.State.{sim_state};
+ghost use Rattle.nand_model.specs.Chip.{new_chip};
+ghost use Rattle.plan_model.specs.Plan.{ChipPlan as Chip, new_chips};
+ghost use Rattle.plan_grammar.specs.Devices.{bad_blocks};
+ghost use Rattle.plan_grammar.specs.Meaning.{chip_plan, plan_of};
+ghost use Rattle.plan_laws.specs.Ready.{chips_at};
+ghost use Rattle.plan_text.specs.Plan.{IsPlainChip};
+
+use crate::plan::Plan;
+use chip_sim::SimChip;
+use nand_model::{BlockList, ItemList};
+use plan_grammar::{ChipLines, DefectLine};
+use std::alloc::{AllocError, Global};
+use tool_steps::FlashList;
+
+// Appends blocks.
+fn put_blocks(out: &mut BlockList, blocks: &BlockList) -> Result<(), AllocError>
+    ensures { OnOk result (out.new ≡ out.old ++ blocks.now) }
+{
+    for block in blocks {
+        out.append(*block)?;
+    }
+    Ok(())
+}
+
+// The factory-bad blocks of a chip.
+fn bad_blocks(alloc: Global, chip: &ChipLines) -> Result<BlockList, AllocError>
+    ensures { IfOk result (λ bad. bad ≡ bad_blocks chip.now) }
+{
+    let mut bad = BlockList::new(alloc);
+    for defect in &chip.defects {
+        if let DefectLine::Bad(blocks) = defect {
+            put_blocks(&mut bad, blocks)?;
+        }
+    }
+    Ok(bad)
+}
+
+// A new chip.
+fn new_chip(alloc: Global, chip: &ChipLines) -> Result<SimChip, AllocError>
+    requires { IsPlainChip chip.now }
+    ensures { IfOk result (λ made. sim_state made ≡ new_chip chip.now.geometry (bad_blocks chip.now) []) }
+{
+    let bad = bad_blocks(alloc, chip)?;
+    SimChip::new(alloc, chip.geometry, &bad)
+}
+
+// New chips.
+fn new_chips(alloc: Global, chips: &ItemList<ChipLines>) -> Result<FlashList<SimChip>, AllocError>
+    requires { All IsPlainChip chips.now }
+    ensures { IfOk result (λ flashes. map sim_state flashes ≡ new_chips (map chip_plan chips.now)) }
+{
+    let mut flashes = FlashList::new(alloc);
+    for chip in chips {
+        flashes.append(new_chip(alloc, chip)?)?;
+    }
+    Ok(flashes)
+}
+
+impl Plan {
+    /// The new chips of a controller that has no weak place.
+    pub fn chips(&self, alloc: Global, controller: u32) -> Result<FlashList<SimChip>, AllocError>
+        requires controllers { controller < length (plan_of self.now).controllers }
+        requires strong { All (λ (chip : Chip). chip.weak ≡ [])
+            (chips_at (plan_of self.now) controller) }
+        ensures { IfOk result (λ flashes. map sim_state flashes
+            ≡ new_chips (chips_at (plan_of self.now) controller)) }
+    {
+        let _kept = &self.commands;
+        new_chips(alloc, self.lines().controllers.get(controller as usize))
+    }
+}
