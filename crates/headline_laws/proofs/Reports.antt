@@ -1,8 +1,8 @@
--- The report of a plan's replay, and of a run of a plan, with all that is true of them.
+-- The report of a plan's replay, and each legal report, with all that is true of them.
 use Rattle.std.proofs.Common.{◌≡◌, ℕ, List, ap, sym, ◌∙◌}
 use Rattle.plan_model.specs.Plan.{PlanData}
 use Rattle.report_model.specs.Report.{report_text}
-use Rattle.headline_model.specs.Headline.{AreReplay, Courses, IsReplayOf, IsReportOfRun, IsRun, all_replay_turns, notes_of_run}
+use Rattle.headline_model.specs.Headline.{AreReplay, Courses, IsLegalReport, IsReplayOf, IsReportOfRun, all_replay_turns, notes_of_run}
 use Rattle.headline_laws.proofs.Histories.{run_histories}
 use Rattle.headline_laws.proofs.Marks.{run_marks}
 use Rattle.headline_laws.proofs.Replays.{only_replay}
@@ -18,15 +18,15 @@ replay_reported plan courses text h printed = record {
   printed = printed;
 }
 
-pub run_reported : (plan : PlanData) (turns : List (List (List ℕ))) (courses : Courses) (text : List ℕ) → IsRun plan turns courses
-    → text ≡ report_text plan (notes_of_run plan courses) → IsReportOfRun plan text
-run_reported plan turns courses text run printed = record {
-  turns = turns;
-  courses = courses;
-  run = run;
-  histories = run_histories plan turns courses run;
-  marks = run_marks plan turns courses run;
-  printed = printed;
+-- a legal report is that of a run, with all that is true of it
+pub legal_reported : (plan : PlanData) (text : List ℕ) → IsLegalReport plan text → IsReportOfRun plan text
+legal_reported plan text h = record {
+  turns = h.turns;
+  courses = h.courses;
+  run = h.run;
+  histories = run_histories plan h.turns h.courses h.run;
+  marks = run_marks plan h.turns h.courses h.run;
+  printed = h.printed;
 }
 
 -- a plan has one report of its replay

@@ -17,6 +17,7 @@ ghost use Rattle.headline_model.specs.Headline.{
   AreReplay,
   AreTrueHistories,
   Courses,
+  IsLegalReport,
   IsReplayOf,
   IsReportOfRun,
   IsRun,
@@ -111,15 +112,13 @@ pub fn sizes_stay()
 {}
 
 /// The report of a plan's replay says all of the headline: it is that of the only replay, its
-/// histories are true and the marks are kept. So does the report of any legal run. A plan has one
-/// report of its replay.
+/// histories are true and the marks are kept. So does each legal report, that of any legal run.
+/// A plan has one report of its replay.
 pub fn reports_are_whole()
     ensures replay { (plan : PlanData) (courses : Courses) (text : List ℕ) →
         AreReplay plan courses → text ≡ report_text plan (notes_of_run plan courses) →
         IsReplayOf plan text }
-    ensures run { (plan : PlanData) (turns : List (List (List ℕ))) (courses : Courses)
-        (text : List ℕ) →
-        IsRun plan turns courses → text ≡ report_text plan (notes_of_run plan courses) →
+    ensures legal { (plan : PlanData) (text : List ℕ) → IsLegalReport plan text →
         IsReportOfRun plan text }
     ensures one { (plan : PlanData) (text other : List ℕ) → IsReplayOf plan text →
         IsReplayOf plan other → other ≡ text }
