@@ -60,7 +60,11 @@ impl Side {
                 };
                 // Session 0 sees the block marked where session 1 is done with its mark.
                 let worn = session == 0 && self.answered == 1 && other.answered == 2;
-                (after, Turn::Did, Some(Told::Answered(session, u32::from(worn))))
+                (
+                    after,
+                    Turn::Did,
+                    Some(Told::Answered(session, u32::from(worn))),
+                )
             }
             (Some(left), _) => {
                 let after = Side {
