@@ -18,10 +18,6 @@ use Rattle.command_model.specs.Boot.{geometry_for}
 use Rattle.run_model.specs.Run.{AreComplete, CoursesAreFaithful, HaveOneNumberEach}
 use Rattle.statistics_laws.specs.Counts.{StatisticsFollow}
 use Rattle.statistics_laws.proofs.Follows.{statistics_follow}
-use Rattle.read_laws.specs.Fresh.{IsFresh}
-use Rattle.read_laws.specs.Laws.{CoursesReadBack}
-use Rattle.read_laws.proofs.Filled.{new_fresh}
-use Rattle.read_laws.proofs.Lives.{course_reads}
 use Rattle.run_laws.proofs.Faithful.{faithful}
 use Rattle.run_laws.proofs.Sessions.{number_stays}
 use Rattle.plan_model.specs.Plan.{ChipPlan, devices_of, new_chips, sessions_from}
