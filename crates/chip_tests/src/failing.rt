@@ -1,7 +1,7 @@
 // Chips over a flash of which one program fails.
 use crate::FailingFlash;
-use crate::asking::Ask::{Erase, IsBad, Mark, RawRead, RawWrite, Read, Stats, Write};
-use crate::asking::Told::{BadBlock, Counts, Done, MarkerFailed, Page, ProgramFailed, State};
+use crate::asking::Ask::{Erase, IsBad, RawRead, RawWrite, Read, Stats, Write};
+use crate::asking::Told::{Counts, Done, Page, ProgramFailed, State};
 use crate::asking::{one_device, reply_to, told_of_failure};
 use chip_core::{Fairness, attach};
 use ecc_page::EccPage;
@@ -48,30 +48,5 @@ fn tells_failures(rt: HostRuntime) -> Result<(), Fail> {
         assert_eq!(rt; told, want);
         assert_eq!(rt; chip.stop().faults(), faults);
     }
-    Ok(())
-}
-
-// A marker that fails leaves the block good, and the next mark is done.
-#[test]
-fn answers_a_failed_marker(rt: HostRuntime) -> Result<(), Fail> {
-    let alloc = rt.alloc();
-    let parts = one_device(alloc)?;
-    let g = Geometry::new(2048, 64, 64, 8, 4, 0, 0)?;
-    let mut chip = attach(alloc, FailingFlash::new(alloc, g, 0)?, EccPage)?;
-    let rows = [
-        (Mark(0), MarkerFailed),
-        (IsBad(0), State(0)),
-        (Stats, Counts(0, 0, 0)),
-        (Write(1, 0x3c), Done),
-        (Mark(0), Done),
-        (IsBad(0), State(1)),
-        (IsBad(1), State(0)),
-        (Write(1, 0x3c), BadBlock),
-        (Stats, Counts(0, 0, 1)),
-    ];
-    for (ask, want) in rows {
-        assert_eq!(rt; reply_to(&mut chip, alloc, &parts, ask)?, want);
-    }
-    assert_eq!(rt; chip.stop().faults(), 1);
     Ok(())
 }

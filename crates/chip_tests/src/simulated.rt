@@ -5,7 +5,7 @@ ghost use Rattle.chip_core.specs.Chip.{chip_state};
 
 use crate::asking::Ask::{Erase, Flip, IsBad, Mark, RawRead, RawWrite, Read, Stats, Write};
 use crate::asking::Told::{BadBlock, Counts, Done, MarkerByte, OutOfRange, Page, State};
-use crate::asking::{begin, flip_all, one_device, reply_to};
+use crate::asking::{flip_all, one_device, reply_to};
 use chip_core::{Chip, Event, Flash, Note, PageCode, attach};
 use chip_sim::SimChip;
 use ecc_page::EccPage;
@@ -148,27 +148,6 @@ fn tells_its_stage(rt: HostRuntime) -> Result<(), Fail> {
         ..first
     };
     assert_eq!(rt; moment_of(&mut chip), second);
-    Ok(())
-}
-
-// The entry is set as the marker is programmed, and not before.
-#[test]
-fn marks_by_an_erase_and_a_program(rt: HostRuntime) -> Result<(), Fail> {
-    let alloc = rt.alloc();
-    let parts = one_device(alloc)?;
-    let mut chip = attach(alloc, small_chip(alloc)?, EccPage)?;
-    begin(&mut chip, alloc, &parts, Mark(0))?;
-    let rows = [
-        (Some(Event::Erase(4)), 1),
-        (Some(Event::Program(256)), 1),
-        (None, 2),
-    ];
-    for want in rows {
-        assert_eq!(rt; (chip.next_event(), chip.bad()), want);
-        if chip.next_event().is_some() {
-            let _ = chip.advance();
-        }
-    }
     Ok(())
 }
 

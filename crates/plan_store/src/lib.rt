@@ -9,7 +9,5 @@ mod faults;
 mod geometry;
 mod hardware;
 mod places;
-#[cfg(test)]
-mod tests;
 
 pub use draft::PlanDraft;

@@ -7,8 +7,6 @@ mod error;
 mod payload;
 mod plan;
 mod reader;
-#[cfg(test)]
-mod tests;
 mod text;
 
 pub use error::PlanError;
