@@ -16,7 +16,7 @@ use Rattle.headline_model.specs.Headline.{replay_turns, starts_at}
 use Rattle.headline_laws.specs.Replays.{AreReplaysOfBoots}
 
 -- the sizes of these chips
-abbrev sizes_of_chips : {W : Type 0} → List (ChipState W) → List Geometry
+abbrev pub sizes_of_chips : {W : Type 0} → List (ChipState W) → List Geometry
 sizes_of_chips {W} chips = map (λ (s : ChipState W). s.geometry) chips
 
 -- lists with alike items at the same places have the same map
@@ -45,7 +45,7 @@ module _ {W : Type 0} (model : FaultModel W) (boot : Boot) (starts : List (ChipS
           ∙ ap Some (ap (λ (z : ChipState W). z.geometry) a.now_is
           ∙ geometry_after model s (events_in (by_log model boot starts (log_of model boot starts course h).0 k s)))
 
-  whole_keeps_sizes : (turns : List ℕ) (course : Course W) → IsWholeCourse model boot starts turns course → sizes_of_chips (end_states course) ≡ sizes_of_chips starts
+  pub whole_keeps_sizes : (turns : List ℕ) (course : Course W) → IsWholeCourse model boot starts turns course → sizes_of_chips (end_states course) ≡ sizes_of_chips starts
   whole_keeps_sizes turns course whole =
       course_keeps_sizes course (subst (Holds model boot starts) (sym whole.steps) (course_holds model boot starts whole.attaches turns))
 
