@@ -3,3 +3,7 @@ pub mod ReadLines
 pub mod Mapped
 pub mod WasRead
 pub mod NewChips
+pub mod OwnParts
+pub mod OwnFlips
+pub mod OwnSessions
+pub mod BootParts

@@ -21,8 +21,12 @@ fn blocks_of(draft: &PlanDraft, dev: u64) -> u32
     }
 }
 
-// The command of a line.
-fn command_of(alloc: Global, draft: &PlanDraft, line: &CommandLine) -> Result<Command, AllocError>
+/// The command of a line.
+pub fn command_of(
+    alloc: Global,
+    draft: &PlanDraft,
+    line: &CommandLine,
+) -> Result<Command, AllocError>
     requires { HasSmallDevice line.now }
     ensures { IfOk result (λ command. command ≡ command_of draft.now line.now) }
 {

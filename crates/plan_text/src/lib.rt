@@ -1,12 +1,16 @@
 //! Plans: their reader, what they give to a run, and their canonical text.
 #![tactic(auto)]
 
+mod boot;
 mod chips;
 mod commands;
 mod error;
+mod flips;
+mod parts;
 mod payload;
 mod plan;
 mod reader;
+mod sessions;
 mod text;
 
 pub use error::PlanError;

@@ -64,8 +64,8 @@ impl Plan {
         self.lines().boots.len() as u32
     }
 
-    // Lends the lines of a boot.
-    fn boot_lines(&self, boot: u32) -> &BootLines
+    /// Lends the lines of a boot.
+    pub(crate) fn boot_lines(&self, boot: u32) -> &BootLines
         requires { boot < length (plan_of self.now).boots }
         ensures { slice_get self.now.boots boot ≡ Some result.now }
     {
