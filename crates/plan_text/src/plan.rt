@@ -41,6 +41,13 @@ impl Plan {
         Ok(Plan { draft, commands })
     }
 
+    /// Some bytes were read as it, so that what holds of every plan that is read holds of it.
+    pub fn was_read(&self)
+        ensures { IsOfBytes self.now }
+    {
+        let _kept = &self.commands;
+    }
+
     /// Lends its lines.
     pub fn lines(&self) -> &PlanLines
         ensures { result.now ≡ self.now }
