@@ -7,3 +7,4 @@ pub mod OwnParts
 pub mod OwnFlips
 pub mod OwnSessions
 pub mod BootParts
+pub mod LineCounts

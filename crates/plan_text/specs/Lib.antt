@@ -1,3 +1,4 @@
 pub mod Reading
 pub mod Plan
 pub mod Boot
+pub mod Counts

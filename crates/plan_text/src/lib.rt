@@ -4,6 +4,7 @@
 mod boot;
 mod chips;
 mod commands;
+mod counts;
 mod error;
 mod flips;
 mod parts;
