@@ -1,0 +1,3 @@
+pub mod Built
+pub mod Ends
+pub mod Boots

@@ -1,0 +1,14 @@
+//! The replay of a whole plan and its report: each controller goes through its boots, each boot from
+//! the flashes that the one before it left, by the boot's schedule and then rounds of its sessions.
+#![tactic(auto)]
+
+mod boot;
+mod built;
+mod controller;
+mod devices;
+mod replay;
+mod schedule;
+mod sessions;
+
+pub use built::can_be_run;
+pub use replay::replay_report;
