@@ -9,6 +9,8 @@ mod devices;
 mod replay;
 mod schedule;
 mod sessions;
+#[cfg(test)]
+mod tests;
 
 pub use built::can_be_run;
 pub use replay::replay_report;
