@@ -1,0 +1,12 @@
+pub mod Lists
+pub mod Reached
+pub mod Plans
+pub mod Hardware
+pub mod Costs
+pub mod Known
+pub mod DataLines
+pub mod Adding
+pub mod Sessions
+pub mod Brief
+pub mod Texts
+pub mod IsPlan
