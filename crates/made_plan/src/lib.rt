@@ -6,6 +6,8 @@ mod chips;
 mod payloads;
 mod plan;
 mod summary;
+#[cfg(test)]
+mod tests;
 
 pub use plan::made;
 pub use summary::{Sums, put_summary};
