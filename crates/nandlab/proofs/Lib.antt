@@ -1,10 +1,7 @@
-mod RowSteps
-mod Joined
-mod Entries
-mod Holding
-mod EndedTexts
-mod BootText
-mod PlanTurns
-mod OneBoot
-mod PlanRuns
 mod Exiting
+mod Holding
+mod Refusing
+mod ClapSteps
+mod ClapWords
+mod Accepted
+mod Parsed

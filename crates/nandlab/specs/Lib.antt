@@ -1,5 +1,5 @@
-pub mod Printing
 pub mod Status
+pub mod Words
+pub mod Positionals
+pub mod Refusal
 pub mod Answer
-pub mod Ends
-pub mod Run

@@ -1,10 +1,10 @@
 // The arguments of the program, served to its exit status.
-ghost use Rattle.std.specs.Prelude.{◌≡◌, ◌<◌, ◌⊎◌, ℕ, List, true, false, Some, drop, IfOk};
+ghost use Rattle.std.specs.Prelude.{◌≡◌, ◌<◌, ◌⊎◌, ℕ, List, Some, None, drop, IfOk};
 ghost use Rattle.std.specs.Vec.Iter.{into_iter_items};
-ghost use Rattle.several_chip_plan.specs.SeveralChips.{IsOfTheForm};
 ghost use Rattle.nand_model.specs.Counts.{HasRisen};
-ghost use Rattle.nandlab.specs.Answer.{is_served, IsCalm, Leaves};
+ghost use Rattle.nandlab.specs.Answer.{AreRefused, AreServed, IsCalm, Leaves};
 ghost use Rattle.nandlab.specs.Status.{exit_code};
+ghost use Rattle.nandlab.specs.Words.{request_of};
 
 use crate::status::{Status, code};
 use crate::top::serial_top;
@@ -34,14 +34,19 @@ pub fn exit_status<S: Source, K: Sink>(
     sink: &mut K,
 ) -> u8
     // The words.
-    ensures usage { result ≡ 2 → is_served (drop 1 (into_iter_items args)) ≡ false }
+    ensures usage { result ≡ 2 → request_of (drop 1 (into_iter_items args)) ≡ None }
+    ensures refused { request_of (drop 1 (into_iter_items args)) ≡ None → (result ≡ 2)
+        ⊎ ((result ≡ 5) ⊎ (result ≡ 6)) }
 
     // The bytes.
-    ensures complete { is_served (drop 1 (into_iter_items args)) ≡ true
-        → IsCalm (S.faults source.old) (S.faults source.new) →
-        IsCalm (K.faults sink.old) (K.faults sink.new)
-        → (bytes : List ℕ) → S.left source.old ≡ Some bytes → IsOfTheForm bytes → (result ≡ 0)
-        ⊎ (result ≡ 6) }
+    ensures complete { IsCalm (S.faults source.old) (S.faults source.new)
+        → IsCalm (K.faults sink.old) (K.faults sink.new)
+        → (bytes : List ℕ) → S.left source.old ≡ Some bytes
+        → AreServed (drop 1 (into_iter_items args)) bytes → (result ≡ 0) ⊎ (result ≡ 6) }
+    ensures refusing { IsCalm (S.faults source.old) (S.faults source.new)
+        → IsCalm (K.faults sink.old) (K.faults sink.new)
+        → (bytes : List ℕ) → S.left source.old ≡ Some bytes
+        → AreRefused (drop 1 (into_iter_items args)) bytes → (result ≡ 3) ⊎ (result ≡ 6) }
     ensures written { (bytes before : List ℕ) → S.left source.old ≡ Some bytes → K.held sink.old
         ≡ Some before
         → (status : Status) × (result ≡ exit_code status)

@@ -1,19 +1,19 @@
-//! nandlab: replays plans over simulated NAND chips and prints reports.
+//! nandlab: checks and replays plans over simulated NAND chips.
 #![tactic(auto)]
 
 mod answer;
 mod exit;
-mod outcomes;
-mod print;
-mod report;
-mod run;
+mod refusal;
+mod request;
 mod status;
 #[cfg(test)]
 mod tests;
 mod top;
+mod words;
 
 pub use exit::exit_status;
 use lab_outside::{StdSink, StdSource};
+pub use request::Request;
 pub use status::{Status, code};
 use std::process::ExitCode;
 use std::{env, io};

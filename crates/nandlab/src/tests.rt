@@ -7,25 +7,30 @@ use nand_model::{BlockList, Bytes};
 use std::alloc::{AllocError, Global};
 use std::test::Fail;
 
-const BEFORE: &str = "nandlab 1\ncontroller\nchip 2048 64 64 8 1 0\npart 0 1\ndata img hex:";
+const USAGE: &str = "usage: nandlab check or replay or run or make N\n";
 
-const AFTER: &str =
-    "\nboot\nsession 0\nnandwrite -n -p mtd0 img\nnanddump -n --bb=dumpbad -l 2048 mtd0\n";
+const NOT_BUILT: &str = "line 0: NotBuilt\n";
 
-const ANOTHER_SESSION: &str =
-    "\nboot\nsession 1\nnandwrite -n -p mtd0 img\nnanddump -n --bb=dumpbad -l 2048 mtd0\n";
+const SMALL: &str = "nandlab 1 # small\ncontroller\nchip 2048 64 64 0x10 4 2\nboot\n";
 
-const HEAD: &str =
-    "boot 0\ncontroller 0\nattach 0.0 markers version 0 copies 0 quiet yes bad -\nb 0 isbad mtd0 0\na 0 good\nb 0 rawwrite mtd0 0\na 0 ok\nb 0 rawread mtd0 0\na 0 page raw corrected 0 greatest 0 failed 0\n";
+const CANONICAL: &str = "nandlab 1\ncontroller\nchip 2048 64 64 16 4 2 3\nboot\n";
 
-const MIDDLE: &str =
-    "session 0\nnandwrite mtd0: pages 1, skipped 0, failed 0\nnanddump mtd0: pages 1, bad 0, corrected 0, failed 0\n";
+const MARKS: &str =
+    "nandlab 1\ncontroller\nchip 2048 64 64 16 4 0\npart 0 16\nboot\nsession 0\nmarkbad mtd0 5\nisbad mtd0 5\nmarkbad mtd0 5\n";
 
-const TAIL: &str = "device mtd0 corrected 0 failed 0\nend boot 0\n";
+const MARKED: &str =
+    "boot 0\ncontroller 0\nattach 0.0 markers version 0 copies 0 quiet yes bad -\nb 0 mark mtd0 5\na 0 ok\nb 0 isbad mtd0 5\na 0 worn\nb 0 mark mtd0 5\na 0 ok\nsession 0\nmarkbad mtd0 5: ok\nisbad mtd0 5: worn\nmarkbad mtd0 5: ok\ndevice mtd0 corrected 0 failed 0\nend boot 0\n";
 
-const ZEROS: &str = "0000000000000000000000000000000000000000000000000000000000000000";
+const CUT: &str =
+    "nandlab 1\ncontroller\nchip 2048 64 64 16 4 1\npart 0 16\nboot\ncut 0 28 none\nsession 0\nmarkbad mtd0 5\nboot\n";
 
-const ONES: &str = "ffffffffffffffffffffffffffffffffffffffffffffffffffffffffffffffff";
+fn words_of(alloc: Global, line: &str) -> Result<Vec<String>, AllocError> {
+    let mut words = Vec::new(alloc);
+    for word in line.split_ascii_whitespace() {
+        words.push(String::from_str(alloc, word)?)?;
+    }
+    Ok(words)
+}
 
 fn numbers(alloc: Global, of: &[u32]) -> Result<BlockList, AllocError> {
     let mut list = BlockList::new(alloc);
@@ -35,20 +40,19 @@ fn numbers(alloc: Global, of: &[u32]) -> Result<BlockList, AllocError> {
     Ok(list)
 }
 
-// The call with the word `replay`, and what its sink holds then. The numbers name the calls of
+// How a call with these words ends, and what its sink holds then. The numbers name the calls of
 // source and sink that fail.
-fn replayed(
+fn served(
     alloc: Global,
-    plan: &str,
+    words: &str,
+    bytes: Bytes,
     piece: usize,
     source_fails: &[u32],
     sink_fails: &[u32],
 ) -> Result<(Status, MemSink), AllocError>
     requires { 0 < piece }
 {
-    let bytes = Bytes::from_slice(alloc, plan.as_bytes())?;
-    let mut words = Vec::new(alloc);
-    words.push(String::from_str(alloc, "replay")?)?;
+    let words = words_of(alloc, words)?;
     let mut source = MemSource::new(bytes, 4096, numbers(alloc, source_fails)?);
     let mut sink = MemSink::new(alloc, 65536, piece, numbers(alloc, sink_fails)?)?;
     let status = serial_top(alloc, &words, &mut source, &mut sink);
@@ -56,34 +60,59 @@ fn replayed(
 }
 
 #[test]
-fn a_page_of_zeros(rt: HostRuntime) -> Result<(), Fail> {
-    let alloc = rt.alloc();
-    let mut digits = String::new(alloc);
-    for _ in 0..64 {
-        digits.push_str(ZEROS)?;
+fn words_and_plans(rt: HostRuntime) -> Result<(), Fail> {
+    let rows = [
+        ("", "", Status::Usage, USAGE),
+        ("-h", SMALL, Status::Usage, USAGE),
+        ("make 007", "", Status::Usage, USAGE),
+        ("-- check --", SMALL, Status::Usage, USAGE),
+        ("check", SMALL, Status::Fine, CANONICAL),
+        (
+            "check --",
+            MARKS,
+            Status::Fine,
+            "nandlab 1\ncontroller\nchip 2048 64 64 16 4 0 3\npart 0 16\nboot\nsession 0\nmarkbad mtd0 5\nisbad mtd0 5\nmarkbad mtd0 5\n",
+        ),
+        (
+            "check",
+            "nandlab 2\ncontroller\n",
+            Status::PlanRefused,
+            "line 1: BadWords\n",
+        ),
+        ("run", "", Status::PlanRefused, "line 1: Ended\n"),
+        ("replay", MARKS, Status::Fine, MARKED),
+        ("-- run", MARKS, Status::Fine, MARKED),
+        ("replay", CUT, Status::PlanRefused, NOT_BUILT),
+        (
+            "make 18446744073709551615",
+            "",
+            Status::PlanRefused,
+            NOT_BUILT,
+        ),
+    ];
+    for (words, plan, status, text) in rows {
+        let bytes = Bytes::from_slice(rt.alloc(), plan.as_bytes())?;
+        let (answer, sink) = served(rt.alloc(), words, bytes, 65536, &[], &[])?;
+        assert_eq!(rt; answer, status, "{words}");
+        assert_eq!(rt; sink.bytes(), text.as_bytes(), "{words}");
     }
-    let plan = format!(in alloc; "{BEFORE}{digits}{AFTER}")?;
-    let rows = format!(in alloc; " 00000000 64 {ZEROS}\n")?;
-    let report = format!(in alloc; "{HEAD}{rows} 00000800 2 {ONES}\n{MIDDLE}{rows}{TAIL}")?;
-    let (status, sink) = replayed(alloc, plan.as_str(), 65536, &[], &[])?;
-    assert_eq!(rt; status, Status::Fine);
-    assert_eq!(rt; sink.bytes(), report.as_bytes());
     Ok(())
 }
 
 #[test]
-fn faults_and_refusals(rt: HostRuntime) -> Result<(), Fail> {
+fn faults_and_too_many_bytes(rt: HostRuntime) -> Result<(), Fail> {
     let alloc = rt.alloc();
-    let plan = format!(in alloc; "{BEFORE}00{AFTER}")?;
-    let (status, sink) = replayed(alloc, plan.as_str(), 65536, &[1], &[])?;
+    let plan = Bytes::from_slice(alloc, SMALL.as_bytes())?;
+    let (status, sink) = served(alloc, "check", plan, 65536, &[1], &[])?;
     assert_eq!(rt; status, Status::ReadFault);
     assert_eq!(rt; sink.bytes(), b"".as_slice());
-    let (status, sink) = replayed(alloc, plan.as_str(), 10, &[], &[2])?;
+    let plan = Bytes::from_slice(alloc, SMALL.as_bytes())?;
+    let (status, sink) = served(alloc, "check", plan, 10, &[], &[2])?;
     assert_eq!(rt; status, Status::WriteFault);
-    assert_eq!(rt; sink.bytes(), b"boot 0\ncon".as_slice());
-    let other = format!(in alloc; "{BEFORE}00{ANOTHER_SESSION}")?;
-    let (status, sink) = replayed(alloc, other.as_str(), 65536, &[], &[])?;
+    assert_eq!(rt; sink.bytes(), b"nandlab 1\n".as_slice());
+    let plan = Bytes::filled(alloc, b'#', 16_777_217)?;
+    let (status, sink) = served(alloc, "check", plan, 65536, &[], &[])?;
     assert_eq!(rt; status, Status::PlanRefused);
-    assert_eq!(rt; sink.bytes(), b"line 0: NotBuilt\n".as_slice());
+    assert_eq!(rt; sink.bytes(), b"line 0: TooLong\n".as_slice());
     Ok(())
 }

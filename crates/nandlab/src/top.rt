@@ -1,32 +1,21 @@
 // The top call.
-ghost use Rattle.std.specs.Prelude.{◌≡◌, ◌<◌, ◌≤◌, ◌⊎◌, ℕ, List, true, false, Some, length, IfSome};
+ghost use Rattle.std.specs.Prelude.{◌≡◌, ◌<◌, ◌≤◌, ◌⊎◌, ℕ, List, true, false, Some, None, length, IfSome};
 ghost use Rattle.std.specs.Io.KnownBytes.{IsAtEnd, append_known};
-ghost use Rattle.several_chip_plan.specs.SeveralChips.{IsOfTheForm};
 ghost use Rattle.lab_outside.specs.Outside.{TookPrefix};
 ghost use Rattle.nand_model.specs.Counts.{HasRisen};
-ghost use Rattle.nandlab.specs.Answer.{is_served, most_bytes, IsCalm, IsRefused, Leaves};
+ghost use Rattle.plan_grammar.specs.Limits.{most_bytes};
+ghost use Rattle.nandlab.specs.Words.{request_of};
+ghost use Rattle.nandlab.specs.Answer.{AreRefused, AreServed, IsCalm, Leaves, ask_for_plan};
 
 use crate::answer::answer_plan;
+use crate::refusal::{NOT_BUILT, TOO_LONG, USAGE};
 use crate::status::Status;
+use crate::words::request;
 use lab_outside::{ReadError, Sink, Source, read_to_end, write_all};
 use std::alloc::Global;
 
-const USAGE: &[u8] = b"usage: nandlab check or replay or run or make N\n";
-
-const TOO_LONG: &[u8] = b"line 0: TooLong\n";
-
 /// The greatest number of bytes of a plan.
 const MOST_BYTES: usize = 16_777_216;
-
-// Whether the words are the one word `replay`.
-fn are_accepted(words: &Vec<String>) -> bool
-    ensures { result ≡ is_served words.now.items }
-{
-    match words.as_slice() {
-        [word] => word.as_str() == "replay",
-        _ => false,
-    }
-}
 
 // Writes a text, and answers this status, or `WriteFault` where the sink failed.
 fn written<K: Sink>(sink: &mut K, text: &[u8], status: Status) -> Status
@@ -42,13 +31,13 @@ fn written<K: Sink>(sink: &mut K, text: &[u8], status: Status) -> Status
     }
 }
 
-/// Serves the words of a call: `replay` reads a plan from the source, runs it, and writes its
-/// report to the sink.
+/// Serves the words of a call: `check` reads a plan from the source and writes its canonical text
+/// to the sink, `replay` writes the report of its replay, and `run` does what `replay` does.
 ///
-/// The plan is a several-chip plan: one controller with one to eight chips, and one to eight
-/// sessions under one list of turns. Other bytes are refused with `line 0: NotBuilt`, or `line 0:
-/// TooLong` where more than 16,777,216 have come, and other words with the usage line. It waits for
-/// nobody.
+/// Bytes that are no plan are refused with `line L: KIND`: the first line that breaks a rule, and
+/// the first rule that it breaks; `line 0: TooLong` comes as soon as more than 16,777,216 bytes have
+/// come. A plan that cannot be run yet is refused with `line 0: NotBuilt` by `replay` and `run`, and
+/// so is `make N`, which reads nothing. Other words get the usage line. It waits for nobody.
 pub fn serial_top<S: Source, K: Sink>(
     alloc: Global,
     words: &Vec<String>,
@@ -56,24 +45,29 @@ pub fn serial_top<S: Source, K: Sink>(
     sink: &mut K,
 ) -> Status
     // The words.
-    ensures usage { result ≡ Status.Usage → is_served words.now.items ≡ false }
-    ensures refused { is_served words.now.items ≡ false → (result ≡ Status.Usage)
-        ⊎ (result ≡ Status.WriteFault) }
-    ensures unread { is_served words.now.items ≡ false
+    ensures usage { result ≡ Status.Usage → request_of words.now.items ≡ None }
+    ensures refused { request_of words.now.items ≡ None → (result ≡ Status.Usage)
+        ⊎ ((result ≡ Status.WriteFault) ⊎ (result ≡ Status.Memory)) }
+    ensures unread { ask_for_plan (request_of words.now.items) ≡ false
         → (S.left source.new ≡ S.left source.old) × (S.faults source.new ≡ S.faults source.old) }
 
     // The bytes.
     ensures fine { result ≡ Status.Fine → IsAtEnd (S.left source.new)
-        × IfSome (S.left source.old) IsOfTheForm }
-    ensures plan_refused { result ≡ Status.PlanRefused → IfSome (S.left source.old) IsRefused }
+        × IfSome (S.left source.old) (AreServed words.now.items) }
+    ensures plan_refused { result ≡ Status.PlanRefused
+        → IfSome (S.left source.old) (AreRefused words.now.items) }
     ensures refused_at_end { result ≡ Status.PlanRefused
+        → ask_for_plan (request_of words.now.items) ≡ true
         → IfSome (S.left source.old)
         (λ bytes. length bytes ≤ most_bytes → IsAtEnd (S.left source.new)) }
-    ensures complete { is_served words.now.items ≡ true
-        → IsCalm (S.faults source.old) (S.faults source.new) →
-        IsCalm (K.faults sink.old) (K.faults sink.new)
-        → (bytes : List ℕ) → S.left source.old ≡ Some bytes → IsOfTheForm bytes
+    ensures complete { IsCalm (S.faults source.old) (S.faults source.new)
+        → IsCalm (K.faults sink.old) (K.faults sink.new)
+        → (bytes : List ℕ) → S.left source.old ≡ Some bytes → AreServed words.now.items bytes
         → (result ≡ Status.Fine) ⊎ (result ≡ Status.Memory) }
+    ensures refusing { IsCalm (S.faults source.old) (S.faults source.new)
+        → IsCalm (K.faults sink.old) (K.faults sink.new)
+        → (bytes : List ℕ) → S.left source.old ≡ Some bytes → AreRefused words.now.items bytes
+        → (result ≡ Status.PlanRefused) ⊎ (result ≡ Status.Memory) }
     ensures written { (bytes before : List ℕ) → S.left source.old ≡ Some bytes → K.held sink.old
         ≡ Some before
         → Leaves words.now.items bytes result before (K.held sink.new) }
@@ -87,16 +81,22 @@ pub fn serial_top<S: Source, K: Sink>(
     ensures counts { (S.faults source.old ≤ S.faults source.new)
         × (K.faults sink.old ≤ K.faults sink.new) }
 {
-    if !are_accepted(words) {
-        return written(sink, USAGE, Status::Usage);
-    }
-    match read_to_end(alloc, source, MOST_BYTES) {
-        Ok(bytes) => match answer_plan(alloc, bytes.as_slice()) {
-            Ok(answer) => written(sink, answer.text.as_slice(), answer.status),
-            Err(_) => Status::Memory,
-        },
-        Err(ReadError::Failed) => Status::ReadFault,
-        Err(ReadError::TooLong) => written(sink, TOO_LONG, Status::PlanRefused),
-        Err(ReadError::Memory) => Status::Memory,
+    match request(alloc, words) {
+        Ok(None) => written(sink, USAGE, Status::Usage),
+        Ok(Some(request)) => {
+            if !request.reads_plan() {
+                return written(sink, NOT_BUILT, Status::PlanRefused);
+            }
+            match read_to_end(alloc, source, MOST_BYTES) {
+                Ok(bytes) => match answer_plan(alloc, request, bytes.as_slice()) {
+                    Ok(answer) => written(sink, answer.text.as_slice(), answer.status),
+                    Err(_) => Status::Memory,
+                },
+                Err(ReadError::Failed) => Status::ReadFault,
+                Err(ReadError::TooLong) => written(sink, TOO_LONG, Status::PlanRefused),
+                Err(ReadError::Memory) => Status::Memory,
+            }
+        }
+        Err(_) => Status::Memory,
     }
 }

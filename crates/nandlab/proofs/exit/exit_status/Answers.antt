@@ -1,19 +1,38 @@
-use Rattle.std.proofs.Common.{◌≡◌, ◌∙◌, true, false, inl, inr, refl, ap, sym, subst}
-use Rattle.nandlab.specs.Answer.{is_served, Leaves}
+use Rattle.std.proofs.Common.{◌≡◌, ◌∙◌, None, inl, inr, refl, ap, sym, subst}
+use Rattle.nandlab.specs.Answer.{AreRefused, AreServed, Leaves}
 use Rattle.nandlab.specs.Status.{exit_code}
+use Rattle.nandlab.specs.Words.{request_of}
 use Rattle.nandlab.specs.declared.status.Status.TheVariants.{Memory}
 use Rattle.nandlab.proofs.Exiting.{is_read_fault, is_usage, is_write_fault}
 use Rattle.nandlab.proofs.exit.exit_status.Goals as goal
 
 pub returns-in-Ok-clause-usage : goal.returns-in-Ok-clause-usage
 returns-in-Ok-clause-usage g c =
-    λ h. subst (λ ws. is_served ws ≡ false) c.in-Ok.ensures (c.serial_top.ensures.usage (is_usage c.serial_top.result (sym c.code.ensures ∙ h)))
+    λ h. subst (λ ws. request_of ws ≡ None) c.in-Ok.ensures (c.serial_top.ensures.usage (is_usage c.serial_top.result (sym c.code.ensures ∙ h)))
+
+pub returns-in-Ok-clause-refused : goal.returns-in-Ok-clause-refused
+returns-in-Ok-clause-refused g c =
+    λ none. elim (c.serial_top.ensures.refused (subst (λ ws. request_of ws ≡ None) (sym c.in-Ok.ensures) none)) [
+      | inl usage ↦ inl (c.code.ensures ∙ ap exit_code usage)
+      | inr other ↦ inr (elim other [
+        | inl fault ↦ inl (c.code.ensures ∙ ap exit_code fault)
+        | inr memory ↦ inr (c.code.ensures ∙ ap exit_code memory)
+      ])
+    ]
 
 pub returns-in-Ok-clause-complete : goal.returns-in-Ok-clause-complete
 returns-in-Ok-clause-complete g c =
-    λ served calm_source calm_sink bytes is_left form.
-    elim (c.serial_top.ensures.complete (subst (λ ws. is_served ws ≡ true) (sym c.in-Ok.ensures) served) calm_source calm_sink bytes is_left form) [
+    λ calm_source calm_sink bytes is_left served.
+    elim (c.serial_top.ensures.complete calm_source calm_sink bytes is_left (subst (λ ws. AreServed ws bytes) (sym c.in-Ok.ensures) served)) [
       | inl fine ↦ inl (c.code.ensures ∙ ap exit_code fine)
+      | inr memory ↦ inr (c.code.ensures ∙ ap exit_code memory)
+    ]
+
+pub returns-in-Ok-clause-refusing : goal.returns-in-Ok-clause-refusing
+returns-in-Ok-clause-refusing g c =
+    λ calm_source calm_sink bytes is_left refused.
+    elim (c.serial_top.ensures.refusing calm_source calm_sink bytes is_left (subst (λ ws. AreRefused ws bytes) (sym c.in-Ok.ensures) refused)) [
+      | inl said ↦ inl (c.code.ensures ∙ ap exit_code said)
       | inr memory ↦ inr (c.code.ensures ∙ ap exit_code memory)
     ]
 

@@ -1,8 +1,0 @@
-use Rattle.std.proofs.Common.{◌≡◌, ◌++◌, take}
-use Rattle.std.specs.Prelude.{flat_map}
-use Rattle.nandlab.specs.Ends.{device_text}
-use Rattle.nandlab.proofs.outcomes.put_devices.Given as goal
-
--- the lines of the devices so far stand at the end
-abbrev pub invariant-loop-n : goal.invariant-loop-n
-invariant-loop-n l = l.out ≡ l.initial.out ++ flat_map device_text (take l.n l.stats)

@@ -1,0 +1,37 @@
+-- The lines that refuse a call.
+use Rattle.std.specs.Prelude.{ℕ, List, ◌++◌, codes, decimal}
+use Rattle.report_model.specs.Report.{line}
+use Rattle.plan_grammar.specs.declared.kind.PlanKind.{PlanKind}
+use Rattle.plan_grammar.specs.declared.kind.PlanKind.TheVariants.{LineTooLong, BadByte, UnknownWord, WrongPlace, BadWords, BadNumber, BadSize, SpareTooSmall, OutOfChip, TooFewTableBlocks, Overlap, UnknownDevice, UnknownName, NotMultiple, TooLarge, Ended, TooLong}
+
+-- what is written for words that are not accepted
+abbrev pub usage_line : List ℕ
+usage_line = line (codes "usage: nandlab check or replay or run or make N")
+
+-- the name of a kind
+abbrev pub kind_name : PlanKind → List ℕ
+kind_name LineTooLong = codes "LineTooLong"
+kind_name BadByte = codes "BadByte"
+kind_name UnknownWord = codes "UnknownWord"
+kind_name WrongPlace = codes "WrongPlace"
+kind_name BadWords = codes "BadWords"
+kind_name BadNumber = codes "BadNumber"
+kind_name BadSize = codes "BadSize"
+kind_name SpareTooSmall = codes "SpareTooSmall"
+kind_name OutOfChip = codes "OutOfChip"
+kind_name TooFewTableBlocks = codes "TooFewTableBlocks"
+kind_name Overlap = codes "Overlap"
+kind_name UnknownDevice = codes "UnknownDevice"
+kind_name UnknownName = codes "UnknownName"
+kind_name NotMultiple = codes "NotMultiple"
+kind_name TooLarge = codes "TooLarge"
+kind_name Ended = codes "Ended"
+kind_name TooLong = codes "TooLong"
+
+-- what is written for a plan that is refused at a line for a kind
+abbrev pub refusal_line : ℕ → PlanKind → List ℕ
+refusal_line at kind = line (codes "line " ++ decimal at ++ codes ": " ++ kind_name kind)
+
+-- what is written for what is not built yet
+abbrev pub not_built_line : List ℕ
+not_built_line = line (codes "line 0: NotBuilt")
