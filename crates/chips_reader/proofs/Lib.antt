@@ -1,9 +1,0 @@
-pub mod Lists
-pub mod Texts
-pub mod Heads
-pub mod LineKinds
-pub mod Numbers
-pub mod Printing
-pub mod Lines
-pub mod Makes
-pub mod Unique

@@ -1,2 +1,0 @@
-pub mod SeveralChips
-pub mod NineLines
