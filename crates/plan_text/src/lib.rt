@@ -19,3 +19,6 @@ pub use plan::Plan;
 pub use plan_grammar::PlanKind;
 pub use reader::read_plan;
 pub use text::put_plan;
+
+#[cfg(test)]
+mod tests;
