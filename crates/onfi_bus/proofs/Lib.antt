@@ -1,0 +1,5 @@
+pub mod Sizes
+pub mod Taking
+pub mod Going
+pub mod Refusing
+pub mod Sending

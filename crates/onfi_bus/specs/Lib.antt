@@ -1,0 +1,5 @@
+pub mod Moves
+pub mod Device
+pub mod Registers
+pub mod State
+pub mod Phrases
