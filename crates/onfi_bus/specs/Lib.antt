@@ -3,3 +3,5 @@ pub mod Device
 pub mod Registers
 pub mod State
 pub mod Phrases
+pub mod Chips
+pub mod Lab

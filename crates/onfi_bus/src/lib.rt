@@ -2,7 +2,9 @@
 //! of ONFI.
 #![tactic(auto)]
 
+mod chip;
 mod cycle;
+mod lab;
 mod laws;
 mod phase;
 mod register;
@@ -10,6 +12,8 @@ mod state;
 mod status;
 mod transfer;
 
+pub use chip::BusChip;
 pub use cycle::{Cycle, Illegal};
+pub use lab::LabChip;
 pub use laws::cycles_are_phrases;
 pub use state::BusState;
