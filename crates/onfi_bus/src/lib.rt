@@ -17,3 +17,6 @@ pub use cycle::{Cycle, Illegal};
 pub use lab::LabChip;
 pub use laws::cycles_are_phrases;
 pub use state::BusState;
+
+#[cfg(test)]
+mod tests;
