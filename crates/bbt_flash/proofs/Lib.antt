@@ -1,0 +1,4 @@
+pub mod Sizes
+pub mod Paths
+pub mod Updating
+pub mod Firsts
