@@ -2,3 +2,10 @@ pub mod Sizes
 pub mod Paths
 pub mod Updating
 pub mod Firsts
+pub mod Lengths
+pub mod Reserving
+pub mod Scanning
+pub mod Searching
+pub mod Finding
+pub mod Deciding
+pub mod Attaching

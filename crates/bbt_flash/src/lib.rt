@@ -2,13 +2,20 @@
 //! rules of a writing are this project's own).
 #![tactic(auto)]
 
+mod attach;
 mod blocks;
 mod choices;
 mod copies;
+mod held;
+mod markers;
+mod search;
+mod spares;
+mod step;
 #[cfg(test)]
 mod tests;
 mod update;
 
+pub use attach::{Attach, Attached};
 pub use copies::Places;
-pub use nand_iface::{Event, Which};
+pub use nand_iface::{Event, Origin, Which};
 pub use update::Update;

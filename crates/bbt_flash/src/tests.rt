@@ -99,3 +99,17 @@ fn copies_move_from_blocks_that_fail(rt: HostRuntime) -> Result<(), Fail> {
     assert!(rt; no_block_left == Some((at(15, 14), 2, Some(Which::Mirror), 1)));
     Ok(())
 }
+
+#[test]
+fn attaches_begin_with_a_read(rt: HostRuntime) -> Result<(), Fail> {
+    for (bbt, first) in [
+        (0u32, Event::Read(0)),
+        (1, Event::Read(960)),
+        (2, Event::Read(960)),
+    ] {
+        let g = Geometry::new(2048, 64, 64, 16, 4, bbt, 0)?;
+        let attach = Attach::start(rt.alloc(), g)?;
+        assert!(rt; attach.event() == Some(first));
+    }
+    Ok(())
+}
