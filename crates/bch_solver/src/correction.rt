@@ -14,11 +14,11 @@ use bch_register::remainder_of_word;
 use binary_field::FieldProducts;
 use u256::U256;
 
-// The parity bits of a code: the degree of its generator.
-pub(crate) fn parity_bits<F: FieldProducts>(strength: u32) -> u32
+/// The parity bits of a code for up to 16 errors: the degree of its generator.
+pub fn parity_bits<F: FieldProducts>(strength: u32) -> u32
     requires { strength ≤ 16 }
     ensures value { result ≡ F.DEGREE * strength }
-    ensures small { result ≤ 224 }
+    ensures small { result ≤ 14 * strength }
 {
     F::DEGREE * strength
 }

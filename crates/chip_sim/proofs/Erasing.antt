@@ -1,7 +1,8 @@
 -- The pages of a block are those from its first page up to the next block's.
-use Rattle.std.proofs.Common.{◌≡◌, ◌≢◌, ◌⊎◌, ℕ, ◌+◌, ◌*◌, ◌/◌, ◌<◌, ◌≤◌, arith, inl, inr}
-use Rattle.std.specs.Prelude.{◌==◌, ◌&&◌, nat_le, nat_lt}
+use Rattle.std.proofs.Common.{◌≡◌, ◌≢◌, ◌⊎◌, ℕ, ◌+◌, ◌-◌, ◌*◌, ◌/◌, ◌<◌, ◌≤◌, arith, inl, inr, true}
+use Rattle.std.specs.Prelude.{◌==◌, ◌&&◌, ◌%◌, nat_le, nat_lt}
 use Rattle.std.proofs.lemmas.Bool.Decides.{eqb_tells, nat_tests}
+use Rattle.std.proofs.lemmas.Bool.{eqb-true}
 use Rattle.std.proofs.Math.Nat.{mul-le-mul_left}
 
 -- a page of a block is one of these
@@ -27,3 +28,11 @@ in_block pages block page some =
       | inl same ↦ let h = inside pages block page some same.1 in grind (arith, nat_tests)
       | inr other ↦ let h = outside pages block page some other.1 in grind (arith, nat_tests)
     ]
+
+-- a page's number in its block is counted from the block's first page
+pub place_in_block : (pages block page : ℕ) → 0 < pages → (page / pages == block) ≡ true → page - block * pages ≡ page % pages
+place_in_block pages block page some same =
+    let at : page / pages ≡ block = eqb-true (page / pages) block same in
+    let whole : pages * (page / pages) + page % pages ≡ page = omega arith in
+    let counted : pages * block + page % pages ≡ page = rw at at whole in
+    omega arith

@@ -1,13 +1,13 @@
 -- A page whose bits are flipped one after the other, and its chip.
-use Rattle.std.proofs.Common.{◌≡◌, ℕ, ◌<◌, arith, refl, sym, ◌∙◌, inl, inr, Bool, true, List, [], ◌∷◌, ◌++◌, length, fold, slice_set, Some, if◌then◌else◌, append_assoc, append-nil}
+use Rattle.std.proofs.Common.{◌≡◌, ℕ, ◌<◌, arith, refl, sym, ◌∙◌, inl, inr, Bool, true, List, [], ◌∷◌, ◌++◌, length, fold, slice_set, if◌then◌else◌, append_assoc, append-nil}
 use Rattle.std.specs.Prelude.{◌==◌, ◌/◌}
 use Rattle.std.proofs.lemmas.Bool.Decides.{eqb_tells, nat_tests}
 use Rattle.std.proofs.lemmas.List.{length-set}
 use Rattle.nand_model.specs.Chip.{ChipState, FaultModel, Flipped, PageState, after_trace, flip_events, flipped, happens, with_page}
 use Rattle.nand_model.specs.Flips.{with_bit_turned}
-use Rattle.chip_sim.specs.Slots.{IsWholeSlot, cells_of, page_of, slot_at}
-use Rattle.chip_sim.specs.declared.page.Page.{Page}
-use Rattle.chip_sim.proofs.SlotLemmas.{Slot, slot_at-set}
+use Rattle.chip_sim.specs.Slots.{IsWholeSlot, cells_of, flipped_slot, page_of, slot_at}
+use Rattle.chip_sim.specs.declared.slots.Slot.{Slot}
+use Rattle.chip_sim.proofs.SlotLemmas.{slot_at-set}
 
 -- a page with itself in its place
 unchanged : (pages : ℕ → PageState) (page p : ℕ) → pages p ≡ with_page pages page (pages page) p
@@ -60,27 +60,23 @@ fold-flipped page (bit ∷ bits) =
       flipped_since = since-true bits i;
     })
 
--- a slot's page after flips
-abbrev pub flipped_page : ℕ → Slot → List ℕ → Page
-flipped_page raw slot bits = record { cells = fold with_bit_turned (cells_of raw slot) bits; flipped_since = true }
-
 length-turned : (cells bits : List ℕ) → length (fold with_bit_turned cells bits) ≡ length cells
 length-turned cells [] = refl
 length-turned cells (bit ∷ bits) = length-turned (with_bit_turned cells bit) bits ∙ length-set cells (bit / 8) _
 
 -- a flipped slot has as many bytes
-pub flipped-whole : (raw : ℕ) (slot : Slot) (bits : List ℕ) → IsWholeSlot raw slot → IsWholeSlot raw (Some (flipped_page raw slot bits))
-flipped-whole raw slot bits whole = length-turned (cells_of raw slot) bits ∙ whole
+pub flipped-whole : (raw : ℕ) (bits : List ℕ) (slot : Slot) → IsWholeSlot raw slot → IsWholeSlot raw (flipped_slot raw bits slot)
+flipped-whole raw bits slot whole = length-turned (cells_of raw slot) bits ∙ whole
 
 slot-flipped : (raw : ℕ) (flips : List ℕ) (slot : Slot) (bits : List ℕ) → 0 < length bits
-    → page_of raw (flips ++ bits) (Some (flipped_page raw slot bits)) ≡ fold flipped (page_of raw flips slot) bits
+    → page_of raw (flips ++ bits) (flipped_slot raw bits slot) ≡ fold flipped (page_of raw flips slot) bits
 unfolding since
 slot-flipped raw flips slot [] some = absurd (omega (arith, some))
 slot-flipped raw flips slot (bit ∷ bits) some = sym (fold-flipped (page_of raw flips slot) (bit ∷ bits))
 
 -- after flips each page is as it should be
 pub flip-pages : (raw : ℕ) (flips now : ℕ → List ℕ) (slots : List Slot) (at page : ℕ) (new : Slot) (bits : List ℕ) → at < length slots → 0 < length bits
-    → new ≡ Some (flipped_page raw (slot_at slots at) bits)
+    → new ≡ flipped_slot raw bits (slot_at slots at)
     → now page ≡ (if page == at then flips page ++ bits else flips page)
     → page_of raw (now page) (slot_at (slice_set slots at new) page)
     ≡ with_page (λ p. page_of raw (flips p) (slot_at slots p)) at (fold flipped (page_of raw (flips at) (slot_at slots at)) bits) page

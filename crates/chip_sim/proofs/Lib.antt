@@ -4,3 +4,7 @@ mod Programming
 mod Erasing
 mod Placing
 mod SlotLemmas
+mod Tearing
+mod Weakness
+mod Happening
+mod Placed

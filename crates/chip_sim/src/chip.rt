@@ -1,27 +1,23 @@
 // A simulated chip.
-ghost use Rattle.std.specs.Prelude.{◌≡◌, ◌<◌, [], length, All, IfOk};
-ghost use Rattle.nand_model.specs.Sizes.{page_count, raw_len};
-ghost use Rattle.chip_sim.specs.Slots.{IsWholeSlot};
+ghost use Rattle.std.specs.Prelude.{◌≡◌, ◌<◌, All, IfOk, true};
+ghost use Rattle.fault_plan.specs.WeakPlaces.{are_apart};
 
-use crate::blank_pages::BlankPages;
-use crate::flip_log::FlipLog;
-use crate::page::Page;
-use crate::slots::{clear_slots, flip_slot, new_slots, program_slot};
+use crate::page_store::PageStore;
+use crate::weak_places::WeakPlaces;
+use fault_plan::{WeakKind, WeakList};
 use nand_iface::{EraseFailed, Flash, ProgramFailed};
-use nand_model::{BlockList, Geometry};
+use nand_model::{BlockList, Geometry, Tear};
 use std::alloc::{AllocError, Global};
 
 /// A simulated NAND flash chip, after nandsim. It keeps cells only for the pages that were
-/// programmed or flipped since their last good erase. It never fails.
+/// programmed or flipped since their last good erase. A program or erase fails exactly where its
+/// page or block is a weak place of that kind that has had the calls that succeed first, counted
+/// over the chip's whole life; calls that a power cut tears count too.
 #[derive(Drop)]
 pub struct SimChip {
-    geometry: Geometry,
-    slots: Vec<Option<Page>>,
-    blanks: BlankPages,
-    log: FlipLog,
-    ghost all_there: { length slots.items ≡ page_count geometry },
-    ghost whole: { All (IsWholeSlot (raw_len geometry)) slots.items },
-    ghost blanks_fit: { blanks.raw ≡ raw_len geometry },
+    store: PageStore,
+    weak: WeakPlaces,
+    faults: u64,
 }
 
 impl SimChip {
@@ -29,16 +25,21 @@ impl SimChip {
     ghost use Rattle.chip_sim.specs.State.{sim_state};
 
     /// A chip that is erased, except that spare byte 0 of the first page of each block of `bad` is
-    /// 0x00.
-    pub fn new(alloc: Global, g: Geometry, bad: &BlockList) -> Result<SimChip, AllocError>
-        requires { All (λ block. block < g.blocks) bad.now }
-        ensures { IfOk result (λ chip. sim_state chip ≡ new_chip g bad.now []) }
+    /// 0x00, and that has these weak places.
+    pub fn new(
+        alloc: Global,
+        g: Geometry,
+        bad: &BlockList,
+        weak: WeakList,
+    ) -> Result<SimChip, AllocError>
+        requires bad { All (λ block. block < g.blocks) bad.now }
+        requires apart { are_apart weak ≡ true }
+        ensures { IfOk result (λ chip. sim_state chip ≡ new_chip g bad.now weak) }
     {
         Ok(SimChip {
-            geometry: g,
-            slots: new_slots(alloc, g, bad)?,
-            blanks: BlankPages::new(alloc, g.raw_len() as usize),
-            log: FlipLog::new(alloc),
+            store: PageStore::new(alloc, g, bad)?,
+            weak: WeakPlaces::new(alloc, weak)?,
+            faults: 0,
         })
     }
 }
@@ -61,50 +62,67 @@ impl Flash for SimChip {
     ghost bit_room = { sim_bit_room };
 
     fn geometry(&self) -> Geometry {
-        self.geometry
+        self.store.geometry()
     }
 
     fn reserve(&mut self, pages: u32, bits: u32) -> Result<(), AllocError> {
-        self.blanks.reserve(pages as usize)?;
-        self.log.reserve(bits as usize)
+        self.store.reserve(pages, bits)
     }
 
     fn read_page(&self, page: u32, out: &mut [u8]) {
-        match &self.slots[page as usize] {
-            Some(page) => out.copy_from_slice(page.cells.as_slice()),
-            None => out.fill(0xff),
-        }
+        self.store.read(page, out);
     }
 
     fn program_page(&mut self, page: u32, image: &[u8]) -> Result<(), ProgramFailed> {
-        program_slot(&mut self.slots[page as usize], &mut self.blanks, image);
-        Ok(())
+        let kind = WeakKind::Program;
+        let Some(weakness) = self.weak.failing(kind, page) else {
+            self.store.program(page, image);
+            self.weak.count(kind, page);
+            return Ok(());
+        };
+        self.store.tear_program(page, image, weakness);
+        self.weak.count(kind, page);
+        self.faults = self.faults.saturating_add(1);
+        Err(ProgramFailed)
     }
 
     fn erase_block(&mut self, block: u32) -> Result<(), EraseFailed> {
-        let first = block * self.geometry.pages_per_block;
-        let end = first + self.geometry.pages_per_block;
-        clear_slots(&mut self.slots, first as usize, end as usize);
-        self.log.forget(first, end);
-        Ok(())
+        let kind = WeakKind::Erase;
+        let Some(weakness) = self.weak.failing(kind, block) else {
+            self.store.erase(block);
+            self.weak.count(kind, block);
+            return Ok(());
+        };
+        self.store.tear_erase(block, weakness);
+        self.weak.count(kind, block);
+        self.faults = self.faults.saturating_add(1);
+        Err(EraseFailed)
+    }
+
+    fn torn_program(&mut self, page: u32, image: &[u8], tear: &Tear) {
+        self.store.tear_program(page, image, tear);
+        self.weak.count(WeakKind::Program, page);
+    }
+
+    fn torn_erase(&mut self, block: u32, tear: &Tear) {
+        self.store.tear_erase(block, tear);
+        self.weak.count(WeakKind::Erase, block);
     }
 
     fn flip(&mut self, page: u32, bits: &BlockList) {
-        if bits.len() > 0 {
-            flip_slot(&mut self.slots[page as usize], &mut self.blanks, bits);
-            self.log.add(page, bits);
-        }
+        self.store.flip(page, bits);
     }
 
     fn flips(&self, page: u32, from: u32, to: u32) -> u32 {
-        self.log.count(page, from, to)
+        self.store.flips(page, from, to)
+    }
+
+    fn torn(&self, page: u32) -> bool {
+        self.store.torn(page)
     }
 
     fn flipped_since(&self, page: u32) -> bool {
-        match &self.slots[page as usize] {
-            Some(page) => page.flipped_since,
-            None => false,
-        }
+        self.store.flipped_since(page)
     }
 }
 

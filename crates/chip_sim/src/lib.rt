@@ -5,6 +5,9 @@ mod blank_pages;
 mod chip;
 mod flip_log;
 mod page;
+mod page_store;
+mod place_index;
 mod slots;
+mod weak_places;
 
 pub use chip::SimChip;

@@ -1,6 +1,5 @@
 // The mask over stored parities.
 ghost use Rattle.std.specs.Prelude.{◌≡◌, ◌<◌, ◌≤◌, length};
-ghost use Rattle.code_model.specs.Bits.{xor_bytes};
 ghost use Rattle.code_model.specs.Code.{code_512, mask_of, parity_len};
 
 use crate::masks::MASKS;
@@ -23,14 +22,4 @@ pub fn mask(t: u32, out: &mut [u8])
     ensures { out.new ≡ mask_of (code_512 t) }
 {
     out.copy_from_slice(mask_of_code(t));
-}
-
-// Puts the mask on parity bytes, or takes it off them.
-pub(crate) fn put_mask(parity: &mut [u8], mask: &[u8])
-    requires { length mask.now ≡ length parity.old }
-    ensures { parity.new ≡ xor_bytes parity.old mask.now }
-{
-    for i in 0..parity.len() {
-        parity[i] ^= mask[i];
-    }
 }

@@ -3,9 +3,8 @@ ghost use Rattle.std.specs.Prelude.{◌≡◌, ◌<◌, ◌≤◌, ◌+◌, ◌*
 ghost use Rattle.code_model.specs.Code.{code_512, mask_of, parity_len};
 ghost use Rattle.ecc_page.specs.Steps.{parity_stored, read_of};
 
-use crate::masking::put_mask;
 use bch_decode::Decoded;
-use bch_quick::{decode_in_slice, parity_of_slice};
+use bch_quick::{decode_in_slice, parity_of_slice, put_mask};
 
 // Writes the stored parity of a step.
 pub(crate) fn encode_step(t: u32, mask: &[u8], step: &[u8], out: &mut [u8])

@@ -1,1 +1,3 @@
+pub mod BootFaults
 pub mod Due
+pub mod WeakPlaces

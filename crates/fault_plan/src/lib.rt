@@ -1,7 +1,9 @@
-//! The faults that a plan gives a controller for a boot.
+//! The faults that a plan gives a chip for its life, and a controller for a boot.
 #![tactic(auto)]
 
 mod faults;
+mod weak;
 
 pub use faults::Faults;
-pub use nand_model::Flip;
+pub use nand_model::{CutAt, Flip, Weak, WeakKind};
+pub use weak::WeakList;

@@ -69,6 +69,26 @@ module _ {W : Type 0} (model : FaultModel W) where
       → (happens model s (Complete (EraseEvent block))).faults ≡ saturating_increment s.faults
   happens-erase_failed s block done failed = rw failed refl
 
+  -- a torn program leaves its page torn
+  pub happens-torn_page : (s : ChipState W) (page : ℕ) (image : List ℕ) (done : DoneBits)
+      → (happens model s (PowerCut (ProgramEvent page image) done)).pages page ≡ torn_program (s.pages page) image done
+  happens-torn_page s page image done = grind (arith, nat_tests)
+
+  -- a torn program leaves all other pages as they are
+  pub happens-torn_program_others : (s : ChipState W) (page : ℕ) (image : List ℕ) (done : DoneBits) (p : ℕ) → p ≢ page
+      → (happens model s (PowerCut (ProgramEvent page image) done)).pages p ≡ s.pages p
+  happens-torn_program_others s page image done p other = grind (arith, nat_tests)
+
+  -- a torn erase leaves each page of its block torn
+  pub happens-torn_block : (s : ChipState W) (block : ℕ) (done : DoneBits) (p : ℕ) → p / s.geometry.pages_per_block ≡ block
+      → (happens model s (PowerCut (EraseEvent block) done)).pages p ≡ torn_erase done (p % s.geometry.pages_per_block) (s.pages p)
+  happens-torn_block s block done p inside = grind (arith, nat_tests)
+
+  -- a torn erase leaves all pages of other blocks as they are
+  pub happens-torn_erase_others : (s : ChipState W) (block : ℕ) (done : DoneBits) (p : ℕ) → p / s.geometry.pages_per_block ≢ block
+      → (happens model s (PowerCut (EraseEvent block) done)).pages p ≡ s.pages p
+  happens-torn_erase_others s block done p other = grind (arith, nat_tests)
+
   -- a trace in two parts
   pub after_trace-append : (s : ChipState W) (first rest : List ChipEvent) → after_trace model s (first ++ rest) ≡ after_trace model (after_trace model s first) rest
   after_trace-append s [] rest = refl

@@ -1,12 +1,12 @@
 // A chip as the layers above it see it.
 ghost use Rattle.std.specs.Prelude.{◌≡◌, ◌≤◌, ◌<◌, ◌+◌, ◌-◌, ◌^◌, ℕ, length, min, OnOk, is_none, is_ok};
 ghost use Rattle.std.specs.Coded.{Coded};
-ghost use Rattle.nand_model.specs.Chip.{ChipState, FaultModel, ProgramCall, EraseCall, Complete, ProgramEvent, EraseEvent, after_trace, failure_of, flip_events, happens};
+ghost use Rattle.nand_model.specs.Chip.{ChipState, FaultModel, ProgramCall, EraseCall, Complete, PowerCut, ProgramEvent, EraseEvent, after_trace, done_bits, failure_of, flip_events, happens};
 ghost use Rattle.nand_model.specs.Flips.{flips_between, FitsBits};
-ghost use Rattle.nand_model.specs.Sizes.{page_count};
+ghost use Rattle.nand_model.specs.Sizes.{page_count, raw_len};
 ghost use Rattle.nand_iface.specs.Flash.{FitsPage, HasWholePages};
 
-use nand_model::{BlockList, Geometry};
+use nand_model::{BlockList, Geometry, Tear};
 use std::alloc::AllocError;
 
 /// A program failed, and its page is torn.
@@ -90,6 +90,25 @@ pub trait Flash: Drop {
         ensures room { room self.old ≤ room self.new }
         ensures bit_room { bit_room self.old ≤ bit_room self.new };
 
+    /// Programs a page while the power is cut, so that only the bits that the tear says are done.
+    /// It counts as a program of the page, and as no fault. It takes at most one page of the room.
+    fn torn_program(&mut self, page: u32, image: &[u8], tear: &Tear)
+        requires place { FitsPage (state self.old).geometry page image.now }
+        requires room { 0 < room self.old }
+        ensures state { state self.new ≡ happens fault_model (state self.old) (PowerCut
+            (ProgramEvent page image.now) (done_bits (raw_len (state self.old).geometry) tear.now)) }
+        ensures room { room self.old ≤ room self.new + 1 }
+        ensures bit_room { bit_room self.old ≤ bit_room self.new };
+
+    /// Erases a block while the power is cut, so that only the bits that the tear says are done. It
+    /// counts as an erase of the block, and as no fault. It takes no room.
+    fn torn_erase(&mut self, block: u32, tear: &Tear)
+        requires { block < (state self.old).geometry.blocks }
+        ensures state { state self.new ≡ happens fault_model (state self.old) (PowerCut
+            (EraseEvent block) (done_bits (raw_len (state self.old).geometry) tear.now)) }
+        ensures room { room self.old ≤ room self.new }
+        ensures bit_room { bit_room self.old ≤ bit_room self.new };
+
     /// Turns these bits of a page one after the other; bit 0 is the highest of byte 0. Each counts
     /// as one flip, and a bit that stands twice is turned twice. It takes at most one page of the
     /// room, and of the bit room at most the number of the bits.
@@ -109,6 +128,11 @@ pub trait Flash: Drop {
         requires { page < page_count (state self.now).geometry }
         ensures { result ≡ min (flips_between ((state self.now).pages page).flips from to)
             (2 ^ 32 - 1) };
+
+    /// Whether the last program or erase that touched a page was torn or failed.
+    fn torn(&self, page: u32) -> bool
+        requires { page < page_count (state self.now).geometry }
+        ensures { result ≡ ((state self.now).pages page).torn };
 
     /// Whether a bit of a page was flipped since its last good program or erase, or since the first
     /// torn or failed one after that.

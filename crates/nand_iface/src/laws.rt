@@ -1,13 +1,13 @@
 // What the clauses of a flash chip come to, page by page, proved from them alone for every chip.
-ghost use Rattle.std.specs.Prelude.{◌≡◌, ◌≢◌, ◌<◌, ◌≤◌, ◌+◌, ◌/◌, ◌++◌, ◌∷◌, [], ℕ, List, fold, length, replicate, OnOk, OnErr};
-ghost use Rattle.nand_model.specs.Chip.{ChipState, ChipEvent, Complete, ProgramEvent, EraseEvent, after_trace, flip_events, programmed};
+ghost use Rattle.std.specs.Prelude.{◌≡◌, ◌≢◌, ◌<◌, ◌≤◌, ◌+◌, ◌/◌, ◌%◌, ◌++◌, ◌∷◌, [], ℕ, List, fold, length, replicate, OnOk, OnErr};
+ghost use Rattle.nand_model.specs.Chip.{ChipState, ChipEvent, Complete, PowerCut, ProgramEvent, EraseEvent, after_trace, done_bits, flip_events, programmed, torn_erase, torn_program};
 ghost use Rattle.nand_model.specs.Flips.{with_bit_turned, FitsBits};
 ghost use Rattle.nand_model.specs.Sizes.{raw_len};
 ghost use Rattle.nand_iface.specs.Flash.{FitsPage};
 ghost use Rattle.nand_model.specs.Counts.{HasRisen};
 
 use crate::{EraseFailed, Flash, ProgramFailed};
-use nand_model::BlockList;
+use nand_model::{BlockList, Tear};
 
 /// Programs a page as `Flash::program_page` does. Its clauses say what a caller sees of the pages,
 /// and that the state is still the fold of its trace.
@@ -54,6 +54,48 @@ pub fn erase_one_block<F: Flash>(flash: &mut F, block: u32) -> Result<(), EraseF
         (events ++ Complete (EraseEvent block) ∷ []) }
 {
     flash.erase_block(block)
+}
+
+/// Tears a program as `Flash::torn_program` does. Its clauses say what a caller sees of the pages,
+/// and that the state is still the fold of its trace.
+pub fn tear_one_program<F: Flash>(flash: &mut F, page: u32, image: &[u8], tear: &Tear)
+    requires place { FitsPage (F.state flash.old).geometry page image.now }
+    requires room { 0 < F.room flash.old }
+    ensures torn { (F.state flash.new).pages page
+        ≡ torn_program ((F.state flash.old).pages page) image.now
+        (done_bits (raw_len (F.state flash.old).geometry) tear.now) }
+    ensures others { (p : ℕ) → p ≢ page → (F.state flash.new).pages p
+        ≡ (F.state flash.old).pages p }
+    ensures geometry { (F.state flash.new).geometry ≡ (F.state flash.old).geometry }
+    ensures faults { (F.state flash.new).faults ≡ (F.state flash.old).faults }
+    ensures trace { (start : ChipState F.FaultState) (events : List ChipEvent) → F.state flash.old
+        ≡ after_trace F.fault_model start events
+        → F.state flash.new ≡ after_trace F.fault_model start
+        (events ++ PowerCut (ProgramEvent page image.now)
+        (done_bits (raw_len (F.state flash.old).geometry) tear.now) ∷ []) }
+{
+    flash.torn_program(page, image, tear)
+}
+
+/// Tears an erase as `Flash::torn_erase` does. Its clauses say what a caller sees of the pages, and
+/// that the state is still the fold of its trace.
+pub fn tear_one_erase<F: Flash>(flash: &mut F, block: u32, tear: &Tear)
+    requires { block < (F.state flash.old).geometry.blocks }
+    ensures torn { (p : ℕ) → p / (F.state flash.old).geometry.pages_per_block ≡ block
+        → (F.state flash.new).pages p
+        ≡ torn_erase (done_bits (raw_len (F.state flash.old).geometry) tear.now)
+        (p % (F.state flash.old).geometry.pages_per_block) ((F.state flash.old).pages p) }
+    ensures others { (p : ℕ) → p / (F.state flash.old).geometry.pages_per_block ≢ block →
+        (F.state flash.new).pages p ≡ (F.state flash.old).pages p }
+    ensures geometry { (F.state flash.new).geometry ≡ (F.state flash.old).geometry }
+    ensures faults { (F.state flash.new).faults ≡ (F.state flash.old).faults }
+    ensures trace { (start : ChipState F.FaultState) (events : List ChipEvent) → F.state flash.old
+        ≡ after_trace F.fault_model start events
+        → F.state flash.new ≡ after_trace F.fault_model start
+        (events ++ PowerCut (EraseEvent block)
+        (done_bits (raw_len (F.state flash.old).geometry) tear.now) ∷ []) }
+{
+    flash.torn_erase(block, tear)
 }
 
 /// Turns bits of a page as `Flash::flip` does. Its clauses say what a caller sees of the pages, and

@@ -9,6 +9,6 @@ mod page_code;
 
 pub use flash::{EraseFailed, Flash, ProgramFailed};
 pub use history::History;
-pub use laws::{erase_one_block, program_one_page, turn_bits};
+pub use laws::{erase_one_block, program_one_page, tear_one_erase, tear_one_program, turn_bits};
 pub use nand_model::{Event, Fairness, Note, Op, Origin, PageKind, PageRead, Reply, Stats, Which};
 pub use page_code::PageCode;

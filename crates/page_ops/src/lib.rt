@@ -5,4 +5,4 @@ mod errors;
 mod ops;
 
 pub use errors::{EraseError, WriteError};
-pub use ops::{erase, marker, read, read_raw, write, write_raw};
+pub use ops::{erase, marker, put_marker, read, read_raw, write, write_raw};

@@ -213,8 +213,8 @@ fn block_start(g: &Geometry, block: u32) -> u32
     block * g.pages_per_block
 }
 
-// The image that marks a block.
-fn put_marker(g: &Geometry, image: &mut [u8])
+/// Writes the image that marks a block: 0x00 in spare byte 0, and 0xFF elsewhere.
+pub fn put_marker(g: &Geometry, image: &mut [u8])
     requires { length image.old ≡ raw_len g.now }
     ensures { image.new ≡ marker_image g.now }
 {

@@ -17,6 +17,7 @@ use Rattle.plan_grammar.specs.declared.lines.FaultLine.TheVariants.{Flip, Cut}
 use Rattle.plan_grammar.specs.declared.lines.SessionLines.{SessionLines}
 use Rattle.plan_grammar.specs.declared.lines.CommandLine.{CommandLine}
 use Rattle.plan_grammar.specs.Limits.{most_controllers, most_chips, most_boots, most_flips, most_sessions, most_operations, most_data}
+use Rattle.fault_plan.specs.WeakPlaces.{are_apart}
 use Rattle.plan_grammar.specs.Devices.{Device, bad_blocks, weak_places, are_different, share_block, device_at, all_data}
 use Rattle.plan_grammar.specs.Hardware.{leaves_table_blocks, place_count}
 use Rattle.plan_grammar.specs.Faults.{flips_of, chip_at, has_bits}
@@ -49,6 +50,7 @@ pub record KeepsChip (chip : ChipLines) : Type 0 where
   pub different : are_different (bad_blocks chip) ≡ true
   pub tables : leaves_table_blocks chip.geometry (bad_blocks chip) ≡ true
   pub weak : All (λ (w : Weak). w.at < place_count chip.geometry w.kind) (weak_places chip)
+  pub apart : are_apart (weak_places chip) ≡ true
   pub parts : All (LiesOn chip.geometry) chip.parts
   pub free : AreFree [] chip.parts
 

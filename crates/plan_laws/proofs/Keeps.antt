@@ -28,6 +28,8 @@ use Rattle.plan_grammar.specs.declared.lines.CommandLine.{CommandLine}
 use Rattle.plan_grammar.specs.declared.lines.CommandLine.TheVariants.{FlashErase, NandWrite, NandDump, NandTest, MarkBad, IsBad, Stats}
 use Rattle.plan_grammar.specs.Limits.{most_controllers, most_chips, most_pages, most_flips, most_operations}
 use Rattle.plan_grammar.specs.Rules.{is_empty, last_of, with_last}
+use Rattle.fault_plan.specs.WeakPlaces.{are_apart}
+use Rattle.plan_laws.proofs.Apart.{apart_push}
 use Rattle.plan_grammar.specs.Devices.{Device, bad_in, bad_blocks, weak_in, weak_places, are_different, device_at, data_length, all_pages}
 use Rattle.nand_model.specs.Sizes.{page_count}
 use Rattle.plan_grammar.specs.Hardware.{is_hardware, has_chip, some_chip, leaves_table_blocks, place_count}
@@ -114,6 +116,7 @@ new_chip g = record {
   different = refl;
   tables = or_right (eqb g.bbt 0) true refl;
   weak = All-nil (λ (w : WeakPlace). w.at < place_count g w.kind);
+  apart = refl;
   parts = All-nil (LiesOn g);
   free = tt;
 }
@@ -168,6 +171,7 @@ bad_keeps plan next h k =
       different = ap are_different (with_bad k.chip k.blocks) ∙ k.different;
       tables = ap (leaves_table_blocks k.chip.geometry) (with_bad k.chip k.blocks) ∙ k.tables;
       weak = subst (All (λ (w : WeakPlace). w.at < place_count k.chip.geometry w.kind)) (sym (bad_weak k.chip k.blocks)) old.weak;
+      apart = ap are_apart (bad_weak k.chip k.blocks) ∙ old.apart;
       parts = old.parts;
       free = old.free;
     }) k.next_is
@@ -190,6 +194,7 @@ weak_keeps plan next h k =
       different = ap are_different (weak_bad k.chip k.weak) ∙ old.different;
       tables = ap (leaves_table_blocks k.chip.geometry) (weak_bad k.chip k.weak) ∙ old.tables;
       weak = subst (All P) (sym (with_weak k.chip k.weak)) (all_push P (weak_places k.chip) k.weak old.weak k.within);
+      apart = ap are_apart (with_weak k.chip k.weak) ∙ apart_push (weak_places k.chip) k.weak old.apart k.fresh;
       parts = old.parts;
       free = old.free;
     }) k.next_is
@@ -202,6 +207,7 @@ part_keeps plan next h k =
       different = old.different;
       tables = old.tables;
       weak = old.weak;
+      apart = old.apart;
       parts = all_push (LiesOn k.chip.geometry) k.chip.parts k.part old.parts (k.some, k.within);
       free = free_push [] k.chip.parts k.part old.free k.free;
     }) k.next_is

@@ -13,6 +13,7 @@ pub mod CommandWords
 pub mod Written
 pub mod Again
 pub mod Lists
+pub mod Apart
 pub mod Goods
 pub mod Keeps
 pub mod Places

@@ -1,11 +1,14 @@
 // Simulated chips with pages of 2,048 bytes and a spare of 64, through the trait.
-ghost use Rattle.std.specs.Prelude.{◌≡◌, ◌≤◌, ◌<◌, ◌^◌, length, All, IfOk};
+ghost use Rattle.std.specs.Prelude.{◌≡◌, ◌≤◌, ◌<◌, ◌^◌, true, length, All, IfOk};
 ghost use Rattle.nand_model.specs.Flips.{FitsBits};
 ghost use Rattle.nand_iface.specs.Flash.{FitsPage};
 ghost use Rattle.chip_sim.specs.State.{sim_state};
+ghost use Rattle.fault_plan.specs.WeakPlaces.{are_apart};
 
 use super::*;
-use nand_iface::{erase_one_block, program_one_page, turn_bits};
+use fault_plan::Weak;
+use nand_iface::{erase_one_block, program_one_page, tear_one_erase, tear_one_program, turn_bits};
+use nand_model::SpanList;
 use std::test::Fail;
 
 // Programs two images into a page, and reads it.
@@ -48,7 +51,7 @@ fn erase_and_read<F: Flash>(
 fn programs_and_erases(rt: HostRuntime) -> Result<(), Fail> {
     let alloc = rt.alloc();
     let g = Geometry::new(2048, 64, 64, 8, 1, 0, 0)?;
-    let mut chip = SimChip::new(alloc, g, &BlockList::new(alloc))?;
+    let mut chip = SimChip::new(alloc, g, &BlockList::new(alloc), WeakList::new(alloc))?;
     let first = vec![in alloc; 0xf0u8; 2112]?;
     let second = vec![in alloc; 0x3cu8; 2112]?;
     let mut out = vec![in alloc; 0u8; 2112]?;
@@ -95,7 +98,7 @@ fn flip_and_read<F: Flash>(
 fn flips_bits(rt: HostRuntime) -> Result<(), Fail> {
     let alloc = rt.alloc();
     let g = Geometry::new(2048, 64, 64, 8, 1, 0, 0)?;
-    let mut chip = SimChip::new(alloc, g, &BlockList::new(alloc))?;
+    let mut chip = SimChip::new(alloc, g, &BlockList::new(alloc), WeakList::new(alloc))?;
     let mut out = vec![in alloc; 0u8; 2112]?;
     // Each row: a bit of page 70, the byte that it is in, that byte after the flip, and the flips
     // of bits 0 to 7 so far.
@@ -138,11 +141,103 @@ fn shows_factory_bad_blocks(rt: HostRuntime) -> Result<(), Fail> {
     let mut bad = BlockList::new(alloc);
     bad.push(3)?;
     bad.push(1000)?;
-    let chip = SimChip::new(alloc, g, &bad)?;
+    let chip = SimChip::new(alloc, g, &bad, WeakList::new(alloc))?;
     let mut out = vec![in alloc; 0u8; 2112]?;
     assert_eq!(rt; marker(&chip, 0, &mut out), 0xff);
     assert_eq!(rt; marker(&chip, 3 * 64, &mut out), 0);
     assert_eq!(rt; out[2047], 0xff);
     assert_eq!(rt; marker(&chip, 1000 * 64, &mut out), 0);
+    Ok(())
+}
+
+// The weak places of a chip on which page 70 and block 1 take one call each. A program that fails
+// does all of its bits, an erase none.
+fn two_weak_places(alloc: Global) -> Result<WeakList, AllocError>
+    ensures { IfOk result (λ weak. are_apart weak ≡ true) }
+{
+    let mut weak = WeakList::new(alloc);
+    weak.push(Weak {
+        kind: WeakKind::Program,
+        at: 70,
+        after: 1,
+        tear: Tear::Everything,
+    })?;
+    weak.push(Weak {
+        kind: WeakKind::Erase,
+        at: 1,
+        after: 1,
+        tear: Tear::Nothing,
+    })?;
+    Ok(weak)
+}
+
+// Whether two programs of a page and two erases of its block are good, the first erase before the
+// second program, and its first byte and whether it is torn at last.
+fn wear<F: Flash>(flash: &mut F, page: u32, block: u32, image: &[u8], out: &mut [u8]) -> [bool; 5]
+    requires place { FitsPage (F.state flash.old).geometry page image.now }
+    requires out { FitsPage (F.state flash.old).geometry page out.old }
+    requires block { block < (F.state flash.old).geometry.blocks }
+    requires room { 2 ≤ F.room flash.old }
+{
+    let first = program_one_page(flash, page, image).is_ok();
+    let cleared = erase_one_block(flash, block).is_ok();
+    let second = program_one_page(flash, page, image).is_ok();
+    let kept = erase_one_block(flash, block).is_err();
+    flash.read_page(page, out);
+    [first, cleared, second, kept, flash.torn(page)]
+}
+
+#[test]
+fn fails_at_weak_places(rt: HostRuntime) -> Result<(), Fail> {
+    let alloc = rt.alloc();
+    let g = Geometry::new(2048, 64, 64, 8, 1, 0, 0)?;
+    let mut chip = SimChip::new(alloc, g, &BlockList::new(alloc), two_weak_places(alloc)?)?;
+    chip.reserve(2, 0)?;
+    let image = vec![in alloc; 0x3cu8; 2112]?;
+    let mut out = vec![in alloc; 0u8; 2112]?;
+    let told = wear(&mut chip, 70, 1, &image, &mut out);
+    assert_eq!(rt; told, [true, true, false, true, true]);
+    assert_eq!(rt; out[0], 0x3c);
+    Ok(())
+}
+
+// A torn program of a page, and then a torn erase of its block that sets its second byte; the first
+// three bytes in between and at last.
+fn tear_twice<F: Flash>(
+    flash: &mut F,
+    page: u32,
+    block: u32,
+    image: &[u8],
+    tears: (&Tear, &Tear),
+    out: &mut [u8],
+) -> [u8; 6]
+    requires place { FitsPage (F.state flash.old).geometry page image.now }
+    requires out { FitsPage (F.state flash.old).geometry page out.old }
+    requires bytes { 2 < length out.old }
+    requires block { block < (F.state flash.old).geometry.blocks }
+    requires room { 0 < F.room flash.old }
+{
+    tear_one_program(flash, page, image, tears.0);
+    flash.read_page(page, out);
+    let [first, second, third] = [out[0], out[1], out[2]];
+    tear_one_erase(flash, block, tears.1);
+    flash.read_page(page, out);
+    [first, second, third, out[0], out[1], out[2]]
+}
+
+#[test]
+fn tears_by_seeds_and_spans(rt: HostRuntime) -> Result<(), Fail> {
+    let alloc = rt.alloc();
+    let g = Geometry::new(2048, 64, 64, 8, 1, 0, 0)?;
+    let mut chip = SimChip::new(alloc, g, &BlockList::new(alloc), WeakList::new(alloc))?;
+    chip.reserve(1, 0)?;
+    let image = vec![in alloc; 0u8; 2112]?;
+    let mut out = vec![in alloc; 0u8; 2112]?;
+    let mut spans = SpanList::new(alloc);
+    spans.push((1, 2))?;
+    let erase = Tear::Spans(spans);
+    let told = tear_twice(&mut chip, 70, 1, &image, (&Tear::Seed(0), &erase), &mut out);
+    // The seed bytes of seed 0 begin af, f4, 4f, and those bits were programmed to 0.
+    assert_eq!(rt; told, [0x50, 0x0b, 0xb0, 0x50, 0xff, 0xb0]);
     Ok(())
 }

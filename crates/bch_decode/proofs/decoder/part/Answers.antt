@@ -11,4 +11,4 @@ copy_from_slice-requires c = c.told-step ∙ sym (length-take-le 512 c.args.word
 
 pub returns : goal.returns
 returns c =
-    parts_joined c.args.word.now c.copy_from_slice.new.self c.copy_from_slice-2.new.self (length c.args.word.now - 512) c.copy_from_slice.ensures.after c.copy_from_slice-2.ensures.after refl
+    parts_joined 512 c.args.word.now c.copy_from_slice.new.self c.copy_from_slice-2.new.self (length c.args.word.now - 512) c.copy_from_slice.ensures.after c.copy_from_slice-2.ensures.after refl

@@ -1,43 +1,25 @@
-use Rattle.std.proofs.Common.{◌∙◌, ℕ, ap, sym, subst, length, All, [], arith}
-use Rattle.std.specs.Vec.{with_items}
-use Rattle.std.proofs.lemmas.List.{with_items_is}
+use Rattle.std.proofs.Common.{◌≡◌, None, Some, refl}
+use Rattle.nand_model.specs.Chip.{EraseCall, blank_page, done_bits, torn_erase, with_block, weak_after_call, weak_fails}
 use Rattle.nand_model.specs.Sizes.{raw_len}
-use Rattle.chip_sim.specs.FlipLog.{flips_of}
-use Rattle.chip_sim.specs.Slots.{IsWholeSlot}
-use Rattle.chip_sim.proofs.Placing.{pages_per_block-some, block_end-small}
-use Rattle.chip_sim.proofs.SlotLemmas.{erase-pages, cleared-whole}
+use Rattle.chip_sim.specs.Store.{stored_pages}
+use Rattle.chip_sim.proofs.Happening.{changed}
 use Rattle.chip_sim.proofs.chip.SimChipFlash.erase_block.Goals as goal
 
-pub overflow_mul-first : goal.overflow_mul-first
-overflow_mul-first c = omega (arith, block_end-small c.args.self.now.geometry c.args.block c.requires)
-
-pub overflow_add-end : goal.overflow_add-end
-overflow_add-end c = omega (arith, block_end-small c.args.self.now.geometry c.args.block c.requires)
-
-pub invariant_of-self : goal.invariant_of-self
-invariant_of-self c =
+pub returns-in_default-clause-state : goal.returns-in_default-clause-state
+returns-in_default-clause-state c =
     let s = c.args.self.now in
-    let raw : ℕ = raw_len c.args.self.now.geometry in
-    let lent = c.deref_mut.result.now in
-    let same = with_items_is s.slots c.clear_slots.new.slots (c.clear_slots.auto.slots ∙ c.deref_mut.ensures.len) in
-    let before : All (IsWholeSlot raw) c.deref_mut.result.now = rw c.deref_mut.ensures.value s.whole in
-    let after = cleared-whole raw _ _ lent c.clear_slots.new.slots c.clear_slots.auto.slots c.clear_slots.ensures before in
-    record {
-      all_there = ap length same ∙ c.clear_slots.auto.slots ∙ ap length c.deref_mut.ensures.value ∙ s.all_there;
-      whole = subst (All (IsWholeSlot raw)) (sym same) after;
-      blanks_fit = s.blanks_fit;
-    }
+    let raw = raw_len c.args.self.now.store.geometry in
+    let good : None ≡ weak_fails (raw_len c.args.self.now.store.geometry) c.args.self.now.weak (EraseCall c.args.block) = c.in_default.ensures raw in
+    rw (← good)
+    (changed s.store.geometry (with_block s.store.geometry (stored_pages s.store) c.args.block (λ q old. blank_page s.store.geometry)) (weak_after_call s.weak (EraseCall c.args.block)) s.faults
+    c.erase.new.self c.count.new.self s.faults c.erase.ensures.geometry c.erase.ensures.pages c.count.ensures refl)
 
 pub returns-clause-state : goal.returns-clause-state
 returns-clause-state c =
     let s = c.args.self.now in
-    let new = c.clear_slots.new.slots in
-    let same = with_items_is s.slots new (c.clear_slots.auto.slots ∙ c.deref_mut.ensures.len) in
-    λ i. record {
-      geometry = s.geometry;
-      pages = λ page. erase-pages s.geometry s.slots.items (with_items s.slots new).items (flips_of s.log.flips) (flips_of c.forget.new.self.flips)
-          c.args.block page (pages_per_block-some s.geometry)
-          (rw (same, ← c.deref_mut.ensures.value) (c.clear_slots.ensures page)) (c.forget.ensures.flips page) i;
-      fault_state = record { raw = raw_len s.geometry; weak = [] };
-      faults = 0;
-    }
+    let raw = raw_len c.args.self.now.store.geometry in
+    let failed : Some (done_bits (raw_len c.args.self.now.store.geometry) c.in-Some.weakness.now)
+    ≡ weak_fails (raw_len c.args.self.now.store.geometry) c.args.self.now.weak (EraseCall c.args.block) = c.in-Some.ensures raw in
+    rw (← failed)
+    (changed s.store.geometry (with_block s.store.geometry (stored_pages s.store) c.args.block (torn_erase (done_bits (raw_len s.store.geometry) c.in-Some.weakness.now))) (weak_after_call s.weak (EraseCall c.args.block)) _
+    c.tear_erase.new.self c.count-2.new.self c.saturating_add-self.result c.tear_erase.ensures.geometry c.tear_erase.ensures.pages c.count-2.ensures c.saturating_add-self.ensures)

@@ -1,38 +1,26 @@
-use Rattle.std.proofs.Common.{◌<◌, ◌∙◌, length, Some, None, []}
-use Rattle.std.proofs.lemmas.List.{length-set}
-use Rattle.std.proofs.lemmas.List.Elements.{All-set}
+use Rattle.std.proofs.Common.{◌≡◌, None, Some, refl}
+use Rattle.nand_model.specs.Chip.{ProgramCall, good_program, done_bits, torn_program, with_page, weak_after_call, weak_fails}
 use Rattle.nand_model.specs.Sizes.{raw_len}
-use Rattle.chip_sim.specs.FlipLog.{flips_of}
-use Rattle.chip_sim.specs.Slots.{IsWholeSlot, slot_at}
-use Rattle.chip_sim.proofs.SlotLemmas.{Slot, program-pages, programmed-whole, programmed_page, slot_at-changed}
+use Rattle.chip_sim.specs.Store.{stored_pages}
+use Rattle.chip_sim.proofs.Happening.{changed}
 use Rattle.chip_sim.proofs.chip.SimChipFlash.program_page.Goals as goal
 
-pub invariant_of-self : goal.invariant_of-self
-invariant_of-self c =
+pub returns-in_default-clause-state : goal.returns-in_default-clause-state
+returns-in_default-clause-state c =
     let s = c.args.self.now in
-    let raw = raw_len c.args.self.now.geometry in
-    let there : c.args.page < length c.args.self.now.slots.items = rw s.all_there c.requires.place.page_there in
-    let change : Slot → Slot = λ slot. Some (programmed_page (raw_len c.args.self.now.geometry) slot c.args.image.now) in
-    let new = slot_at-changed s.slots.items c.args.page c.index_mut.result.now c.program_slot.new.slot change there c.index_mut.ensures.value
-    (rw (← s.blanks_fit) c.program_slot.ensures.programmed) in
-    record {
-      all_there = length-set s.slots.items c.args.page c.program_slot.new.slot ∙ s.all_there;
-      whole = All-set (IsWholeSlot raw) s.slots.items c.args.page c.program_slot.new.slot
-          (rw new (programmed-whole raw (slot_at s.slots.items c.args.page) c.args.image.now (s.whole c.args.page None there))) s.whole;
-      blanks_fit = c.program_slot.ensures.raw ∙ s.blanks_fit;
-    }
+    let raw = raw_len c.args.self.now.store.geometry in
+    let good : None ≡ weak_fails (raw_len c.args.self.now.store.geometry) c.args.self.now.weak (ProgramCall c.args.page) = c.in_default.ensures raw in
+    rw (← good)
+    (changed s.store.geometry (with_page (stored_pages s.store) c.args.page (good_program (stored_pages s.store c.args.page) c.args.image.now)) (weak_after_call s.weak (ProgramCall c.args.page)) s.faults
+    c.program.new.self c.count.new.self s.faults c.program.ensures.geometry c.program.ensures.pages c.count.ensures refl)
 
 pub returns-clause-state : goal.returns-clause-state
 returns-clause-state c =
     let s = c.args.self.now in
-    let there : c.args.page < length c.args.self.now.slots.items = rw s.all_there c.requires.place.page_there in
-    let change : Slot → Slot = λ slot. Some (programmed_page (raw_len c.args.self.now.geometry) slot c.args.image.now) in
-    let new = slot_at-changed s.slots.items c.args.page c.index_mut.result.now c.program_slot.new.slot change there c.index_mut.ensures.value
-    (rw (← s.blanks_fit) c.program_slot.ensures.programmed) in
-    λ i. record {
-      geometry = s.geometry;
-      pages = λ page. program-pages (raw_len s.geometry) (flips_of s.log.flips) s.slots.items c.args.page page
-          c.program_slot.new.slot c.args.image.now there new i;
-      fault_state = record { raw = raw_len s.geometry; weak = [] };
-      faults = 0;
-    }
+    let raw = raw_len c.args.self.now.store.geometry in
+    let failed : Some (done_bits (raw_len c.args.self.now.store.geometry) c.in-Some.weakness.now)
+    ≡ weak_fails (raw_len c.args.self.now.store.geometry) c.args.self.now.weak (ProgramCall c.args.page) = c.in-Some.ensures raw in
+    rw (← failed)
+    (changed s.store.geometry (with_page (stored_pages s.store) c.args.page (torn_program (stored_pages s.store c.args.page) c.args.image.now
+    (done_bits (raw_len s.store.geometry) c.in-Some.weakness.now))) (weak_after_call s.weak (ProgramCall c.args.page)) _
+    c.tear_program.new.self c.count-2.new.self c.saturating_add-self.result c.tear_program.ensures.geometry c.tear_program.ensures.pages c.count-2.ensures c.saturating_add-self.ensures)
