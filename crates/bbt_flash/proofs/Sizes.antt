@@ -1,11 +1,12 @@
 -- Blocks of a chip and their pages, as numbers of 32 bits.
 use Rattle.std.proofs.Common.{◌≡◌, ℕ, ◌*◌, ◌-◌, ◌<◌, ◌≤◌, [], ◌∷◌, All, arith}
+use Rattle.std.proofs.Math.Nat.{mul-le-mul_right}
 use Rattle.std.proofs.lemmas.List.Elements.{All-cons, All-nil}
 use Rattle.std.proofs.lemmas.Nat.{mul-le}
-use Rattle.nand_model.specs.Sizes.{first_page}
+use Rattle.nand_model.specs.Sizes.{first_page, page_count}
 use Rattle.nand_model.specs.Table.{table_blocks}
 use Rattle.nand_model.specs.declared.geometry.Geometry.{Geometry}
-use Rattle.nand_model.proofs.Bounds.{bounds, pages-le}
+use Rattle.nand_model.proofs.Bounds.{bounds, pages-le, pages-some}
 
 -- the first page of a block that is there
 pub first_page-small : (g : Geometry) (block : ℕ) → block < g.blocks → block * g.pages_per_block ≤ 4096 * 128
@@ -13,6 +14,10 @@ first_page-small g block there =
     let high = (bounds g).blocks_high in
     let low : block ≤ 4096 = omega arith in
     mul-le block g.pages_per_block 4096 128 low (pages-le g)
+
+-- it is there
+pub first_page-there : (g : Geometry) (block : ℕ) → block < g.blocks → first_page g block < page_count g
+first_page-there g block there = omega (arith, mul-le-mul_right g.pages_per_block there, pages-some g)
 
 -- the last four blocks are there
 pub table_blocks-there : (g : Geometry) → All (λ block. block < g.blocks) (table_blocks g)

@@ -1,7 +1,17 @@
 -- What is told of an event, and which events bring which calls.
-use Rattle.std.specs.Prelude.{ℕ, Bool, true, false, List, [], Option, Some, None}
+use Rattle.std.specs.Prelude.{ℕ, ◌<◌, Bool, true, false, List, [], Option, Some, None}
 use Rattle.nand_model.specs.Chip.{PageEvent, ReadEvent, ProgramEvent, EraseEvent}
 use Rattle.nand_model.specs.Path.{Answer, Good, Failed}
+use Rattle.nand_model.specs.Sizes.{page_count}
+use Rattle.nand_model.specs.declared.geometry.Geometry.{Geometry}
+use Rattle.nand_model.specs.declared.words.Event.{Event}
+use Rattle.nand_model.specs.declared.words.Event.TheVariants.{Read, Program, Erase}
+
+-- the page or the block of an event is one of a chip of these sizes
+abbrev pub IsOnChip : Geometry → Event → Type 0
+IsOnChip g (Read page) = page < page_count g
+IsOnChip g (Program page) = page < page_count g
+IsOnChip g (Erase block) = block < g.blocks
 
 -- the answer to a program or an erase that was good or failed
 abbrev pub answer_of : Bool → Answer

@@ -1,5 +1,5 @@
 // The attach of a chip.
-ghost use Rattle.std.specs.Prelude.{◌≡◌, ◌<◌, ℕ, List, true, None, option_map, length, IfOk};
+ghost use Rattle.std.specs.Prelude.{◌≡◌, ◌<◌, ℕ, List, true, None, option_map, length, IfOk, IfSome};
 ghost use Rattle.chip_paths.specs.Attach.{attach_path, rewrite_copies};
 ghost use Rattle.chip_paths.specs.ChipRun.{name_of};
 ghost use Rattle.chip_paths.specs.Stage.{path_after};
@@ -8,7 +8,7 @@ ghost use Rattle.nand_model.specs.Path.{Data, Over, first_event};
 ghost use Rattle.nand_model.specs.Sizes.{first_page, raw_len};
 ghost use Rattle.nand_model.specs.Table.{has_tables};
 ghost use Rattle.bbt_flash.specs.Copies.{places_in};
-ghost use Rattle.bbt_flash.specs.Events.{answer_of, image_of, is_change, is_program, is_read};
+ghost use Rattle.bbt_flash.specs.Events.{IsOnChip, answer_of, image_of, is_change, is_program, is_read};
 ghost use Rattle.bbt_flash.specs.Held.{copies_of, use_copies};
 ghost use Rattle.bbt_flash.specs.Step.{ScanFits, SearchFits, StepFits, StepFits-prop, step_left};
 ghost use Rattle.bbt_flash.specs.declared.step.Step.TheVariants.{Searching, Scanning, Over as IsOver};
@@ -68,9 +68,11 @@ impl Attach {
         })
     }
 
-    /// The next event. None comes exactly where attaching is over.
+    /// The next event, which is of a page or a block of the chip. None comes exactly where attaching
+    /// is over.
     pub fn event(&self) -> Option<Event>
-        ensures { result ≡ option_map name_of (first_event (attach_left self.now)) }
+        ensures next { result ≡ option_map name_of (first_event (attach_left self.now)) }
+        ensures there { IfSome result (IsOnChip (attach_sizes self.now)) }
     {
         match &self.step {
             Step::Searching(search) => Some(self.read_of(search.block())),
@@ -129,10 +131,13 @@ impl Attach {
         }
     }
 
-    /// What was found. The attach is over.
+    /// What was found, with a state for each block. The attach is over.
     pub fn finish(self) -> Attached
         requires { first_event (attach_left self) ≡ None }
-        ensures { attach_left self ≡ Over (attaching_in result) }
+        ensures found { attach_left self ≡ Over (attaching_in result) }
+        ensures blocks { length result.table ≡ (attach_sizes self).blocks }
+        ensures primary { result.places.primary < (attach_sizes self).blocks }
+        ensures mirror { result.places.mirror < (attach_sizes self).blocks }
     {
         let Attach { table, step, .. } = self;
         match step {
@@ -164,7 +169,8 @@ impl Attach {
     // The read of a block's first page.
     fn read_of(&self, block: u32) -> Event
         requires { block < self.now.geometry.blocks }
-        ensures { result ≡ name_of (ReadEvent (first_page self.now.geometry block)) }
+        ensures read { result ≡ name_of (ReadEvent (first_page self.now.geometry block)) }
+        ensures there { IsOnChip self.now.geometry result }
     {
         Event::Read(block * self.geometry.pages_per_block)
     }

@@ -11,8 +11,6 @@ mod markers;
 mod search;
 mod spares;
 mod step;
-#[cfg(test)]
-mod tests;
 mod update;
 
 pub use attach::{Attach, Attached};

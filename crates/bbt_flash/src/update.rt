@@ -1,5 +1,5 @@
 // A writing of a table's copies.
-ghost use Rattle.std.specs.Prelude.{◌≡◌, ◌<◌, ℕ, List, true, None, Some, option_map, length};
+ghost use Rattle.std.specs.Prelude.{◌≡◌, ◌<◌, ℕ, List, true, None, Some, option_map, length, IfSome};
 ghost use Rattle.chip_paths.specs.ChipRun.{name_of};
 ghost use Rattle.chip_paths.specs.Copies.{rewritten};
 ghost use Rattle.chip_paths.specs.Attach.{whole_at_first};
@@ -9,7 +9,7 @@ ghost use Rattle.nand_model.specs.Path.{first_event};
 ghost use Rattle.nand_model.specs.Sizes.{raw_len};
 ghost use Rattle.nand_model.specs.Table.{has_tables};
 ghost use Rattle.bbt_flash.specs.Copies.{copies_in, places_in, whole_in};
-ghost use Rattle.bbt_flash.specs.Events.{answer_of, image_of, is_program};
+ghost use Rattle.bbt_flash.specs.Events.{IsOnChip, answer_of, image_of, is_program};
 
 use crate::blocks::next_place;
 use crate::choices::{rewritten, whole_at_first};
@@ -106,12 +106,14 @@ impl Update {
         }
     }
 
-    /// The next event. None comes exactly where the writing is over.
+    /// The next event, which is of a page or a block of the chip. None comes exactly where the
+    /// writing is over.
     pub fn event(&self) -> Option<Event>
         ensures next { (table : List ℕ) → result ≡ option_map name_of
             (next_writing_event (update_sizes self.now) (update_writing self.now table)) }
         ensures path { (table : List ℕ) → result ≡ option_map name_of
             (first_event (writing_left (update_sizes self.now) (update_writing self.now table))) }
+        ensures there { IfSome result (IsOnChip (update_sizes self.now)) }
     {
         match self.left {
             CopiesLeft::Nothing => None,
@@ -168,9 +170,12 @@ impl Update {
         self.failed
     }
 
-    /// The places of the copies after the events so far.
+    /// The places of the copies after the events so far, which are blocks of the chip.
     pub fn places(&self) -> Places
-        ensures { (table : List ℕ) → places_in result ≡ (update_writing self.now table).places }
+        ensures places { (table : List ℕ) → places_in result
+            ≡ (update_writing self.now table).places }
+        ensures primary { result.primary < (update_sizes self.now).blocks }
+        ensures mirror { result.mirror < (update_sizes self.now).blocks }
     {
         self.places
     }
@@ -203,8 +208,9 @@ impl Update {
 
     // The next event of a copy.
     fn event_for(&self, which: Which) -> Event
-        ensures { (table : List ℕ) → result ≡ name_of
+        ensures event { (table : List ℕ) → result ≡ name_of
             (event_once self.now.erased self.now.geometry (update_writing self.now table) which) }
+        ensures there { IsOnChip self.now.geometry result }
     {
         let block = self.place(which);
         if self.erased {

@@ -8,8 +8,6 @@ mod first_step;
 mod header;
 mod image;
 mod states;
-#[cfg(test)]
-mod tests;
 mod versions;
 
 pub use copies::take;

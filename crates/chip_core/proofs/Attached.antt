@@ -9,9 +9,12 @@ use Rattle.nand_model.specs.Path.{Path, Over, Data, answer_to}
 use Rattle.nand_model.specs.Quiet.{is_quiet}
 use Rattle.nand_model.specs.Sizes.{numbers_from, first_page}
 use Rattle.chip_paths.specs.Stage.{Stage, Attaches, Rests, attach_end, attach_stage, first_stage, pending_note_after, path_after, stage_after, stage_event}
-use Rattle.chip_core.specs.Markers.{attached_by_markers, blocks_from, known_by_markers, marker_page, marker_state, markers_left}
+use Rattle.bbt_flash.specs.Markers.{marker_state}
+use Rattle.bbt_flash.specs.Step.{attached_by_markers}
+use Rattle.chip_core.specs.Markers.{known_by_markers, marker_page}
 use Rattle.chip_core.specs.Whole.{marker_states}
-use Rattle.chip_core.proofs.Scanning.{attach_path-markers, blocks_from-end, blocks_from-head, next_read, no_end_yet, still_attaches}
+use Rattle.chip_core.proofs.Numbers.{numbers_from-suc}
+use Rattle.chip_core.proofs.Scanning.{attach_path-markers, blocks_from, blocks_from-end, blocks_from-head, markers_left, next_read, no_end_yet, still_attaches}
 
 -- the states of the blocks before this one
 abbrev pub states_before : {W : Type 0} → ChipState W → ℕ → List ℕ
@@ -40,13 +43,6 @@ and-self false = refl
 quiet_before-more : {W : Type 0} (s : ChipState W) (events : ℕ) → (quiet_before s events && is_quiet s.geometry s.pages) ≡ quiet_before s (events + 1)
 quiet_before-more s zero = refl
 quiet_before-more s (suc events) = rw (add-one (suc events)) (and-self (is_quiet s.geometry s.pages))
-
--- one more number
-numbers_from-suc : (first count : ℕ) → numbers_from first (suc count) ≡ numbers_from first count ++ (first + count) ∷ []
-numbers_from-suc first zero = ap (λ n. n ∷ []) (sym (add-zero first))
-numbers_from-suc first (suc count) =
-    let e : first + 1 + count ≡ first + suc count = omega arith in
-    ap (λ ns. first ∷ ns) (numbers_from-suc (first + 1) count ∙ ap (λ n. numbers_from (first + 1) count ++ n ∷ []) e)
 
 at_some : {T : Type 0} (x : Option T) (v : T) (P : T → Type 0) → x ≡ Some v → IfSome x P → P v
 at_some x v P is h = subst (λ o. IfSome o P) is h

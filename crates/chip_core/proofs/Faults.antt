@@ -23,7 +23,7 @@ increment n =
 abbrev pub count_after : Bool → ℕ → ℕ
 count_after failed n = if failed then saturating_increment n else n
 
-rises : (before now : ℕ) → HasNotFallen before now → HasRisen before (saturating_increment now)
+pub rises : (before now : ℕ) → HasNotFallen before now → HasRisen before (saturating_increment now)
 rises before now (inl more) = elim (increment now) [ inl one ↦ inl (rw one (omega arith)) | inr end ↦ inr end ]
 rises before now (inr last) = elim (increment now) [
   | inl one ↦ let past : 2 ^ 64 - 1 ≤ now + 1 = omega arith in inr (min-eq_right past)

@@ -3,30 +3,34 @@ use Rattle.std.proofs.Common.{◌≡◌, ℕ, ◌-◌, ◌<◌, Bool, true, fals
 use Rattle.std.specs.Prelude.{IsSome, IfSome, is_some, option_map, ◌||◌}
 use Rattle.std.proofs.lemmas.Bool.{false≢true, true≢false}
 use Rattle.chip_paths.specs.Attach.{Attaching}
-use Rattle.nand_model.specs.Chip.{ChipEvent, ChipState, Complete, FaultModel, PageEvent, after_trace, happens}
+use Rattle.nand_model.specs.Chip.{ChipEvent, ChipState, Complete, DoneBits, EraseCall, EraseEvent, FaultModel, PageEvent, ProgramCall, ProgramEvent, ReadEvent, after_trace, failure_of, happens}
 use Rattle.chip_paths.specs.ChipRun.{AtStart, Progress, name_of}
 use Rattle.nand_model.specs.Counts.{HasRisen}
 use Rattle.chip_paths.specs.Operation.{Finished, Known, operation_path}
 use Rattle.nand_model.specs.Partitions.{Partitions, device_of, part_of}
-use Rattle.nand_model.specs.Path.{Answer, GoesAlong, Path, Over, Then, after_answers, answer_to, answers_of, first_event, is_failure, is_uncut, next_event, result_of}
-use Rattle.nand_model.specs.Table.{has_tables}
+use Rattle.nand_model.specs.Path.{Answer, GoesAlong, Path, Over, Then, after_answers, answer_to, answers_of, first_event, good_or_failed, is_failure, is_good, is_uncut, next_event, result_of}
 use Rattle.nand_model.specs.declared.words.Op.{Op}
 use Rattle.nand_model.specs.declared.words.Reply.{Reply}
 use Rattle.chip_paths.specs.Stage.{Stage, Attaches, Rests, Works, finished_in, is_resting, one_further, path_after, pending_note_after, stage_after, stage_begun, stage_event}
 use Rattle.chip_core.specs.Whole.{HasCause, HasPerformed, changes_known, is_fault, known_at_rest, refusal_of}
-use Rattle.chip_core.proofs.Endings.{EndsWithin, IsLawful, ended, is_lawful}
+use Rattle.chip_core.proofs.Endings.{EndsWithin, IsLawful, ended, is_lawful, may_answer}
 use Rattle.chip_core.proofs.Faults.{HasNotFallen, faults_after, not_fallen_after, risen_after}
 
--- an event is there where it has a name
-pub is_named : (event : Option PageEvent) → is_some (option_map name_of event) ≡ true → IsSome event
-is_named None named = absurd (false≢true named)
-is_named (Some e) named = refl
-
-pub is_unnamed : (event : Option PageEvent) → is_some (option_map name_of event) ≡ false → event ≡ None
-is_unnamed None unnamed = refl
-is_unnamed (Some e) unnamed = absurd (true≢false unnamed)
-
 module _ {W : Type 0} (model : FaultModel W) (partitions : Partitions) (op : Op) (s : ChipState W) where
+  -- a chip answers so
+  may-answer : (now : ChipState W) (e : PageEvent) → may_answer e (answer_to model now e) ≡ true
+  may-answer now (ReadEvent page) = refl
+  may-answer now (ProgramEvent page image) = on (failure_of model now (ProgramCall page))
+    where
+      on : (failure : Option DoneBits) → (is_good (good_or_failed failure) || is_failure (good_or_failed failure)) ≡ true
+      on None = refl
+      on (Some done) = refl
+  may-answer now (EraseEvent block) = on (failure_of model now (EraseCall block))
+    where
+      on : (failure : Option DoneBits) → (is_good (good_or_failed failure) || is_failure (good_or_failed failure)) ≡ true
+      on None = refl
+      on (Some done) = refl
+
   module _ (k : Known) where
     abbrev path : Path Finished
     path = operation_path s.geometry partitions k op
@@ -44,7 +48,7 @@ module _ {W : Type 0} (model : FaultModel W) (partitions : Partitions) (op : Op)
 
     -- what is left ends within so many events, or the operation was refused and nothing is done
     abbrev Left : ℕ → Bool → ChipState W → Option Reply → Path Finished → Type 0
-    Left n failed now None left = EndsWithin k op n failed left
+    Left n failed now None left = EndsWithin s.geometry k op n failed left
     Left n failed now (Some r) left = (left ≡ Over (ended k r)) × ((now ≡ s) × (is_fault r ≡ false))
 
     -- some events were answered so, and this is left of the operation
@@ -57,25 +61,25 @@ module _ {W : Type 0} (model : FaultModel W) (partitions : Partitions) (op : Op)
       grown : HasNotFallen s.faults now.faults
       ends : Left n failed now refusal left
 
-    starts : has_tables s.geometry ≡ false → Comes 2 s path
-    starts none = record {
+    starts : Comes 14 s path
+    starts = record {
       answers = [];
       rest = λ more. refl;
       whole = λ more along uncut. record { trace = more; along = along; uncut = uncut; leads = refl; answered = refl };
       failed = false;
       risen = λ no. absurd (false≢true no);
       grown = inl (omega arith);
-      ends = by_refusal refusal path (is_lawful s.geometry none k partitions op);
+      ends = by_refusal refusal path (is_lawful s.geometry k partitions op);
     }
       where
-        by_refusal : (r : Option Reply) (left : Path Finished) → IsLawful k op 2 r left → Left 2 false s r left
+        by_refusal : (r : Option Reply) (left : Path Finished) → IsLawful s.geometry k op 14 r left → Left 14 false s r left
         by_refusal None left lawful = lawful
         by_refusal (Some r) left lawful = (lawful.0, (refl, lawful.1))
 
     left_after : (n : ℕ) (failed : Bool) (now after : ChipState W) (e : PageEvent) (rest : Answer → Path Finished) (r : Option Reply) (a : Answer)
-        → Left n failed now r (Then e rest) → Left (n - 1) (failed || is_failure a) after r (rest a)
-    left_after n failed now after e rest None a ends = ends.1 a
-    left_after n failed now after e rest (Some r) a ends = let no : Then e rest ≡ Over (ended k r) = ends.0 in absurd cc
+        → may_answer e a ≡ true → Left n failed now r (Then e rest) → Left (n - 1) (failed || is_failure a) after r (rest a)
+    left_after n failed now after e rest None a may ends = ends.1 a may
+    left_after n failed now after e rest (Some r) a may ends = let no : Then e rest ≡ Over (ended k r) = ends.0 in absurd cc
 
     -- one more event
     event_done : (n : ℕ) (now : ChipState W) (e : PageEvent) (rest : Answer → Path Finished) → Comes n now (Then e rest)
@@ -102,7 +106,7 @@ module _ {W : Type 0} (model : FaultModel W) (partitions : Partitions) (op : Op)
           failed = c.failed || is_failure a;
           risen = λ either. subst (HasRisen s.faults) (sym counts) (risen_after s.faults now.faults c.failed (is_failure a) c.risen c.grown either);
           grown = subst (HasNotFallen s.faults) (sym counts) (not_fallen_after s.faults now.faults (is_failure a) c.grown);
-          ends = left_after n c.failed now after e rest refusal a c.ends;
+          ends = left_after n c.failed now after e rest refusal a (may-answer now e) c.ends;
         }
 
     goes_on : (n : ℕ) (now : ChipState W) (left : Path Finished) (e : PageEvent) → Comes n now left → first_event left ≡ Some e
@@ -139,7 +143,7 @@ module _ {W : Type 0} (model : FaultModel W) (partitions : Partitions) (op : Op)
         by_refusal (Some r) ends = let no : Then e rest ≡ Over (ended k r) = ends.0 in cc
 
     kept_or : (n : ℕ) (failed : Bool) (now : ChipState W) (end : Finished) (r : Option Reply) → Left n failed now r (Over end)
-        → changes_known op end.reply ≡ false → end.known ≡ k
+        → changes_known s.geometry op end.reply ≡ false → end.known ≡ k
     kept_or n failed now end None ends unchanged = ends.kept unchanged
     kept_or n failed now end (Some r) ends unchanged = let is : Over end ≡ Over (ended k r) = ends.0 in cc
 
@@ -161,17 +165,17 @@ module _ {W : Type 0} (model : FaultModel W) (partitions : Partitions) (op : Op)
     comes : Comes known n now left
 
   -- at its begin
-  pub begins : has_tables s.geometry ≡ false → (first begun : Stage) (now : ChipState W) → is_resting first ≡ true
-      → begun ≡ stage_begun s.geometry partitions op first → now ≡ s → HasCome 2 first now begun
-  begins none (Attaches left quiet) begun now rests is same = absurd (false≢true rests)
-  begins none (Works k progress left) begun now rests is same = absurd (false≢true rests)
-  begins none (Rests k) begun now rests is same = record {
+  pub begins : (first begun : Stage) (now : ChipState W) → is_resting first ≡ true
+      → begun ≡ stage_begun s.geometry partitions op first → now ≡ s → HasCome 14 first now begun
+  begins (Attaches left quiet) begun now rests is same = absurd (false≢true rests)
+  begins (Works k progress left) begun now rests is same = absurd (false≢true rests)
+  begins (Rests k) begun now rests is same = record {
     known = k;
     progress = AtStart;
     left = path k;
     rested = refl;
     stands = is;
-    comes = subst (λ (now : ChipState W). Comes k 2 now (path k)) (sym same) (starts k none);
+    comes = subst (λ (now : ChipState W). Comes k 14 now (path k)) (sym same) (starts k);
   }
 
   module _ (n : ℕ) (first : Stage) (now : ChipState W) (stage : Stage) (h : HasCome n first now stage) where

@@ -1,6 +1,6 @@
 -- Pages and blocks of a chip and their places.
 use Rattle.std.proofs.Common.{◌≡◌, ℕ, ◌*◌, ◌/◌, ◌<◌, ◌≤◌, ◌∙◌, ap, sym, add-zero, arith}
-use Rattle.std.proofs.Math.Nat.{div-lt_iff_lt-mul, mul-le-mul_right}
+use Rattle.std.proofs.Math.Nat.{div-lt_iff_lt-mul}
 use Rattle.std.proofs.lemmas.Nat.{div-mul-add, mul-le}
 use Rattle.nand_model.specs.Sizes.{page_count, first_page}
 use Rattle.nand_model.specs.declared.geometry.Geometry.{Geometry}
@@ -9,11 +9,7 @@ use Rattle.nand_model.proofs.Bounds.{bounds, pages-le, pages-some}
 pub page_count-le : (g : Geometry) → page_count g ≤ 4096 * 128
 page_count-le g = mul-le g.blocks g.pages_per_block 4096 128 (bounds g).blocks_high (pages-le g)
 
--- the first page of a block is there
-pub first_page-there : (g : Geometry) (block : ℕ) → block < g.blocks → first_page g block < page_count g
-first_page-there g block there = omega (arith, mul-le-mul_right g.pages_per_block there, pages-some g)
-
--- it is in the block
+-- the first page of a block is in the block
 pub first_page-block : (g : Geometry) (block : ℕ) → first_page g block / g.pages_per_block ≡ block
 first_page-block g block =
     let some = pages-some g in

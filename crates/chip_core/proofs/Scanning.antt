@@ -1,15 +1,27 @@
 -- An attach without tables: where its path stands after each page.
-use Rattle.std.proofs.Common.{◌≡◌, ℕ, suc, ◌+◌, ◌-◌, ◌<◌, ◌≤◌, Bool, false, not, List, [], ◌∷◌, ◌++◌, length, take, set, Some, None, refl, ap, sym, ◌∙◌, arith}
+use Rattle.std.proofs.Common.{◌≡◌, ℕ, suc, ◌+◌, ◌-◌, ◌<◌, ◌≤◌, Bool, false, not, List, [], ◌∷◌, ◌++◌, Some, None, refl, ap, sym, ◌∙◌, arith}
 use Rattle.std.specs.Prelude.{◌==◌}
-use Rattle.std.proofs.lemmas.List.{length-set, take_all, take_more_set, map-append}
+use Rattle.std.proofs.lemmas.List.{map-append}
 use Rattle.nand_model.specs.Chip.{ReadEvent}
-use Rattle.nand_model.specs.Path.{Over, Then, Data, cells_of, first_event}
-use Rattle.chip_paths.specs.Attach.{attach_by, attach_path, marker_table, read_first_pages}
+use Rattle.nand_model.specs.Path.{Path, Over, Then, cells_of, first_event}
+use Rattle.chip_paths.specs.Attach.{Attaching, attach_by, attach_path, marker_table, read_first_pages}
 use Rattle.nand_model.specs.Table.{has_tables}
 use Rattle.nand_model.specs.Sizes.{numbers_from, first_page}
 use Rattle.nand_model.specs.declared.geometry.Geometry.{Geometry}
-use Rattle.chip_paths.specs.Stage.{Attaches, Rests, attach_end, attach_stage, path_after}
-use Rattle.chip_core.specs.Markers.{attached_by_markers, blocks_from, known_by_markers, marker_state, markers_left}
+use Rattle.chip_paths.specs.Stage.{Attaches, attach_end, attach_stage}
+use Rattle.bbt_flash.specs.Markers.{marker_state}
+use Rattle.bbt_flash.specs.Step.{attached_by_markers}
+
+-- the blocks from this one on
+abbrev pub blocks_from : Geometry → ℕ → List ℕ
+blocks_from g block = numbers_from block (g.blocks - block)
+
+-- the blocks before these have these states, and the first pages of these are still to be read
+abbrev pub markers_left : Geometry → List ℕ → List ℕ → Path Attaching
+markers_left g states [] = Over (attached_by_markers states)
+markers_left g states (block ∷ blocks) =
+    Then (ReadEvent (first_page g block)) (λ answer. markers_left g (states ++ marker_state g (cells_of answer) ∷ [])
+    blocks)
 
 pub no_tables : (g : Geometry) → g.bbt ≡ 0 → has_tables g ≡ false
 no_tables g none = ap (λ bbt. not (bbt == 0)) none
@@ -54,56 +66,3 @@ module _ (g : Geometry) where
 
     pub no_end_yet : (quiet : Bool) → attach_end (markers_left g states (blocks_from g block)) quiet ≡ None
     no_end_yet quiet = ap (λ blocks. attach_end (markers_left g states blocks) quiet) (blocks_from-head block there)
-
-    -- one more page is read
-    pub after_read : (cells : List ℕ) → length states ≡ g.blocks
-        → path_after (Data cells) (markers_left g (take block states) (blocks_from g block))
-        ≡ markers_left g (take (block + 1) (set states block (marker_state g cells))) (blocks_from g (block + 1))
-    after_read cells all =
-        let within : block < length states = rw all there in
-        ap (λ blocks. path_after (Data cells) (markers_left g (take block states) blocks)) (blocks_from-head block there)
-        ∙ ap (λ seen. markers_left g seen (blocks_from g (block + 1))) (sym (take_more_set states block (marker_state g cells) within))
-
-  module _ (states : List ℕ) (block : ℕ) (past : g.blocks ≤ block) (all : length states ≡ g.blocks) (quiet : Bool) where
-    whole : take block states ≡ states
-    whole = take_all block states (rw all past)
-
-    over : markers_left g (take block states) (blocks_from g block) ≡ Over (attached_by_markers states)
-    over = ap (markers_left g (take block states)) (blocks_from-end block past) ∙ ap (λ seen. Over (attached_by_markers seen)) whole
-
-    -- after the last page the chip rests, and there is pending note
-    pub now_rests : attach_stage (markers_left g (take block states) (blocks_from g block)) quiet ≡ Rests (known_by_markers states)
-    now_rests = ap (λ left. attach_stage left quiet) over
-
-    pub now_pending_note : attach_end (markers_left g (take block states) (blocks_from g block)) quiet ≡ Some (quiet, attached_by_markers states)
-    now_pending_note = ap (λ left. attach_end left quiet) over
-
-  -- a chip whose next marker is read, and the state of that block kept
-  module _ (states : List ℕ) (block : ℕ) (cells : List ℕ) (there : block < g.blocks) (all : length states ≡ g.blocks) (quiet : Bool) where
-    kept-all : length (set states block (marker_state g cells)) ≡ g.blocks
-    kept-all = length-set states block (marker_state g cells) ∙ all
-
-    module _ (more : block + 1 < g.blocks) where
-      pub goes_on : attach_stage (path_after (Data cells) (markers_left g (take block states) (blocks_from g block))) quiet
-          ≡ Attaches (markers_left g (take (block + 1) (set states block (marker_state g cells))) (blocks_from g (block + 1))) quiet
-      goes_on =
-          ap (λ left. attach_stage left quiet) (after_read states block there cells all)
-          ∙ still_attaches (take (block + 1) (set states block (marker_state g cells))) (block + 1) more quiet
-
-      pub no_pending_note : attach_end (path_after (Data cells) (markers_left g (take block states) (blocks_from g block))) quiet ≡ None
-      no_pending_note =
-          ap (λ left. attach_end left quiet) (after_read states block there cells all)
-          ∙ no_end_yet (take (block + 1) (set states block (marker_state g cells))) (block + 1) more quiet
-
-    module _ (last : g.blocks ≤ block + 1) where
-      pub comes_to_rest : attach_stage (path_after (Data cells) (markers_left g (take block states) (blocks_from g block))) quiet
-          ≡ Rests (known_by_markers (set states block (marker_state g cells)))
-      comes_to_rest =
-          ap (λ left. attach_stage left quiet) (after_read states block there cells all)
-          ∙ now_rests (set states block (marker_state g cells)) (block + 1) last kept-all quiet
-
-      pub pending_note : attach_end (path_after (Data cells) (markers_left g (take block states) (blocks_from g block))) quiet
-          ≡ Some (quiet, attached_by_markers (set states block (marker_state g cells)))
-      pending_note =
-          ap (λ left. attach_end left quiet) (after_read states block there cells all)
-          ∙ now_pending_note (set states block (marker_state g cells)) (block + 1) last kept-all quiet

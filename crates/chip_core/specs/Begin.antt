@@ -1,4 +1,4 @@
--- Which operations a chip without tables takes.
+-- Which operations a chip takes.
 use Rattle.std.specs.Prelude.{ℕ, ◌+◌, ◌≤◌, Option, Some, None, IsSome, IfSome}
 use Rattle.nand_model.specs.Partitions.{Partitions, part_of, device_of}
 use Rattle.nand_model.specs.declared.geometry.Geometry.{Geometry}

@@ -53,9 +53,9 @@ state_from k block = answer k (State (entry_of k block))
 -- a task stands for this path where this is known, fits the chip, and adds to the statistics of
 -- this device or of none
 pub record StandsFor (known : Knowledge) (path : Known → Path Finished) (dev : Option ℕ) (task : Task) : Type 0 where
-  pub follows : task_left known.geometry (known_in known) task ≡ path (known_in known)
+  pub follows : task_left known.geometry known.table (known_in known) task ≡ path (known_in known)
   pub fresh : task_progress task ≡ AtStart
-  pub fits : TaskFits known.geometry task
+  pub fits : TaskFits known.geometry known.table task
   pub counted : (d : ℕ) → counted_by task ≡ Some d → dev ≡ Some d
 
 -- a task stands for the whole path of an operation

@@ -1,7 +1,11 @@
 pub mod Markers
 pub mod Sums
 pub mod Begin
+pub mod Events
+pub mod Torn
+pub mod Quiet
 pub mod Knowledge
+pub mod AttachRun
 pub mod Task
 pub mod Beginning
 pub mod Phase

@@ -1,5 +1,5 @@
 -- A whole attach and a whole operation.
-use Rattle.std.specs.Prelude.{◌≡◌, ℕ, ◌/◌, Bool, true, false, not, ◌||◌, ◌==◌, nat_le, List, map, slice_index, Option, Some, None, IfSome, IfNone}
+use Rattle.std.specs.Prelude.{◌≡◌, ℕ, ◌/◌, Bool, true, false, not, ◌&&◌, ◌||◌, ◌==◌, nat_le, List, map, slice_index, Option, Some, None, IfSome, IfNone}
 use Rattle.chip_paths.specs.Attach.{marker_table}
 use Rattle.nand_model.specs.Chip.{ChipEvent, ChipState, FaultModel, after_trace}
 use Rattle.nand_model.specs.Counts.{HasRisen}
@@ -27,20 +27,28 @@ known_at_rest (Attaches left quiet) = None
 known_at_rest (Rests known) = Some known
 known_at_rest (Works known progress left) = None
 
--- whether an operation with this reply changes what is known: a read counts, and a mark that is done
--- sets its entry
-abbrev pub changes_known : Op → Reply → Bool
-changes_known (Read dev page) reply = true
-changes_known (Write dev page body free) reply = false
-changes_known (RawRead dev page) reply = false
-changes_known (RawWrite dev page image) reply = false
-changes_known (Erase dev block) reply = false
-changes_known (IsBad dev block) reply = false
-changes_known (Mark dev block) reply = is_done reply
-changes_known (Stats dev) reply = false
+-- a reply that tells of a failed event
+abbrev pub is_fault : Reply → Bool
+is_fault ProgramFailed = true
+is_fault EraseFailed = true
+is_fault MarkerFailed = true
+is_fault (TableFailed which) = true
+is_fault _ = false
+
+-- whether an operation with this reply changes what is known: a read counts, a mark that is done
+-- sets its entry, and with tables so does one that failed
+abbrev pub changes_known : Geometry → Op → Reply → Bool
+changes_known g (Read dev page) reply = true
+changes_known g (Write dev page body free) reply = false
+changes_known g (RawRead dev page) reply = false
+changes_known g (RawWrite dev page image) reply = false
+changes_known g (Erase dev block) reply = false
+changes_known g (IsBad dev block) reply = false
+changes_known g (Mark dev block) reply = is_done reply || (has_tables g && is_fault reply)
+changes_known g (Stats dev) reply = false
 
 -- from this chip and what is known of it to this chip at this stage, by a whole operation with this
--- reply; only a read and a mark that is done change what is known
+-- reply; only a read and a mark that is not refused change what is known
 pub record HasPerformed {W : Type 0} (model : FaultModel W) (partitions : Partitions) (k : Known) (op : Op)
     (before after : ChipState W)
     (stage : Stage) (reply : Reply) : Type 0 where
@@ -49,7 +57,7 @@ pub record HasPerformed {W : Type 0} (model : FaultModel W) (partitions : Partit
   pub trace : List ChipEvent
   pub leads : after ≡ after_trace model before trace
   pub performs : Performs model partitions before k op trace reply known
-  pub kept : changes_known op reply ≡ false → known ≡ k
+  pub kept : changes_known before.geometry op reply ≡ false → known ≡ k
 
 -- a refusal where the test fails, else a later one
 abbrev pub refused_unless : Bool → Reply → Option Reply → Option Reply
@@ -90,14 +98,6 @@ is_refusal MarkerByte = true
 is_refusal Reserved = true
 is_refusal (Copies n) = true
 is_refusal _ = false
-
--- a reply that tells of a failed event
-abbrev pub is_fault : Reply → Bool
-is_fault ProgramFailed = true
-is_fault EraseFailed = true
-is_fault MarkerFailed = true
-is_fault (TableFailed which) = true
-is_fault _ = false
 
 -- an operation is refused exactly for its reason, and has no event then; and it fails only where
 -- the chip's count of faults rose

@@ -25,7 +25,6 @@ pub fn begin<C: PageCode>(
     parts: &Parts,
     op: &Op,
 ) -> Result<Task, AllocError>
-    requires without_tables { known.now.geometry.bbt ≡ 0 }
     requires device { HasDevice known.now.geometry parts.now (device_of op.now) }
     requires taken { IsTaken known.now.geometry op.now }
     ensures { IfOk result (λ task. Begins known.now parts.now op.now task) }
@@ -184,10 +183,10 @@ fn erase(known: &Knowledge, block: Option<u32>) -> Task
     }
 }
 
-// A mark of a block. A reserved block is refused, and one that is bad already is done at once.
+// A mark of a block. A reserved block is refused, and so is one of a chip with tables of which fewer
+// than two copies are whole. A block that is bad already is done at once.
 fn mark(alloc: Global, known: &Knowledge, block: Option<u32>) -> Result<Task, AllocError>
-    requires without_tables { known.now.geometry.bbt ≡ 0 }
-    requires there { IfSome block (λ b. b < known.now.geometry.blocks) }
+    requires { IfSome block (λ b. b < known.now.geometry.blocks) }
     ensures { IfOk result (λ task. StandsFor known.now
         (λ k. in_range k block (mark_block known.now.geometry k)) None task) }
 {
@@ -196,6 +195,9 @@ fn mark(alloc: Global, known: &Knowledge, block: Option<u32>) -> Result<Task, Al
     };
     if known.is_reserved(block) {
         return Ok(Task::AtOnce(Reply::Reserved));
+    }
+    if known.geometry.bbt != 0 && known.copies < 2 {
+        return Ok(Task::AtOnce(Reply::Copies(known.copies)));
     }
     if !known.is_good(block) {
         return Ok(Task::AtOnce(Reply::Done));

@@ -3,32 +3,33 @@ ghost use Rattle.std.specs.Prelude.{◌≡◌, ◌≤◌, ◌+◌, min, length, 
 ghost use Rattle.nand_model.specs.Chip.{Complete, after_trace, flip_events, happens};
 ghost use Rattle.chip_paths.specs.ChipRun.{name_of, bad_blocks_in};
 ghost use Rattle.nand_model.specs.Counts.{HasRisen};
-ghost use Rattle.nand_model.specs.Path.{Data, answer_to, is_failure};
+ghost use Rattle.nand_model.specs.Path.{answer_to, first_event, is_failure};
 ghost use Rattle.nand_model.specs.Quiet.{is_quiet};
-ghost use Rattle.nand_model.specs.declared.words.Fairness.TheVariants.{Plain};
 ghost use Rattle.nand_model.specs.Flips.{FitsBits};
 ghost use Rattle.chip_paths.specs.Stage.{Rests, failure_told, finished_in, first_stage, is_attached, is_resting, is_working, pending_note_after, note_of_attach, stage_after, stage_begun, stage_event, stage_statistics, stage_table};
 ghost use Rattle.chip_core.specs.Begin.{CanBegin};
-ghost use Rattle.chip_core.specs.Phase.{AttachFits, KnowsQuiet, KnowsQuiet-prop, PhaseFits, PhaseFits-prop, most_page_room, pending_note_in, phase_stage, programs_left};
-ghost use Rattle.chip_core.specs.Markers.{marker_page};
-ghost use Rattle.chip_core.specs.declared.phase.Phase.TheVariants.{Attaching, Resting};
+ghost use Rattle.chip_core.specs.Torn.{stage_torn, state_torn, tear_told};
+ghost use Rattle.chip_core.specs.Phase.{AttachFits, AttachGoesOn, KnowsQuiet, KnowsQuiet-prop, PhaseFits, PhaseFits-prop, most_page_room, pending_note_in, phase_stage, programs_left};
+ghost use Rattle.chip_core.specs.AttachRun.{Watches};
+ghost use Rattle.bbt_flash.specs.Attach.{attach_left};
+ghost use Rattle.chip_core.specs.declared.phase.Phase.TheVariants.{Resting};
 
+use crate::attach_run::{AttachRun, Finding};
 use crate::beginning::begin;
+use crate::judge::Judge;
 use crate::knowledge::Knowledge;
 use crate::phase::Phase;
-use crate::scan::{Finding, Scan, marker_is_quiet};
 use crate::task::Task;
 use mtd_part::Parts;
-use nand_iface::{Event, Fairness, Flash, Note, Op, Origin, PageCode, Reply, Stats};
-use nand_model::{BlockList, Geometry};
+use nand_iface::{Event, Fairness, Flash, Note, Op, PageCode, Reply, Stats};
+use nand_model::{BlockList, Geometry, Tear};
 use std::alloc::{AllocError, Global};
 use std::mem;
 
-/// The greatest page room: what an operation in flight may still program fits beside it in 32 bits.
+/// The greatest page room: what may still be programmed in flight fits beside it in 32 bits.
 const MOST_PAGE_ROOM: u32 = 4_294_967_288;
 
-/// A chip with its attach or its operation, which is held from its begin to its answer. It has no
-/// tables on flash.
+/// A chip with its attach or its operation, which is held from its begin to its answer.
 ///
 /// Contracts see the state of its flash (`chip_state`); its stage (`chip_stage`): what is left of
 /// its attach or of its operation, or what is known of it at rest; its page room
@@ -41,39 +42,42 @@ pub struct Chip<F: Flash, C: PageCode> {
     flash: F,
     code: C,
     known: Knowledge,
+    judge: Judge,
     finding: Option<Finding>,
     phase: Phase,
     page_room: u32,
     ghost sizes: { (F.state flash).geometry ≡ known.geometry },
-    ghost without_tables: { (F.state flash).geometry.bbt ≡ 0 },
+    ghost judge_sizes: { judge.geometry ≡ known.geometry },
     ghost quiet: { KnowsQuiet (F.state flash) phase } by { KnowsQuiet-prop (F.state flash) phase },
     ghost fits: { PhaseFits known.geometry known.table known.sums phase } by { PhaseFits-prop known.geometry known.table known.sums phase },
     ghost few: { page_room ≤ most_page_room },
-    ghost room: { page_room + programs_left phase ≤ F.room flash },
+    ghost room: { page_room + programs_left known.geometry phase ≤ F.room flash },
 }
 
 impl<F: Flash, C: PageCode> Chip<F, C> {
     ghost use Rattle.chip_core.specs.Chip.{chip_bits, chip_pending_note, chip_page_room, chip_stage, chip_state};
 
     /// A chip at the start of its attach, with all the memory that attaching needs.
-    ///
-    /// The flash has no tables.
     pub fn attach_start(alloc: Global, flash: F, code: C) -> Result<Chip<F, C>, AllocError>
-        requires { (F.state flash).geometry.bbt ≡ 0 }
         ensures state { IfOk result (λ chip. chip_state chip ≡ F.state flash) }
         ensures stage { IfOk result
             (λ chip. chip_stage chip ≡ first_stage (F.state flash).geometry) }
         ensures pending_note { IfOk result (λ chip. chip_pending_note chip ≡ None) }
     {
+        let mut flash = flash;
         let geometry = flash.geometry();
-        let scan = Scan::start(alloc, &flash, &geometry)?;
+        let known = Knowledge::new(alloc, geometry)?;
+        let judge = Judge::new(alloc, geometry)?;
+        let run = AttachRun::start(alloc, &flash, geometry)?;
+        flash.reserve(run.programs, 0)?;
         Ok(Chip {
             alloc,
             flash,
             code,
-            known: Knowledge::new(alloc, geometry)?,
+            known,
+            judge,
             finding: None,
-            phase: Phase::Attaching(scan),
+            phase: Phase::Attaching(run),
             page_room: 0,
         })
     }
@@ -91,7 +95,7 @@ impl<F: Flash, C: PageCode> Chip<F, C> {
         ensures { result ≡ option_map name_of (stage_event (chip_stage self.now)) }
     {
         match &self.phase {
-            Phase::Attaching(scan) => Some(scan.event(&self.known.geometry)),
+            Phase::Attaching(run) => run.attach.event(),
             Phase::Resting => None,
             Phase::Working(task) => task.event(&self.known.geometry),
         }
@@ -109,7 +113,8 @@ impl<F: Flash, C: PageCode> Chip<F, C> {
         ensures pending_note { chip_pending_note self.new ≡ chip_pending_note self.old }
     {
         let page_room = pages.min(MOST_PAGE_ROOM).max(self.page_room);
-        self.flash.reserve(page_room + self.phase.programs(), bits)?;
+        let programs = self.phase.programs(&self.known.geometry);
+        self.flash.reserve(page_room + programs, bits)?;
         self.page_room = page_room;
         Ok(())
     }
@@ -127,11 +132,8 @@ impl<F: Flash, C: PageCode> Chip<F, C> {
         ensures page_room { chip_page_room self.old ≤ chip_page_room self.new + 1 }
         ensures bits { chip_bits self.old ≤ chip_bits self.new + length bits.now }
     {
-        self.flash.flip(page, bits);
         self.page_room -= 1;
-        let g = &self.known.geometry;
-        let quiet = marker_is_quiet(&self.flash, g, page / g.pages_per_block);
-        self.phase.see_marker(quiet);
+        self.phase.flip(&mut self.flash, page, bits);
     }
 
     /// Hands out the note of the attach, under this number of the chip. None comes exactly where
@@ -150,9 +152,9 @@ impl<F: Flash, C: PageCode> Chip<F, C> {
         let finding = self.finding.take()?;
         Some(Note::Attached {
             chip,
-            origin: Origin::Markers,
-            version: 0,
-            copies: 0,
+            origin: finding.origin,
+            version: finding.version,
+            copies: finding.copies,
             quiet: finding.quiet,
             states: finding.states,
         })
@@ -207,15 +209,14 @@ impl<F: Flash, C: PageCode> Chip<F, C> {
     {
         self.known.expect(op)?;
         let task = begin(self.alloc, &self.code, &self.known, parts, op)?;
-        self.flash.reserve(self.page_room + task.programs(), 0)?;
+        let programs = task.programs(&self.known.geometry);
+        self.flash.reserve(self.page_room + programs, 0)?;
         self.phase = Phase::Working(task);
         Ok(())
     }
 
-    /// Does the next event, which is there. Some comes exactly where the event failed. It takes no
-    /// memory.
-    ///
-    /// The event touches no table page, so what is told of a failure is `Plain`.
+    /// Does the next event, which is there. Some comes exactly where the event failed, with what is
+    /// left of a table page that it touched. It takes no memory.
     pub fn advance(&mut self) -> Option<Fairness>
         requires { IsSome (stage_event (chip_stage self.old)) }
         ensures state { IfSome (stage_event (chip_stage self.old))
@@ -233,21 +234,63 @@ impl<F: Flash, C: PageCode> Chip<F, C> {
             (λ e. result ≡ failure_told F.fault_model (chip_state self.old) e) }
         ensures failed { IfSome (stage_event (chip_stage self.old))
             (λ e. is_some result ≡ is_failure (answer_to F.fault_model (chip_state self.old) e)) }
-        ensures plain { IfSome result (λ fairness. fairness ≡ Plain) }
         ensures risen { IfSome result
             (λ fairness. HasRisen (chip_state self.old).faults (chip_state self.new).faults) }
         ensures page_room { chip_page_room self.new ≡ chip_page_room self.old }
         ensures bits { chip_bits self.old ≤ chip_bits self.new }
     {
         match mem::replace(&mut self.phase, Phase::Resting) {
-            Phase::Attaching(scan) => {
-                self.attach_on(scan);
-                None
+            Phase::Attaching(run) => self.attach_on(run),
+            Phase::Resting => unreachable!(),
+            Phase::Working(task) => {
+                let (left, told) = task.advance(
+                    &mut self.flash,
+                    &mut self.known,
+                    &self.code,
+                    &mut self.judge,
+                );
+                self.phase = Phase::Working(left);
+                told
+            }
+        }
+    }
+
+    /// Does the next event, which is there, while the power is cut, and tells what is left of a table
+    /// page. The attach or the operation stays at this event. It takes no memory, and at most one
+    /// page of the page room.
+    pub fn torn(&mut self, tear: &Tear) -> Fairness
+        requires event { IsSome (stage_event (chip_stage self.old)) }
+        requires page_room { 1 ≤ chip_page_room self.old }
+        ensures state { IfSome (stage_event (chip_stage self.old))
+            (λ e. chip_state self.new ≡ state_torn F.fault_model tear.now e
+            (chip_state self.old)) }
+        ensures stage { IfSome (stage_event (chip_stage self.old)) (λ e. chip_stage self.new
+            ≡ stage_torn (is_quiet (chip_state self.old).geometry (chip_state self.old).pages)
+            (chip_stage self.old)) }
+        ensures pending_note { chip_pending_note self.new ≡ chip_pending_note self.old }
+        ensures told { IfSome (stage_event (chip_stage self.old))
+            (λ e. result ≡ tear_told F.fault_model tear.now (chip_state self.old) e) }
+        ensures page_room { chip_page_room self.old ≤ chip_page_room self.new + 1 }
+        ensures bits { chip_bits self.old ≤ chip_bits self.new }
+    {
+        self.page_room -= 1;
+        match mem::replace(&mut self.phase, Phase::Resting) {
+            Phase::Attaching(run) => {
+                let mut run = run;
+                let told = run.tear(&mut self.flash, &self.code, &mut self.judge, tear);
+                self.phase = Phase::Attaching(run);
+                told
             }
             Phase::Resting => unreachable!(),
             Phase::Working(task) => {
-                let (left, told) = task.advance(&mut self.flash, &mut self.known, &self.code);
-                self.phase = Phase::Working(left);
+                let (task, told) = task.tear(
+                    &mut self.flash,
+                    &self.known,
+                    &self.code,
+                    &mut self.judge,
+                    tear,
+                );
+                self.phase = Phase::Working(task);
                 told
             }
         }
@@ -270,6 +313,7 @@ impl<F: Flash, C: PageCode> Chip<F, C> {
             Phase::Working(Task::AtOnce(reply) | Task::Ended(reply)) => reply,
             Phase::Working(Task::Marked { .. }) => Reply::Done,
             Phase::Working(Task::MarkerFailed) => Reply::MarkerFailed,
+            Phase::Working(Task::Writing(writing)) => self.known.take_written(writing),
             Phase::Working(
                 Task::Decoded {
                     dev,
@@ -293,32 +337,28 @@ impl<F: Flash, C: PageCode> Chip<F, C> {
         flash
     }
 
-    // Reads the marker of the next block; after the last one the chip is attached, and there is a
-    // note to be handed out.
-    fn attach_on(&mut self, scan: Scan)
+    // Does the next event of an attach; after the last one the chip is attached, and there is a note
+    // to be handed out.
+    fn attach_on(&mut self, run: AttachRun) -> Option<Fairness>
         requires rests { self.old.phase ≡ Resting }
-        requires fits { AttachFits self.old.known.geometry self.old.known.sums scan }
-        requires quiet { scan.quiet_now
-            ≡ is_quiet (F.state self.old.flash).geometry (F.state self.old.flash).pages }
-        ensures state { F.state self.new.flash ≡ F.state self.old.flash }
-        ensures stage { phase_stage self.new.known self.new.phase
-            ≡ stage_after scan.quiet_now (Data (marker_page (F.state self.old.flash) scan.next))
-            (phase_stage self.old.known (Attaching scan)) }
-        ensures pending_note { pending_note_in self.new.phase self.new.finding
-            ≡ pending_note_after scan.quiet_now
-            (Data (marker_page (F.state self.old.flash) scan.next))
-            (phase_stage self.old.known (Attaching scan)) None }
+        requires fits { AttachFits self.old.known.geometry self.old.known.sums run }
+        requires watches { Watches (F.state self.old.flash) run }
+        requires room { self.old.page_room + run.programs ≤ F.room self.old.flash }
+        requires event { IsSome (first_event (attach_left run.attach)) }
+        ensures advanced { IfSome (first_event (attach_left run.attach))
+            (AttachGoesOn F.fault_model (F.state self.old.flash) (F.state self.new.flash) run
+            (phase_stage self.new.known self.new.phase)
+            (pending_note_in self.new.phase self.new.finding) result) }
         ensures page_room { self.new.page_room ≡ self.old.page_room }
         ensures bits { F.bit_room self.old.flash ≤ F.bit_room self.new.flash }
     {
-        let mut scan = scan;
-        let block = scan.next;
-        let state = scan.read_marker(&self.flash, &self.known.geometry);
-        self.known.set(block, state);
-        if scan.next < self.known.geometry.blocks {
-            self.phase = Phase::Attaching(scan);
-        } else {
-            self.finding = Some(scan.into_finding(&self.known));
+        let mut run = run;
+        let told = run.advance(&mut self.flash, &self.code, &mut self.judge);
+        if run.attach.event().is_some() {
+            self.phase = Phase::Attaching(run);
+            return told;
         }
+        self.finding = Some(run.into_finding(&mut self.known));
+        told
     }
 }

@@ -1,12 +1,16 @@
 //! One chip, whose attach or operation is held from its begin to its end.
 #![tactic(auto)]
 
+mod attach_run;
 mod beginning;
 mod chip;
+mod judge;
 mod knowledge;
 mod phase;
-mod scan;
+mod quiet;
 mod sums;
+mod table_pages;
+mod table_writing;
 mod task;
 mod whole;
 

@@ -5,7 +5,8 @@ ghost use Rattle.nand_model.specs.Quiet.{is_quiet};
 ghost use Rattle.chip_paths.specs.Stage.{Rests, is_resting};
 ghost use Rattle.chip_core.specs.Begin.{CanBegin};
 ghost use Rattle.chip_core.specs.Chip.{chip_bits, chip_pending_note, chip_page_room, chip_stage, chip_state};
-ghost use Rattle.chip_core.specs.Markers.{attached_by_markers, known_by_markers};
+ghost use Rattle.bbt_flash.specs.Step.{attached_by_markers};
+ghost use Rattle.chip_core.specs.Markers.{known_by_markers};
 ghost use Rattle.chip_core.specs.Whole.{HasCause, HasPerformed, known_at_rest, marker_states, refusal_of};
 
 use crate::Chip;
@@ -13,8 +14,9 @@ use mtd_part::Parts;
 use nand_iface::{Flash, Op, PageCode, Reply};
 use std::alloc::{AllocError, Global};
 
-// A mark of a chip without tables has the most events: an erase and a program.
-const MOST_EVENTS: u32 = 2;
+// A mark of a chip with tables has the most events: an erase and a program of its block, the same
+// for each copy of the table, and both copies again for each of two blocks that fail.
+const MOST_EVENTS: u32 = 14;
 
 /// Attaches a chip without tables. Its table is that of its markers, and the note of the attach is
 /// still to be handed out. The attach was quiet exactly where the flash is.

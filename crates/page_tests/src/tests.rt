@@ -5,6 +5,7 @@ ghost use Rattle.chip_sim.specs.State.{sim_room, sim_state};
 
 use chip_sim::SimChip;
 use ecc_page::{EccPage, erased_check, mask};
+use fault_plan::WeakList;
 use nand_iface::{Flash, PageCode, PageKind, PageRead, ProgramFailed};
 use nand_model::{BlockList, Geometry};
 use page_ops::{EraseError, WriteError, erase, marker, read, read_raw, write, write_raw};
@@ -86,7 +87,7 @@ fn erased_chip(alloc: Global, g: Geometry, pages: u32) -> Result<SimChip, AllocE
     ensures sizes { IfOk result (λ chip. (sim_state chip).geometry ≡ g) }
     ensures room { IfOk result (λ chip. pages ≤ sim_room chip) }
 {
-    let mut chip = SimChip::new(alloc, g, &BlockList::new(alloc))?;
+    let mut chip = SimChip::new(alloc, g, &BlockList::new(alloc), WeakList::new(alloc))?;
     chip.reserve(pages, 0)?;
     Ok(chip)
 }

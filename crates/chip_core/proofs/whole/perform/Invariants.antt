@@ -7,7 +7,7 @@ use Rattle.chip_core.proofs.whole.perform.Given as goal
 abbrev pub invariant-loop : goal.invariant-loop
 invariant-loop g l =
     record {
-      come : HasCome g.F.Flash.fault_model l.parts l.op (chip_state l.fn.chip) (2 - l.counter) (chip_stage l.fn.chip) (chip_state l.chip) (chip_stage l.chip);
+      come : HasCome g.F.Flash.fault_model l.parts l.op (chip_state l.fn.chip) (14 - l.counter) (chip_stage l.fn.chip) (chip_state l.chip) (chip_stage l.chip);
       note : chip_pending_note l.chip ≡ chip_pending_note l.fn.chip;
       page_room : chip_page_room l.chip ≡ chip_page_room l.fn.chip;
       bits : chip_bits l.fn.chip ≤ chip_bits l.chip;

@@ -10,24 +10,24 @@ use Rattle.nand_model.specs.declared.geometry.Geometry.{Geometry}
 use Rattle.bbt_flash.proofs.Attaching.{scanning-event, searching-event, writing-event}
 use Rattle.bbt_flash.proofs.attach.Attach.event.Goals as goal
 
-pub returns-in-Searching : goal.returns-in-Searching
-returns-in-Searching c =
+pub returns-in-Searching-clause-next : goal.returns-in-Searching-clause-next
+returns-in-Searching-clause-next c =
     let a = c.args.self.now in
     let fits = subst (StepFits a.geometry) c.in-Searching.is a.fits in
-    ap Some (c.read_of.ensures ∙ ap (λ b. name_of (ReadEvent (first_page a.geometry b))) c.block.ensures.block)
+    ap Some (c.read_of.ensures.read ∙ ap (λ b. name_of (ReadEvent (first_page a.geometry b))) c.block.ensures.block)
     ∙ sym (ap (λ s. option_map name_of (first_event (step_left a.geometry a.table s))) c.in-Searching.is
     ∙ ap (option_map name_of) (searching-event a.geometry a.table c.in-Searching.search fits))
 
-pub returns-in-Scanning : goal.returns-in-Scanning
-returns-in-Scanning c =
+pub returns-in-Scanning-clause-next : goal.returns-in-Scanning-clause-next
+returns-in-Scanning-clause-next c =
     let a = c.args.self.now in
     let fits = subst (StepFits a.geometry) c.in-Scanning.is a.fits in
-    ap Some c.read_of-in-Scanning.ensures
+    ap Some c.read_of-in-Scanning.ensures.read
     ∙ sym (ap (λ s. option_map name_of (first_event (step_left a.geometry a.table s))) c.in-Scanning.is
     ∙ ap (option_map name_of) (scanning-event a.geometry a.table c.in-Scanning.scan fits))
 
-pub returns-in-Writing : goal.returns-in-Writing
-returns-in-Writing c =
+pub returns-in-Writing-clause-next : goal.returns-in-Writing-clause-next
+returns-in-Writing-clause-next c =
     let a = c.args.self.now in
     let rewriting = c.in-Writing.rewriting in
     let sizes : update_sizes rewriting.update ≡ a.geometry = subst (StepFits a.geometry) c.in-Writing.is a.fits in

@@ -11,8 +11,8 @@ unreachable-requires c = let a = c.args.self in search-goes-on a.geometry a.tabl
 pub unreachable-requires-in-Scanning : goal.unreachable-requires-in-Scanning
 unreachable-requires-in-Scanning c = let a = c.args.self in scan-goes-on a.geometry a.table a.step a.fits _ c.in-Scanning.is c.requires
 
-pub returns-in-Writing : goal.returns-in-Writing
-returns-in-Writing c =
+pub returns-in-Writing-clause-found : goal.returns-in-Writing-clause-found
+returns-in-Writing-clause-found c =
     let a = c.args.self in
     let rewriting = c.in-Writing.rewriting in
     ap (step_left a.geometry a.table) c.in-Writing.is
@@ -21,6 +21,6 @@ returns-in-Writing c =
       table = a.table;
       origin = rewriting.origin;
       version = c.version.ensures a.table i;
-      places = c.places.ensures a.table i;
+      places = c.places.ensures.places a.table i;
       copies = c.copies.ensures a.table i;
     }))

@@ -1,7 +1,0 @@
-use Rattle.std.proofs.Common.{◌≡◌}
-use Rattle.bbt_flash.specs.Update.{update_sizes}
-use Rattle.bbt_flash.proofs.tests.has_events.Given as goal
-
--- the sizes stay
-abbrev pub invariant-loop-event : goal.invariant-loop-event
-invariant-loop-event l = update_sizes l.update ≡ l.g
