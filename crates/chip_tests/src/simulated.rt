@@ -9,6 +9,7 @@ use crate::asking::{flip_all, one_device, reply_to};
 use chip_core::{Chip, Event, Flash, Note, PageCode, attach};
 use chip_sim::SimChip;
 use ecc_page::EccPage;
+use fault_plan::WeakList;
 use nand_iface::PageKind::{Bitflips, Clean, Raw, Uncorrectable};
 use nand_model::{BlockList, Geometry};
 use std::alloc::{AllocError, Global};
@@ -22,7 +23,7 @@ fn small_chip(alloc: Global) -> Result<SimChip, Fail>
     let g = Geometry::new(2048, 64, 64, 8, 4, 0, 0)?;
     let mut bad = BlockList::new(alloc);
     bad.push(5)?;
-    Ok(SimChip::new(alloc, g, &bad)?)
+    Ok(SimChip::new(alloc, g, &bad, WeakList::new(alloc))?)
 }
 
 #[test]

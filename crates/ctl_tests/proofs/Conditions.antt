@@ -10,8 +10,10 @@ use Rattle.command_model.specs.Runnable.{Fits}
 use Rattle.command_model.specs.Command.{command_blocks}
 use Rattle.command_model.specs.Boot.{Boot, AreAscending}
 use Rattle.run_model.specs.Course.{sizes_of}
-use Rattle.run_model.specs.Start.{boot_cost, CanRunBoot, CanStart, IsPlain, IsOnChip, IsOfDevice, IsOnFlash}
-use Rattle.ctl_tests.specs.Small.{IsSmall, IsSmallFlip, ArePairOfSmall, erasing, asking, marking, dumping, boot_of, first_block, reading_sessions, small_parts, small_sessions, small_sizes}
+use Rattle.run_model.specs.Start.{boot_cost, CanRunBoot, IsOnChip, IsOfDevice, IsOnFlash}
+use Rattle.ctl_core.specs.Start.{CanStart}
+use Rattle.fault_plan.specs.BootFaults.{BootFaults}
+use Rattle.ctl_tests.specs.Small.{IsSmall, IsSmallFlip, ArePairOfSmall, no_faults, erasing, asking, marking, dumping, boot_of, first_block, reading_sessions, small_parts, small_sessions, small_sizes}
 
 all_one : {A : Type 0} (P : A → Type 0) (x : A) → P x → All P (x ∷ [])
 all_one P x p zero d h = p
@@ -91,36 +93,34 @@ module _ {W : Type 0} where
         (x.0, x.1, subst (λ g. FitsBits g flip.page flip.bits) (sym x.2) (record { page_there = f.page; bits_there = f.bits_there }))
 
     -- a boot of these sessions can be started
-    can_start : (flips : List Flip) (sessions : List (ℕ × List Command)) → All IsSmallFlip flips → length flips ≤ 65536 → AllAre (IsOfDevice small_parts) sessions
-        → CanRunBoot (boot_of flips sessions) pair → AreAscending sessions → boot_cost (boot_of flips sessions) pair ≤ 16777216 → CanStart (boot_of flips sessions) pair
-    can_start flips sessions small few devices runnable ascending cheap = record {
+    can_start : (faults : BootFaults) (sessions : List (ℕ × List Command)) → All IsSmallFlip faults.flips → length faults.flips ≤ 65536 → AllAre (IsOfDevice small_parts) sessions
+        → CanRunBoot (boot_of faults sessions) pair → AreAscending sessions → boot_cost (boot_of faults sessions) pair ≤ 16777216 → CanStart (boot_of faults sessions) pair
+    can_start faults sessions small few devices runnable ascending cheap = record {
       few = omega arith;
-      plain = all_two IsPlain (sized s) (sized t) refl refl;
       parts = all_two (IsOnChip pair) (first_block 0) (first_block 1) (sized s, refl, (omega arith, omega arith)) (sized t, refl, (omega arith, omega arith));
-      flips = λ k d h. on_flash (get_or flips k d) (small k d h);
+      flips = λ k d h. on_flash (get_or faults.flips k d) (small k d h);
       few_flips = record { count = few; bits = λ k d h. (small k d h).few };
-      uncut = refl;
       devices = devices;
       runnable = runnable;
       ascending = ascending;
       cheap = cheap;
     }
 
-    small_can : CanStart (boot_of [] small_sessions) pair
-    small_can = can_start [] small_sessions (λ k d h. absurd (omega arith)) (omega arith)
+    small_can : CanStart (boot_of no_faults small_sessions) pair
+    small_can = can_start no_faults small_sessions (λ k d h. absurd (omega arith)) (omega arith)
         (small_all (IsOfDevice small_parts) (λ dev h. device dev h (erasing dev) refl refl) (λ dev h. device dev h (asking dev) refl refl)
         (λ dev h. device dev h (marking dev) refl refl))
-        (small_all (λ c. Fits (sizes_of (boot_of [] small_sessions) pair c) c) (λ dev h. erases dev) (λ dev h. asks dev) (λ dev h. marks dev)) ascending (omega arith)
+        (small_all (λ c. Fits (sizes_of (boot_of no_faults small_sessions) pair c) c) (λ dev h. erases dev) (λ dev h. asks dev) (λ dev h. marks dev)) ascending (omega arith)
       where
         device : (dev : ℕ) → dev < 2 → (command : Command) → command_device command ≡ dev → command_blocks command ≡ 1 → IsOfDevice small_parts command
         device zero h command e n = (first_block 0, ap (part_of small_parts) e, n)
         device (suc zero) h command e n = (first_block 1, ap (part_of small_parts) e, n)
         device (suc (suc dev)) h command e n = absurd (omega arith)
 
-    reading_can : (flips : List Flip) → All IsSmallFlip flips → length flips ≤ 65536 → CanStart (boot_of flips reading_sessions) pair
-    reading_can flips small few = can_start flips reading_sessions small few
+    reading_can : (faults : BootFaults) → All IsSmallFlip faults.flips → length faults.flips ≤ 65536 → CanStart (boot_of faults reading_sessions) pair
+    reading_can faults small few = can_start faults reading_sessions small few
         (reading_all (IsOfDevice small_parts) (first_block 0, refl, refl))
-        (reading_all (λ c. Fits (sizes_of (boot_of flips reading_sessions) pair c) c) dumps) alone (omega arith)
+        (reading_all (λ c. Fits (sizes_of (boot_of faults reading_sessions) pair c) c) dumps) alone (omega arith)
 
 -- two chips of these sizes are such
 pub on_pair : {W : Type 0} (starts : List (ChipState W)) (boot : Boot) → ArePairOfSmall starts → ((s t : ChipState W) → CanStart boot (pair s t)) → CanStart boot starts
@@ -129,9 +129,9 @@ on_pair (s ∷ []) boot h can = absurd h
 on_pair (s ∷ t ∷ []) boot h can = subst₂ (λ x y. CanStart boot (x ∷ y ∷ [])) (same_sized s h.0) (same_sized t h.1) (can s t)
 on_pair (s ∷ t ∷ u ∷ rest) boot h can = absurd h
 
-pub small_starts : {W : Type 0} (starts : List (ChipState W)) → ArePairOfSmall starts → CanStart (boot_of [] small_sessions) starts
-small_starts starts h = on_pair starts (boot_of [] small_sessions) h (λ s t. small_can s t)
+pub small_starts : {W : Type 0} (starts : List (ChipState W)) → ArePairOfSmall starts → CanStart (boot_of no_faults small_sessions) starts
+small_starts starts h = on_pair starts (boot_of no_faults small_sessions) h (λ s t. small_can s t)
 
-pub reading_starts : {W : Type 0} (starts : List (ChipState W)) (flips : List Flip) → ArePairOfSmall starts → All IsSmallFlip flips → length flips ≤ 65536
-    → CanStart (boot_of flips reading_sessions) starts
-reading_starts starts flips h small few = on_pair starts (boot_of flips reading_sessions) h (λ s t. reading_can s t flips small few)
+pub reading_starts : {W : Type 0} (starts : List (ChipState W)) (faults : BootFaults) → ArePairOfSmall starts → All IsSmallFlip faults.flips → length faults.flips ≤ 65536
+    → CanStart (boot_of faults reading_sessions) starts
+reading_starts starts faults h small few = on_pair starts (boot_of faults reading_sessions) h (λ s t. reading_can s t faults small few)

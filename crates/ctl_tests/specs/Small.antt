@@ -1,6 +1,6 @@
 -- Boots of two chips with one device each: two sessions that erase, ask and mark, and one that
 -- dumps a page.
-use Rattle.std.specs.Prelude.{◌≡◌, ◌<◌, ℕ, true, false, List, [], ◌∷◌, All, refl, ◌≤◌, length}
+use Rattle.std.specs.Prelude.{◌≡◌, ◌<◌, ℕ, true, false, List, [], ◌∷◌, All, refl, ◌≤◌, length, None}
 use Rattle.nand_model.specs.Chip.{ChipState}
 use Rattle.nand_model.specs.Partitions.{Partitions}
 use Rattle.nand_model.specs.declared.geometry.Geometry.{Geometry}
@@ -10,6 +10,7 @@ use Rattle.nand_model.specs.declared.words.Command.TheVariants.{FlashErase, IsBa
 use Rattle.nand_model.specs.declared.words.Flip.{Flip}
 use Rattle.nand_model.specs.declared.words.Part.{Part}
 use Rattle.command_model.specs.Boot.{Boot}
+use Rattle.fault_plan.specs.BootFaults.{BootFaults}
 use Rattle.tool_steps.specs.Boot.{boot_with}
 
 -- flash_erase -N of a device of one block
@@ -64,6 +65,10 @@ pub record IsSmallFlip (flip : Flip) : Type 0 where
   pub bits_there : All (λ bit. bit < 16896) flip.bits
   pub few : length flip.bits ≤ 32768
 
--- a boot of these flips and sessions
-abbrev pub boot_of : List Flip → List (ℕ × List Command) → Boot
-boot_of flips sessions = boot_with small_parts flips sessions
+-- no fault
+abbrev pub no_faults : BootFaults
+no_faults = record { flips = []; cut = None }
+
+-- a boot of these faults and sessions
+abbrev pub boot_of : BootFaults → List (ℕ × List Command) → Boot
+boot_of faults sessions = boot_with small_parts faults sessions

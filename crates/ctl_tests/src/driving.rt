@@ -1,15 +1,14 @@
 // Turns of a controller, one after the other.
-ghost use Rattle.std.specs.Prelude.{◌≡◌, None, OnOk};
-ghost use Rattle.run_model.specs.Course.{unattached};
-ghost use Rattle.ctl_core.specs.Past.{course_of};
+ghost use Rattle.std.specs.Prelude.{◌≡◌, true, OnOk};
+ghost use Rattle.ctl_core.specs.Past.{course_of, takes_turns};
 
 use ctl_core::{Core, Turn};
 use nand_iface::{Flash, PageCode};
 use std::alloc::AllocError;
 
-/// Attaches all chips.
+/// Attaches all chips, unless the power fails.
 pub fn attach_all<F: Flash, C: PageCode>(core: &mut Core<F, C>) -> Result<(), AllocError>
-    ensures { OnOk result (unattached (course_of F.fault_model F.state core.new) ≡ None) }
+    ensures { OnOk result (takes_turns (course_of F.fault_model F.state core.new) ≡ true) }
 {
     loop {
         match core.attach_turn()? {
@@ -24,8 +23,8 @@ pub fn take_turn<F: Flash, C: PageCode>(
     core: &mut Core<F, C>,
     session: u32,
 ) -> Result<Turn, AllocError>
-    requires { unattached (course_of F.fault_model F.state core.old) ≡ None }
-    ensures { unattached (course_of F.fault_model F.state core.new) ≡ None }
+    requires { takes_turns (course_of F.fault_model F.state core.old) ≡ true }
+    ensures { takes_turns (course_of F.fault_model F.state core.new) ≡ true }
 {
     if core.has(session) {
         core.turn(session)

@@ -48,8 +48,8 @@ fn flip_of(alloc: Global, one: OneFlip) -> Result<Flip, Fail>
 
 // The flips of these bits, in this order.
 fn faults_of(alloc: Global, flips: &[OneFlip]) -> Result<Faults, Fail>
-    ensures small { IfOk result (λ faults. All IsSmallFlip faults) }
-    ensures count { IfOk result (λ faults. length faults ≡ length flips.now) }
+    ensures small { IfOk result (λ faults. All IsSmallFlip faults.flips) }
+    ensures count { IfOk result (λ faults. length faults.flips ≡ length flips.now) }
 {
     let mut faults = Faults::new(alloc);
     for one in flips {

@@ -1,7 +1,6 @@
 // Every interleaving of the first turns of two sessions, beside the rules.
-ghost use Rattle.std.specs.Prelude.{◌≡◌, None};
-ghost use Rattle.run_model.specs.Course.{unattached};
-ghost use Rattle.ctl_core.specs.Past.{course_of};
+ghost use Rattle.std.specs.Prelude.{◌≡◌, true};
+ghost use Rattle.ctl_core.specs.Past.{course_of, takes_turns};
 
 use crate::driving::{attach_all, take_turn};
 use crate::plain::{Side, Told};
@@ -83,7 +82,7 @@ fn play<F: Flash, C: PageCode>(
     order: u32,
     want: &mut Vec<Told>,
 ) -> Result<bool, AllocError>
-    requires { unattached (course_of F.fault_model F.state core.old) ≡ None }
+    requires { takes_turns (course_of F.fault_model F.state core.old) ≡ true }
 {
     let mut first = Side::START;
     let mut second = Side::START;

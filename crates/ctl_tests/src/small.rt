@@ -2,12 +2,12 @@
 ghost use Rattle.std.specs.Prelude.{◌≡◌, ◌<◌, ◌≤◌, ◌++◌, ◌∷◌, [], All, length, map, IfOk, OnOk};
 ghost use Rattle.chip_sim.specs.State.{sim_state};
 ghost use Rattle.tool_steps.specs.Boot.{with_command};
-ghost use Rattle.ctl_tests.specs.Small.{IsSmall, IsSmallFlip, ArePairOfSmall, asking, boot_of, dumping, erasing, marking, reading_sessions, small_parts, small_sessions, small_sizes};
+ghost use Rattle.ctl_tests.specs.Small.{IsSmall, IsSmallFlip, ArePairOfSmall, asking, boot_of, dumping, erasing, marking, no_faults, reading_sessions, small_parts, small_sessions, small_sizes};
 
 use chip_sim::SimChip;
 use ctl_core::{ControllerBoot, Core, FlashList};
 use ecc_page::EccPage;
-use fault_plan::Faults;
+use fault_plan::{Faults, WeakList};
 use mtd_part::Parts;
 use nand_model::{BadMode, BlockList, Command, Geometry, Part};
 use std::alloc::{AllocError, Global};
@@ -22,11 +22,11 @@ pub fn small_core(alloc: Global) -> Result<Core<SimChip, EccPage>, Fail> {
     Ok(Core::start(alloc, boot, flashes, EccPage)?)
 }
 
-/// A controller of the same chips and devices with these flips. Session 0 dumps the first page of
+/// A controller of the same chips and devices with these faults. Session 0 dumps the first page of
 /// device 0 three times, by its cells alone.
 pub fn reading_core(alloc: Global, faults: Faults) -> Result<Core<SimChip, EccPage>, Fail>
-    requires small { All IsSmallFlip faults }
-    requires few { length faults ≤ 65536 }
+    requires small { All IsSmallFlip faults.flips }
+    requires few { length faults.flips ≤ 65536 }
 {
     let boot = reading_boot(alloc, faults)?;
     let flashes = small_flashes(alloc)?;
@@ -52,7 +52,7 @@ fn sizes() -> Geometry
 fn small_chip(alloc: Global) -> Result<SimChip, Fail>
     ensures { IfOk result (λ chip. IsSmall (sim_state chip)) }
 {
-    Ok(SimChip::new(alloc, sizes(), &BlockList::new(alloc))?)
+    Ok(SimChip::new(alloc, sizes(), &BlockList::new(alloc), WeakList::new(alloc))?)
 }
 
 // Two such chips.
@@ -92,7 +92,7 @@ fn small_parts(alloc: Global) -> Result<Parts, Fail>
 
 // The two sessions that erase, ask and mark.
 fn small_boot(alloc: Global) -> Result<ControllerBoot, Fail>
-    ensures { IfOk result (λ boot. boot ≡ boot_of [] small_sessions) }
+    ensures { IfOk result (λ boot. boot ≡ boot_of no_faults small_sessions) }
 {
     let mut boot = ControllerBoot::new(alloc, small_parts(alloc)?, Faults::new(alloc));
     boot.add_session(0)?;

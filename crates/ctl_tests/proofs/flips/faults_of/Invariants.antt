@@ -4,4 +4,4 @@ use Rattle.ctl_tests.specs.Small.{IsSmallFlip}
 use Rattle.ctl_tests.proofs.flips.faults_of.Given as goal
 
 abbrev pub invariant-loop-one : goal.invariant-loop-one
-invariant-loop-one l = record { small : All IsSmallFlip l.faults; count : length l.faults ≡ l.one-index }
+invariant-loop-one l = record { small : All IsSmallFlip l.faults.flips; count : length l.faults.flips ≡ l.one-index }

@@ -1,10 +1,9 @@
-use Rattle.std.proofs.Common.{◌≡◌, None}
+use Rattle.std.proofs.Common.{◌≡◌, true}
 use Rattle.nand_model.specs.Chip.{sim_faults}
-use Rattle.run_model.specs.Course.{unattached}
 use Rattle.chip_sim.specs.State.{sim_state}
-use Rattle.ctl_core.specs.Past.{course_of}
+use Rattle.ctl_core.specs.Past.{course_of, takes_turns}
 use Rattle.ctl_tests.proofs.flips.shows.Given as goal
 
--- all chips are attached
+-- sessions may take turns
 abbrev pub invariant-loop : goal.invariant-loop
-invariant-loop l = unattached (course_of sim_faults sim_state l.core) ≡ None
+invariant-loop l = takes_turns (course_of sim_faults sim_state l.core) ≡ true

@@ -1,8 +1,7 @@
-use Rattle.std.proofs.Common.{◌≡◌, None}
-use Rattle.run_model.specs.Course.{unattached}
-use Rattle.ctl_core.specs.Past.{course_of}
+use Rattle.std.proofs.Common.{◌≡◌, true}
+use Rattle.ctl_core.specs.Past.{course_of, takes_turns}
 use Rattle.ctl_tests.proofs.interleavings.play.Given as goal
 
--- all chips are attached
+-- sessions may take turns
 abbrev pub invariant-loop-n : goal.invariant-loop-n
-invariant-loop-n g l = unattached (course_of g.F.Flash.fault_model g.F.Flash.state l.core) ≡ None
+invariant-loop-n g l = takes_turns (course_of g.F.Flash.fault_model g.F.Flash.state l.core) ≡ true

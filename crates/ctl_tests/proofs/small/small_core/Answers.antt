@@ -1,7 +1,7 @@
 use Rattle.std.proofs.Common.{map, sym, subst}
 use Rattle.command_model.specs.Boot.{Boot}
 use Rattle.chip_sim.specs.State.{sim_state}
-use Rattle.run_model.specs.Start.{CanStart}
+use Rattle.ctl_core.specs.Start.{CanStart}
 use Rattle.ctl_tests.proofs.Conditions.{small_starts}
 use Rattle.ctl_tests.proofs.small.small_core.Goals as goal
 
