@@ -51,11 +51,11 @@ module _ {F C : Type 0} {flash : Ghosts F} (past : Past F) (board : Board F C fl
       → Mirrors sizes commands notes s run → IsWaiting s
       → slice_get later (length board.notes.notes) ≡ Some (Answered n reply) → Mirrors sizes commands later now_session (with_reply sizes reply run))
       → Follows past.boot (starts_of flash.state past) (next_course flash.fault_model flash.state past session)
-      (map slot_state (set board.slots.items k now_slot)) board.events now_notes (set board.sessions.items place now_session)
+      (map slot_state (set board.slots.items k now_slot)) board.events board.dark now_notes (set board.sessions.items place now_session)
   stands_answer finished now_slot now_session now_notes held over is_slot is_notes replied_so =
-      let after = follows_answer flash.fault_model past.boot turn.on_course.conditions.uncut (starts_of flash.state past)
-      (course_of flash.fault_model flash.state past) (slot_states board) board.events board.notes.notes board.sessions.items
-      turn.on_course.stands turn.on_course.conditions.ascending (holds past board turn.on_course) place k s now_session
+      let after = follows_answer flash.fault_model past.boot (starts_of flash.state past)
+      (course_of flash.fault_model flash.state past) (slot_states board) board.events board.dark board.notes.notes board.sessions.items
+      turn.on_course.stands turn.lit turn.on_course.conditions.ascending (holds past board turn.on_course) place k s now_session
       (set board.sessions.items place now_session) (slot_state slot) finished turn.attached at
       (ap (λ n. first_held_by n (slot_states board)) number ∙ held) (at_mapped slot_state board.slots.items k slot slot_at) over
       (set_changes board.sessions.items place now_session (slice_get_within board.sessions.items place s at))
@@ -64,11 +64,11 @@ module _ {F C : Type 0} {flash : Ghosts F} (past : Past F) (board : Board F C fl
       (get_last board.notes.notes (Answered (number_of s) finished.reply))) in
       follows_as past.boot (starts_of flash.state past) (next_course flash.fault_model flash.state past session)
       (change_at (slot_states board) k (after_answer finished.known)) (map slot_state (set board.slots.items k now_slot)) board.events board.events
-      (board.notes.notes ++ Answered session finished.reply ∷ []) now_notes (set board.sessions.items place now_session)
+      board.dark board.dark (board.notes.notes ++ Answered session finished.reply ∷ []) now_notes (set board.sessions.items place now_session)
       (set board.sessions.items place now_session)
-      (mapped_set slot_state (after_answer finished.known) board.slots.items k slot now_slot slot_at is_slot) refl is_notes refl
+      (mapped_set slot_state (after_answer finished.known) board.slots.items k slot now_slot slot_at is_slot) refl refl is_notes refl
       (subst (λ n. Follows past.boot (starts_of flash.state past) (next_course flash.fault_model flash.state past n)
-      (change_at (slot_states board) k (after_answer finished.known)) board.events
+      (change_at (slot_states board) k (after_answer finished.known)) board.events board.dark
       (board.notes.notes ++ Answered n finished.reply ∷ []) (set board.sessions.items place now_session)) number after)
 
   module _ (command : Command) (first : FirstLeft past board session place turn s at number command) (same_chip : first.is_ready.part.chip ≡ k) where
@@ -146,12 +146,12 @@ module _ {F C : Type 0} {flash : Ghosts F} (past : Past F) (board : Board F C fl
         → first_held_by session (slot_states board) ≡ None
         → ((sizes : Command → Geometry) (run : SessionRun) → Mirrors sizes commands board.notes.notes s run
         → First (λ c. sizes c ≡ (slot_state slot).state.geometry) run.commands → Mirrors sizes commands board.notes.notes now_session run)
-        → Follows past.boot (starts_of flash.state past) (course_of flash.fault_model flash.state past) (slot_states board) board.events board.notes.notes
+        → Follows past.boot (starts_of flash.state past) (course_of flash.fault_model flash.state past) (slot_states board) board.events board.dark board.notes.notes
         (set board.sessions.items place now_session)
     stands_resumed now_session commands given free resumed =
-        follows_resumed flash.fault_model past.boot turn.on_course.conditions.uncut (starts_of flash.state past)
-        (course_of flash.fault_model flash.state past) (slot_states board) board.events board.notes.notes board.sessions.items
-        turn.on_course.stands turn.on_course.conditions.ascending (holds past board turn.on_course) place s now_session
+        follows_resumed flash.fault_model past.boot (starts_of flash.state past)
+        (course_of flash.fault_model flash.state past) (slot_states board) board.events board.dark board.notes.notes board.sessions.items
+        turn.on_course.stands turn.lit turn.on_course.conditions.ascending (holds past board turn.on_course) place s now_session
         (set board.sessions.items place now_session) at
         (ap (λ n. first_held_by n (slot_states board)) number ∙ free)
         (set_changes board.sessions.items place now_session (slice_get_within board.sessions.items place s at))
@@ -165,11 +165,11 @@ module _ {F C : Type 0} {flash : Ghosts F} (past : Past F) (board : Board F C fl
         → ((sizes : Command → Geometry) (run : SessionRun) → Mirrors sizes commands board.notes.notes s run
         → First (λ c. sizes c ≡ (slot_state slot).state.geometry) run.commands → Mirrors sizes commands board.notes.notes now_session run)
         → Follows past.boot (starts_of flash.state past) (next_course flash.fault_model flash.state past session)
-        (map slot_state (set board.slots.items k now_slot)) board.events now_notes (set board.sessions.items place now_session)
+        (map slot_state (set board.slots.items k now_slot)) board.events board.dark now_notes (set board.sessions.items place now_session)
     stands_begun now_slot now_session now_notes commands given free no_holder is_slot is_notes waits resumed =
-        let after = follows_begin flash.fault_model past.boot turn.on_course.conditions.uncut (starts_of flash.state past)
-        (course_of flash.fault_model flash.state past) (slot_states board) board.events board.notes.notes board.sessions.items
-        turn.on_course.stands turn.on_course.conditions.ascending (holds past board turn.on_course) place k s now_session
+        let after = follows_begin flash.fault_model past.boot (starts_of flash.state past)
+        (course_of flash.fault_model flash.state past) (slot_states board) board.events board.dark board.notes.notes board.sessions.items
+        turn.on_course.stands turn.lit turn.on_course.conditions.ascending (holds past board turn.on_course) place k s now_session
         (set board.sessions.items place now_session) (slot_state slot) first.op turn.attached at
         (ap (λ n. first_held_by n (slot_states board)) number ∙ free) (at_mapped slot_state board.slots.items k slot slot_at) no_holder
         (set_changes board.sessions.items place now_session (slice_get_within board.sessions.items place s at)) waits
@@ -178,9 +178,9 @@ module _ {F C : Type 0} {flash : Ghosts F} (past : Past F) (board : Board F C fl
         (resumed_so now_session commands given resumed) in
         follows_as past.boot (starts_of flash.state past) (next_course flash.fault_model flash.state past session)
         (change_at (slot_states board) k (after_begin past.boot.partitions session first.op)) (map slot_state (set board.slots.items k now_slot)) board.events
-        board.events
+        board.events board.dark board.dark
         (board.notes.notes ++ Began session first.op ∷ []) now_notes (set board.sessions.items place now_session) (set board.sessions.items place now_session)
-        (mapped_set slot_state (after_begin past.boot.partitions session first.op) board.slots.items k slot now_slot slot_at is_slot) refl is_notes refl
+        (mapped_set slot_state (after_begin past.boot.partitions session first.op) board.slots.items k slot now_slot slot_at is_slot) refl refl is_notes refl
         (subst (λ n. Follows past.boot (starts_of flash.state past) (next_course flash.fault_model flash.state past n)
-        (change_at (slot_states board) k (after_begin past.boot.partitions n first.op)) board.events
+        (change_at (slot_states board) k (after_begin past.boot.partitions n first.op)) board.events board.dark
         (board.notes.notes ++ Began n first.op ∷ []) (set board.sessions.items place now_session)) number after)

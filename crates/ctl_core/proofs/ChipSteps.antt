@@ -1,16 +1,19 @@
 -- What its controller keeps of a chip, after each step of the chip's run.
 use Rattle.std.proofs.Common.{◌≡◌, ℕ, Bool, true, false, ◌&&◌, List, [], ◌∷◌, ◌++◌, Option, Some, None, refl, ap, ◌∙◌}
-use Rattle.nand_model.specs.Chip.{FaultModel, PageEvent, Complete, happens}
+use Rattle.nand_model.specs.Chip.{FaultModel, PageEvent, DoneBits, Complete, PowerCut, done_bits, happens}
+use Rattle.nand_model.specs.Sizes.{raw_len}
+use Rattle.nand_model.specs.declared.tear.Tear.{Tear}
 use Rattle.nand_model.specs.Path.{Answer, Path, Over, Then, answer_to, after_answers, is_failure}
 use Rattle.chip_paths.specs.Attach.{Attaching, attach_path}
 use Rattle.nand_model.specs.Partitions.{Partitions}
 use Rattle.chip_paths.specs.Operation.{Known, Finished, operation_path}
-use Rattle.chip_paths.specs.ChipRun.{progress_of, ChipRun, Pending, known_once_over, next_event_by, next_chip_event, advanced, answered_by, with_pending, with_finished, attach_notes, attach_notes_of, attach_notes_by, notes_of_advance, torn_notes, finished_by}
+use Rattle.chip_paths.specs.ChipRun.{progress_of, ChipRun, Pending, known_once_over, next_event_by, next_chip_event, advanced, answered_by, torn_at, torn_by, with_pending, with_finished, attach_notes, attach_notes_of, attach_notes_by, notes_of_advance, torn_notes, finished_by}
 use Rattle.nand_model.specs.Quiet.{is_quiet, fairness_of}
 use Rattle.nand_model.specs.declared.words.Op.{Op}
 use Rattle.chip_paths.specs.Stage.{Attaches, Works, one_further, stage_by, stage_of, stage_event, stage_begun, path_after, attach_stage, stage_after, pending_note_after, attach_end, failure_told, fairness_where_failed, finished_in}
 use Rattle.run_laws.proofs.Traces.{geometry_happens}
-use Rattle.ctl_core.specs.SlotState.{slot_as, holder_by, after_event, after_begin, after_answer, with_note_written, failure_notes, pending_notes}
+use Rattle.chip_core.specs.Torn.{stage_torn}
+use Rattle.ctl_core.specs.SlotState.{slot_as, holder_by, after_event, after_tear, after_begin, after_answer, with_note_written, failure_notes, pending_notes}
 
 -- one more answer takes one more step along a path
 pub after_one_more : {A : Type 0} (path : Path A) (answers : List Answer) (answer : Answer)
@@ -128,6 +131,40 @@ module _ {W : Type 0} (partitions : Partitions) where
       stage = advanced_stage c e c.known c.pending j;
       pending_note = None;
       holder = advanced_holder c e c.known c.pending j;
+    }
+
+    -- a torn event, by what is known of the chip and pending on it
+    abbrev torn_with : ChipRun W → PageEvent → DoneBits → Option Known → Option Pending → ChipRun W
+    torn_with c e done k p = torn_by (record c { known = k; pending = p }) (happens model c.chip (PowerCut e done)) k
+
+    torn_stage : (c : ChipRun W) (e : PageEvent) (done : DoneBits) (k : Option Known) (p : Option Pending)
+        → stage_of partitions (torn_with c e done k p) ≡ stage_torn (is_quiet c.chip.geometry c.chip.pages) (stage_by partitions c k p)
+    torn_stage c e done None p =
+        ap (λ g. Attaches (after_answers c.attach_answers (attach_path g)) (c.quiet && is_quiet c.chip.geometry c.chip.pages))
+        (geometry_happens model c.chip (PowerCut e done))
+    torn_stage c e done (Some known) None = refl
+    torn_stage c e done (Some known) (Some pending) =
+        ap (λ g. Works known (progress_of pending.answers) (after_answers pending.answers (operation_path g partitions known pending.op)))
+        (geometry_happens model c.chip (PowerCut e done))
+
+    torn_holder : (c : ChipRun W) (e : PageEvent) (done : DoneBits) (k : Option Known) (p : Option Pending)
+        → holder_by (torn_with c e done k p).known (torn_with c e done k p).pending ≡ holder_by k p
+    torn_holder c e done None p = refl
+    torn_holder c e done (Some known) p = refl
+
+    torn_state : (c : ChipRun W) (e : PageEvent) (done : DoneBits) (k : Option Known) (p : Option Pending)
+        → (torn_with c e done k p).chip ≡ happens model c.chip (PowerCut e done)
+    torn_state c e done None p = refl
+    torn_state c e done (Some known) p = refl
+
+    -- a torn event
+    pub slot_torn : (c : ChipRun W) (e : PageEvent) (tear : Tear)
+        → slot_as partitions (torn_at model c e (done_bits (raw_len c.chip.geometry) tear)) ≡ after_tear model e tear (slot_as partitions c)
+    slot_torn c e tear = λ j. record {
+      state = torn_state c e (done_bits (raw_len c.chip.geometry) tear) c.known c.pending j;
+      stage = torn_stage c e (done_bits (raw_len c.chip.geometry) tear) c.known c.pending j;
+      pending_note = None;
+      holder = torn_holder c e (done_bits (raw_len c.chip.geometry) tear) c.known c.pending j;
     }
 
     -- the note of a failed event

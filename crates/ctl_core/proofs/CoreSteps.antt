@@ -1,5 +1,5 @@
 -- A controller stays on its course.
-use Rattle.std.proofs.Common.{◌≡◌, ◌+◌, arith, ℕ, true, false, not, List, [], ◌∷◌, ◌++◌, Option, Some, None, refl, ap, sym, ◌∙◌, subst}
+use Rattle.std.proofs.Common.{◌≡◌, ◌+◌, arith, ℕ, true, false, not, List, [], ◌∷◌, ◌++◌, Option, Some, None, refl, ap, sym, ◌∙◌, subst, subst₂}
 use Rattle.std.specs.Prelude.{slice_get, option_map, position, is_none, is_some, if◌then◌else◌, ◌==◌}
 use Rattle.std.proofs.lemmas.Bool.{eqb-true}
 use Rattle.nand_iface.specs.declared.flash.Flash.{Ghosts}
@@ -9,17 +9,19 @@ use Rattle.nand_model.specs.declared.words.Flip.{Flip}
 use Rattle.nand_model.specs.Chip.{PageEvent}
 use Rattle.chip_paths.specs.Operation.{Known}
 use Rattle.chip_paths.specs.ChipRun.{ChipRun, Pending, next_chip_event}
-use Rattle.run_model.specs.Course.{Course, attach_step, attach_first, chip_step, event_or_answer, with_answer, course_after, is_idle, unattached}
+use Rattle.nand_model.specs.declared.words.CutAt.{CutAt}
+use Rattle.run_model.specs.Course.{Course, tear_at, attach_step, attach_first, chip_step, event_or_answer, with_answer, course_after, is_idle, unattached}
 use Rattle.command_model.specs.Boot.{change_at}
 use Rattle.run_laws.specs.Turns.{busy_turns}
 use Rattle.run_laws.proofs.AttachTurns.{attach_is_step}
 use Rattle.run_laws.proofs.Places.{position_is}
 use Rattle.session_steps.specs.declared.session.Session.{Session}
 use Rattle.session_steps.specs.Standing.{number_of}
-use Rattle.chip_paths.specs.Stage.{stage_event, is_attached, failure_told}
+use Rattle.chip_paths.specs.Stage.{stage_event, is_attached}
 use Rattle.ctl_core.specs.declared.board.Board.{Board}
-use Rattle.ctl_core.specs.SlotState.{SlotState, first_attaching, after_event, with_note_written, failure_notes, pending_notes}
+use Rattle.ctl_core.specs.SlotState.{SlotState, first_attaching, slot_after, notes_after}
 use Rattle.ctl_core.specs.Past.{Past, with_attach, with_turn, starts_of, sizes_in, course_of, next_course}
+use Rattle.ctl_core.specs.Answer.{attach_answer, dark_if, did_if_some}
 use Rattle.ctl_core.specs.Start.{HasSession}
 use Rattle.ctl_core.specs.Board.{slot_state, slot_states, StandsAt, IsOnCourse, DidEvent}
 use Rattle.ctl_core.specs.Flips.{slot_flips_before}
@@ -47,8 +49,8 @@ module _ {F C : Type 0} {flash : Ghosts F} (past : Past F) (board : Board F C fl
     attach_events = on.attach_events;
     all_busy = on.all_busy;
     stands = follows_as past.boot (starts_of flash.state past) (course_of flash.fault_model flash.state past) (slot_states board) (slot_states board)
-        board.events board.events
-        board.notes.notes notes.notes board.sessions.items board.sessions.items refl refl same refl on.stands;
+        board.events board.events board.dark board.dark
+        board.notes.notes notes.notes board.sessions.items board.sessions.items refl refl refl same refl on.stands;
   }
 
   -- with other lists of the same turns and notes
@@ -67,18 +69,29 @@ module _ {F C : Type 0} {flash : Ghosts F} (past : Past F) (board : Board F C fl
     stands = stands;
   }
 
+  pub dark_course : board.dark ≡ true → (course_of flash.fault_model flash.state past).dark ≡ true
+  dark_course dark = sym on.stands.keeps.of_dark ∙ dark
+
+  pub lit_course : board.dark ≡ false → (course_of flash.fault_model flash.state past).dark ≡ false
+  lit_course lit = sym on.stands.keeps.of_dark ∙ lit
+
+  -- the answer of an attach turn, where the power has not failed
+  pub attach_answer_is : (lit : board.dark ≡ false) (first : Option ℕ) → unattached (course_of flash.fault_model flash.state past) ≡ first
+      → did_if_some first ≡ attach_answer (course_of flash.fault_model flash.state past)
+  attach_answer_is lit first is = sym (λ d. dark_if (lit_course lit d) (did_if_some (is d)))
+
   -- the first chip that is not attached has an event
-  pub attach_there : (k : ℕ) → first_attaching (slot_states board) ≡ Some k
+  pub attach_there : (lit : board.dark ≡ false) (k : ℕ) → first_attaching (slot_states board) ≡ Some k
       → (x : SlotState flash.FaultState) × (e : PageEvent) × (slice_get (slot_states board) k ≡ Some x) × (stage_event x.stage ≡ Some e)
-  attach_there k h =
+  attach_there lit k h =
       let x = position_is (λ (y : SlotState flash.FaultState). not (is_attached y.stage)) (slot_states board) k h in
-      let c = chip_there flash.fault_model past.boot on.conditions.uncut (starts_of flash.state past) (course_of flash.fault_model flash.state past)
-      (slot_states board) board.events board.notes.notes board.sessions.items on.stands k x.0 x.1 in
+      let c = chip_there flash.fault_model past.boot (starts_of flash.state past) (course_of flash.fault_model flash.state past)
+      (slot_states board) board.events board.dark board.notes.notes board.sessions.items on.stands k x.0 x.1 in
       let first : unattached (course_of flash.fault_model flash.state past) ≡ Some k = attached_there past board on ∙ h in
       let unknown = position_is (λ (d : ChipRun flash.FaultState). is_none d.known) (course_of flash.fault_model flash.state past).chips k first in
       let same : unknown.0 ≡ c.0 = cc (unknown.1, c.1) in
       let step = (attach_is_step flash.fault_model past.boot (starts_of flash.state past) (sizes_in flash.state past) past.attaches past.turns).event_else k
-      on.stands.keeps.lit first in
+      (lit_course lit) first in
       let is : stage_event x.0.stage ≡ next_chip_event past.boot.partitions c.0 = sym (next_is past.boot.partitions c.0
       ∙ ap (λ (y : SlotState flash.FaultState). stage_event y.stage) c.2) in
       let e = by_event c.0 c.1 first (ap (λ (d : ChipRun flash.FaultState). is_none d.known) (sym same) ∙ unknown.2) step
@@ -101,7 +114,7 @@ module _ {F C : Type 0} {flash : Ghosts F} (past : Past F) (board : Board F C fl
           let stays : attach_step flash.fault_model past.boot (sizes_in flash.state past) (course_of flash.fault_model flash.state past)
           ≡ course_of flash.fault_model flash.state past =
           ap (λ b. if b then course_of flash.fault_model flash.state past else attach_first flash.fault_model past.boot (sizes_in flash.state past)
-          (course_of flash.fault_model flash.state past) (unattached (course_of flash.fault_model flash.state past))) on.stands.keeps.lit
+          (course_of flash.fault_model flash.state past) (unattached (course_of flash.fault_model flash.state past))) (lit_course lit)
           ∙ ap (attach_first flash.fault_model past.boot (sizes_in flash.state past) (course_of flash.fault_model flash.state past)) first
           ∙ ap (chip_step flash.fault_model past.boot (sizes_in flash.state past) (course_of flash.fault_model flash.state past) k) at
           ∙ ap (event_or_answer flash.fault_model past.boot (sizes_in flash.state past) (course_of flash.fault_model flash.state past) k c) h
@@ -124,23 +137,23 @@ module _ {F C : Type 0} {flash : Ghosts F} (past : Past F) (board : Board F C fl
       ∙ ap (λ ts. attach_step flash.fault_model past.boot (sizes_in flash.state past) (course_after flash.fault_model past.boot (starts_of flash.state past)
       past.attaches ts)) (sym (no_turns k h))
 
-  attached_on : (k : ℕ) (x y : SlotState flash.FaultState) (e : PageEvent) (new : Board F C flash) → first_attaching (slot_states board) ≡ Some k
+  attached_on : (lit : board.dark ≡ false) (k : ℕ) (x y : SlotState flash.FaultState) (e : PageEvent) (new : Board F C flash) → first_attaching (slot_states board) ≡ Some k
       → slice_get (slot_states board) k ≡ Some x
       → stage_event x.stage ≡ Some e → slice_get (slot_flips_before flash.fault_model past.boot.flips (board.events + 1) (slot_states board)) k ≡ Some y
-      → DidEvent past.boot.flips k y e board new → IsOnCourse (with_attach past) new
-  attached_on k x y e new first at has flipped did = record {
+      → DidEvent past.boot.flips past.boot.cut k y e board new → IsOnCourse (with_attach past) new
+  attached_on lit k x y e new first at has flipped did = record {
     conditions = on.conditions;
     stands = subst (λ course. StandsAt past course new) (sym (next_attach k first))
         (follows_as past.boot (starts_of flash.state past) (attach_step flash.fault_model past.boot (sizes_in flash.state past)
         (course_of flash.fault_model flash.state past))
         (change_at (slot_flips_before flash.fault_model past.boot.flips (board.events + 1) (slot_states board)) k
-        (λ z. with_note_written (after_event flash.fault_model e z))) (slot_states new) (board.events + 1) new.events
-        (board.notes.notes ++ failure_notes k (board.events + 1) e (failure_told flash.fault_model y.state e) ++ pending_notes k
-        (after_event flash.fault_model e y).pending_note) new.notes.notes
-        board.sessions.items new.sessions.items did.chips did.events did.notes did.sessions
-        (follows_attach flash.fault_model past.boot on.conditions.uncut (starts_of flash.state past) (course_of flash.fault_model flash.state past)
-        (slot_states board) board.events board.notes.notes board.sessions.items
-        on.stands k x y e first at has flipped));
+        (slot_after flash.fault_model e (tear_at past.boot.cut (board.events + 1)))) (slot_states new) (board.events + 1) new.events
+        (is_some (tear_at past.boot.cut (board.events + 1))) new.dark
+        (notes_after flash.fault_model k (board.events + 1) e (tear_at past.boot.cut (board.events + 1)) y board.notes.notes) new.notes.notes
+        board.sessions.items new.sessions.items did.chips did.events did.dark did.notes did.sessions
+        (follows_attach flash.fault_model past.boot (starts_of flash.state past) (course_of flash.fault_model flash.state past)
+        (slot_states board) board.events board.dark board.notes.notes board.sessions.items
+        on.stands lit k x y e first at has flipped));
     attached_first = λ j h. no_turns k first;
     attach_events = counted;
     all_busy = subst (λ ts. busy_turns flash.fault_model past.boot (starts_of flash.state past) ts
@@ -153,22 +166,24 @@ module _ {F C : Type 0} {flash : Ghosts F} (past : Past F) (board : Board F C fl
       counted : (course_after flash.fault_model past.boot (starts_of flash.state past) (past.attaches + 1) []).events ≡ past.attaches + 1
       counted = ap (λ (d : Course flash.FaultState). d.events) (one_more_attach flash.fault_model past.boot (starts_of flash.state past) past.attaches)
           ∙ (attach_is_step flash.fault_model past.boot (starts_of flash.state past) (sizes_in flash.state past) past.attaches []).event_else k
-          (ap (λ (d : Course flash.FaultState). d.dark) (sym here) ∙ on.stands.keeps.lit) (ap unattached (sym here) ∙ attached_there past board on ∙ first)
+          (ap (λ (d : Course flash.FaultState). d.dark) (sym here) ∙ (lit_course lit)) (ap unattached (sym here) ∙ attached_there past board on ∙ first)
           ∙ ap (λ n. n + 1) on.attach_events
 
   -- the flips that are due are made, and the first chip that is not attached does its event
-  pub attached_now : (k : ℕ) (new : Board F C flash) → first_attaching (slot_states board) ≡ Some k → (flips : List Flip) → flips ≡ past.boot.flips
+  pub attached_now : (lit : board.dark ≡ false) (k : ℕ) (new : Board F C flash) → first_attaching (slot_states board) ≡ Some k
+      → (flips : List Flip) (cut : Option CutAt) → flips ≡ past.boot.flips → cut ≡ past.boot.cut
       → ((y : SlotState flash.FaultState) (e : PageEvent) → slice_get (slot_flips_before flash.fault_model flips (board.events + 1) (slot_states board)) k
       ≡ Some y → stage_event y.stage ≡ Some e
-      → DidEvent flips k y e board new)
+      → DidEvent flips cut k y e board new)
       → IsOnCourse (with_attach past) new
-  attached_now k new first flips same did =
-      let there = attach_there k first in
+  attached_now lit k new first flips cut same same_cut did =
+      let there = attach_there lit k first in
       let flipped = flipped_at flash.fault_model past.boot.flips (board.events + 1) (slot_states board) k there.0 there.2 in
-      let now = subst (λ fs. (y : SlotState flash.FaultState) (e : PageEvent) → slice_get
+      let now = subst₂ (λ fs o. (y : SlotState flash.FaultState) (e : PageEvent) → slice_get
       (slot_flips_before flash.fault_model fs (board.events + 1) (slot_states board)) k ≡ Some y
-      → stage_event y.stage ≡ Some e → DidEvent fs k y e board new) same did in
-      attached_on k there.0 flipped.0 there.1 new first there.2 there.3 flipped.1 (now flipped.0 there.1 flipped.1 (ap stage_event flipped.2.stage ∙ there.3))
+      → stage_event y.stage ≡ Some e → DidEvent fs o k y e board new) same same_cut did in
+      attached_on lit k there.0 flipped.0 there.1 new first there.2 there.3 flipped.1
+      (now flipped.0 there.1 flipped.1 (ap stage_event flipped.2.stage ∙ there.3))
 
   -- one more turn
   pub next_turn : (session : ℕ) → course_of flash.fault_model flash.state (with_turn past session) ≡ next_course flash.fault_model flash.state past session
@@ -176,7 +191,7 @@ module _ {F C : Type 0} {flash : Ghosts F} (past : Past F) (board : Board F C fl
 
   pub next_attached : (session : ℕ) → unattached (course_of flash.fault_model flash.state past) ≡ None
       → unattached (course_of flash.fault_model flash.state (with_turn past session)) ≡ None
-  next_attached session h = ap unattached (next_turn session) ∙ stays_attached flash.fault_model past.boot on.conditions.uncut (sizes_in flash.state past)
+  next_attached session h = ap unattached (next_turn session) ∙ stays_attached flash.fault_model past.boot (sizes_in flash.state past)
       (course_of flash.fault_model flash.state past) session h
 
   pub turned_on : (session : ℕ) (new : Board F C flash) → unattached (course_of flash.fault_model flash.state past) ≡ None
@@ -193,11 +208,11 @@ module _ {F C : Type 0} {flash : Ghosts F} (past : Past F) (board : Board F C fl
   }
 
   -- a turn that does nothing
-  pub idle_turn : (session : ℕ) → unattached (course_of flash.fault_model flash.state past) ≡ None
+  pub idle_turn : (lit : board.dark ≡ false) (session : ℕ) → unattached (course_of flash.fault_model flash.state past) ≡ None
       → is_idle past.boot.partitions (sizes_in flash.state past) (course_of flash.fault_model flash.state past) session ≡ true
       → next_course flash.fault_model flash.state past session ≡ course_of flash.fault_model flash.state past
-  idle_turn session attached idle =
-      turn_is_idle flash.fault_model past.boot (sizes_in flash.state past) (course_of flash.fault_model flash.state past) session on.stands.keeps.lit attached
+  idle_turn lit session attached idle =
+      turn_is_idle flash.fault_model past.boot (sizes_in flash.state past) (course_of flash.fault_model flash.state past) session (lit_course lit) attached
       idle
 
   -- a session of the boot is one that is found

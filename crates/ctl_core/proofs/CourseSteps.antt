@@ -1,24 +1,30 @@
--- The steps of a course that is not cut, and what its controller keeps after each.
-use Rattle.std.proofs.Common.{◌≡◌, ℕ, ◌+◌, Bool, true, false, not, ◌&&◌, List, [], ◌∷◌, ◌++◌, Option, Some, None, refl, ap, sym, ◌∙◌}
+-- The steps of a course, and what its controller keeps after each.
+use Rattle.std.proofs.Common.{◌≡◌, ℕ, ◌+◌, Bool, true, false, not, ◌&&◌, List, [], ◌∷◌, ◌++◌, Option, Some, None, refl, ap, sym, ◌∙◌, subst}
 use Rattle.std.specs.Prelude.{slice_get, is_none, is_some, if◌then◌else◌, ◌||◌}
 use Rattle.nand_model.specs.declared.geometry.Geometry.{Geometry}
 use Rattle.nand_model.specs.declared.words.Command.{Command}
 use Rattle.nand_model.specs.declared.words.Note.{Note}
 use Rattle.nand_model.specs.declared.words.Note.TheVariants.{Began, Answered}
 use Rattle.nand_model.specs.declared.words.Op.{Op}
-use Rattle.nand_model.specs.Chip.{FaultModel, PageEvent}
+use Rattle.nand_model.specs.Chip.{FaultModel, PageEvent, done_bits}
+use Rattle.nand_model.specs.Sizes.{raw_len}
+use Rattle.nand_model.specs.declared.tear.Tear.{Tear}
 use Rattle.nand_model.specs.Partitions.{Partitions, device_of, chip_of}
 use Rattle.chip_paths.specs.Operation.{Known, Finished}
-use Rattle.chip_paths.specs.ChipRun.{ChipRun, Pending, next_chip_event, advanced, attach_notes, notes_of_advance, with_pending, with_finished, finished_by}
+use Rattle.chip_paths.specs.ChipRun.{ChipRun, Pending, next_chip_event, advanced, torn_at, attach_notes, notes_of_advance, notes_of_cut, with_pending, with_finished, finished_by}
 use Rattle.command_model.specs.Boot.{Boot, change_at}
 use Rattle.run_model.specs.Course.{Course, session_run, pending_chip, unattached, is_pending_of, began, finish, with_answer, is_free, is_free_at, can_begin, is_idle, tear_at, with_flips_before, event_done, event_on, event_step, event_or_answer, chip_step, begin_on, begin_at, begin_step, session_step, turn_unless, turn_step, attach_first, attach_step}
 use Rattle.command_model.specs.Session.{next_op}
 use Rattle.chip_paths.specs.Stage.{stage_by, failure_told, is_attached}
 use Rattle.run_laws.proofs.Places.{position_none}
-use Rattle.ctl_core.specs.SlotState.{SlotState, slot_as, slots_as, is_held_by, first_attaching, first_held_by, after_event, after_begin, after_answer, with_note_written, failure_notes, pending_notes, holder_by}
+use Rattle.ctl_core.specs.SlotState.{SlotState, slot_as, slots_as, is_held_by, first_attaching, first_held_by, after_event, after_tear, after_begin, after_answer, slot_after, notes_after, with_note_written, failure_notes, pending_notes, holder_by}
 use Rattle.ctl_core.specs.Flips.{slot_flips_before}
 use Rattle.ctl_core.specs.Keeps.{Keeps}
-use Rattle.ctl_core.proofs.ChipSteps.{begun, answered, slot_advanced, failure_is, pending_note_is}
+use Rattle.ctl_core.specs.Answer.{attach_answer, dark_if, did_if_some, done_if, held_by, held_or_did, turn_answer}
+use Rattle.ctl_core.specs.Past.{is_done, takes_turns}
+use Rattle.ctl_core.specs.declared.turn.Turn.{Turn}
+use Rattle.ctl_core.specs.declared.turn.Turn.TheVariants.{Did, Dark}
+use Rattle.ctl_core.proofs.ChipSteps.{begun, answered, slot_advanced, slot_torn, failure_is, pending_note_is}
 use Rattle.ctl_core.proofs.Flipped.{flips_kept}
 use Rattle.ctl_core.proofs.Positions.{position_kept, mapped_change}
 
@@ -103,25 +109,60 @@ module _ {W : Type 0} (model : FaultModel W) (boot : Boot) (sizes : Command → 
   pub turn_is_idle : is_idle boot.partitions sizes course session ≡ true → turn_step model boot sizes course session ≡ course
   turn_is_idle h = ap (λ b. turn_unless model boot b sizes course session) h
 
-module _ {W : Type 0} (model : FaultModel W) (boot : Boot) (uncut : boot.cut ≡ None) (sizes : Command → Geometry) (course : Course W) where
+-- a dark controller
+module _ {W : Type 0} (model : FaultModel W) (boot : Boot) (sizes : Command → Geometry) (course : Course W) (session : ℕ) (dark : course.dark ≡ true) where
+  pub dark_is_idle : is_idle boot.partitions sizes course session ≡ true
+  dark_is_idle = ap (λ b. idle_by b (unattached course) (pending_chip course session)
+      (can_begin boot.partitions course (next_op sizes (session_run course session)))) dark
+
+  pub dark_turn_is : turn_step model boot sizes course session ≡ course
+  dark_turn_is = ap (λ b. turn_unless model boot b sizes course session) dark_is_idle
+
+  pub dark_answer : Dark ≡ turn_answer boot.partitions sizes course session
+  dark_answer = sym (ap (λ b. dark_if b (done_if (is_done course session) (held_or_did (held_by boot.partitions sizes course session)))) dark)
+
+  pub dark_attach_answer : Dark ≡ attach_answer course
+  dark_attach_answer = sym (ap (λ b. dark_if b (did_if_some (unattached course))) dark)
+
+  pub dark_takes : takes_turns course ≡ true
+  dark_takes = ap (λ b. b || is_none (unattached course)) dark
+
+-- where the power has not failed, sessions may take turns where all chips are attached
+pub attached_takes : {W : Type 0} (course : Course W) → unattached course ≡ None → takes_turns course ≡ true
+attached_takes course attached = ap (λ (o : Option ℕ). course.dark || is_none o) attached ∙ or_true course.dark
+  where
+    or_true : (b : Bool) → (b || true) ≡ true
+    or_true true = refl
+    or_true false = refl
+
+-- an attach turn that does nothing leaves a controller whose sessions may take turns
+pub takes_after : {W : Type 0} (course : Course W) (turn : Turn) → turn ≡ attach_answer course → (turn ≡ Did → ⊥) → takes_turns course ≡ true
+takes_after course turn is not = by_parts course.dark (unattached course) is
+  where
+    by_parts : (dark : Bool) (first : Option ℕ) → turn ≡ dark_if dark (did_if_some first) → (dark || is_none first) ≡ true
+    by_parts true first h = refl
+    by_parts false None h = refl
+    by_parts false (Some k) h = absurd (not h)
+
+pub takes_attached : {W : Type 0} (course : Course W) → course.dark ≡ false → takes_turns course ≡ true → unattached course ≡ None
+takes_attached course lit takes = none (unattached course) (ap (λ b. b || is_none (unattached course)) (sym lit) ∙ takes)
+  where
+    none : (o : Option ℕ) → is_none o ≡ true → o ≡ None
+    none None h = refl
+    none (Some k) h = cc
+
+module _ {W : Type 0} (model : FaultModel W) (boot : Boot) (sizes : Command → Geometry) (course : Course W) where
   -- the chips after the flips that are due before the next event
   abbrev pub after_flips : List (ChipRun W)
   after_flips = with_flips_before model boot (course.events + 1) course.chips
 
-  -- a course after these flips and the next event of a chip, which stood so after them
+  -- a course after these flips and the next event of a chip, which stood so after them; where the cut
+  -- names it, it is torn
   abbrev pub after_chip_event : ℕ → ChipRun W → PageEvent → Course W
-  after_chip_event k c e = record {
-    chips = change_at after_flips k (λ old. advanced model c e);
-    sessions = course.sessions;
-    events = course.events + 1;
-    dark = false;
-    notes = course.notes ++ notes_of_advance model k (course.events + 1) c e ++ attach_notes k c (advanced model c e);
-  }
+  after_chip_event k c e = event_done model boot course after_flips k (course.events + 1) c e (tear_at boot.cut (course.events + 1))
 
   pub event_is : (k : ℕ) (c : ChipRun W) (e : PageEvent) → slice_get after_flips k ≡ Some c → event_step model boot course k e ≡ after_chip_event k c e
-  event_is k c e at =
-      ap (λ o. event_on model boot course after_flips k o e) at
-      ∙ ap (λ cut. event_done model boot course after_flips k (course.events + 1) c e (tear_at cut (course.events + 1))) uncut
+  event_is k c e at = ap (λ o. event_on model boot course after_flips k o e) at
 
   -- the first chip that is not attached has an event
   pub attach_step_is : (k : ℕ) (c now : ChipRun W) (e : PageEvent) → course.dark ≡ false → unattached course ≡ Some k → slice_get course.chips k ≡ Some c
@@ -150,34 +191,53 @@ module _ {W : Type 0} (model : FaultModel W) (boot : Boot) (uncut : boot.cut ≡
       ∙ (λ j. with_answer boot.partitions sizes course k c (is_known j) (is_pending j)) ∙ ap (finish sizes course k c pending.session) over
 
   -- what is kept after an event, of a chip that stood so after the flips
-  pub event_kept : (kept : List (SlotState W)) (events : ℕ) (notes : List Note) (k : ℕ) (c : ChipRun W) (e : PageEvent)
-      → Keeps boot.partitions course kept events notes → slice_get after_flips k ≡ Some c
+  pub event_kept : (kept : List (SlotState W)) (events : ℕ) (dark : Bool) (notes : List Note) (k : ℕ) (c : ChipRun W) (e : PageEvent)
+      → Keeps boot.partitions course kept events dark notes → slice_get after_flips k ≡ Some c
       → Keeps boot.partitions (after_chip_event k c e)
-      (change_at (slot_flips_before model boot.flips (events + 1) kept) k (λ x. with_note_written (after_event model e x))) (events + 1)
-      (notes ++ failure_notes k (events + 1) e (failure_told model c.chip e) ++ pending_notes k (after_event model e (slot_as boot.partitions c)).pending_note)
-  event_kept kept events notes k c e keeps at = record {
-    lit = refl;
-    of_chips =
-        let flipped : slot_flips_before model boot.flips (events + 1) kept ≡ slots_as boot.partitions after_flips =
-        (λ j. slot_flips_before model boot.flips (keeps.of_events j + 1) (keeps.of_chips j))
-        ∙ sym (flips_kept model boot.partitions boot (course.events + 1) course.chips) in
-        ap (λ xs. change_at xs k (λ x. with_note_written (after_event model e x))) flipped
-        ∙ sym (mapped_change (slot_as boot.partitions) (λ old. advanced model c e) (λ x. with_note_written (after_event model e x)) after_flips k c at
-        (slot_advanced boot.partitions model c e));
-    of_events = ap (λ n. n + 1) keeps.of_events;
-    of_notes = let failed : failure_notes k (events + 1) e (failure_told model c.chip e) ≡ notes_of_advance model k (course.events + 1) c e =
-        ap (λ n. failure_notes k (n + 1) e (failure_told model c.chip e)) keeps.of_events ∙ sym (failure_is boot.partitions model k (course.events + 1) c e) in
-        let pending_note : pending_notes k (after_event model e (slot_as boot.partitions c)).pending_note ≡ attach_notes k c (advanced model c e) = sym
-        (pending_note_is boot.partitions model k c e) in
-        λ j. keeps.of_notes j ++ failed j ++ pending_note j;
-  }
+      (change_at (slot_flips_before model boot.flips (events + 1) kept) k (slot_after model e (tear_at boot.cut (events + 1)))) (events + 1)
+      (is_some (tear_at boot.cut (events + 1)))
+      (notes_after model k (events + 1) e (tear_at boot.cut (events + 1)) (slot_as boot.partitions c) notes)
+  event_kept kept events dark notes k c e keeps at =
+      subst (λ n. Keeps boot.partitions (after_chip_event k c e)
+      (change_at (slot_flips_before model boot.flips (n + 1) kept) k (slot_after model e (tear_at boot.cut (n + 1)))) (n + 1)
+      (is_some (tear_at boot.cut (n + 1))) (notes_after model k (n + 1) e (tear_at boot.cut (n + 1)) (slot_as boot.partitions c) notes))
+      (sym keeps.of_events) (by_tear (tear_at boot.cut (course.events + 1)))
+    where
+      flipped : slot_flips_before model boot.flips (course.events + 1) kept ≡ slots_as boot.partitions after_flips
+      flipped = ap (slot_flips_before model boot.flips (course.events + 1)) keeps.of_chips
+          ∙ sym (flips_kept model boot.partitions boot (course.events + 1) course.chips)
+
+      by_tear : (o : Option Tear) → Keeps boot.partitions (event_done model boot course after_flips k (course.events + 1) c e o)
+          (change_at (slot_flips_before model boot.flips (course.events + 1) kept) k (slot_after model e o)) (course.events + 1) (is_some o)
+          (notes_after model k (course.events + 1) e o (slot_as boot.partitions c) notes)
+      by_tear None = record {
+        of_chips = ap (λ xs. change_at xs k (λ x. with_note_written (after_event model e x))) flipped
+            ∙ sym (mapped_change (slot_as boot.partitions) (λ old. advanced model c e) (λ x. with_note_written (after_event model e x)) after_flips k c at
+            (slot_advanced boot.partitions model c e));
+        of_events = refl;
+        of_dark = refl;
+        of_notes =
+            let failed : failure_notes k (course.events + 1) e (failure_told model c.chip e) ≡ notes_of_advance model k (course.events + 1) c e = sym
+            (failure_is boot.partitions model k (course.events + 1) c e) in
+            let pending_note : pending_notes k (after_event model e (slot_as boot.partitions c)).pending_note ≡ attach_notes k c (advanced model c e) = sym
+            (pending_note_is boot.partitions model k c e) in
+            λ j. keeps.of_notes j ++ failed j ++ pending_note j;
+      }
+      by_tear (Some tear) = record {
+        of_chips = ap (λ xs. change_at xs k (after_tear model e tear)) flipped
+            ∙ sym (mapped_change (slot_as boot.partitions) (λ old. torn_at model c e (done_bits (raw_len c.chip.geometry) tear)) (after_tear model e tear)
+            after_flips k c at (slot_torn boot.partitions model c e tear));
+        of_events = refl;
+        of_dark = refl;
+        of_notes = ap (λ zs. zs ++ notes_of_cut model k (course.events + 1) c e (done_bits (raw_len c.chip.geometry) tear)) keeps.of_notes;
+      }
 
   -- what is kept after an operation began
-  pub begin_kept : (kept : List (SlotState W)) (events : ℕ) (notes : List Note) (session k : ℕ) (op : Op) (c : ChipRun W) (known : Known)
-      → Keeps boot.partitions course kept events notes → slice_get course.chips k ≡ Some c → c.known ≡ Some known → c.pending ≡ None
-      → Keeps boot.partitions (began course session k op) (change_at kept k (after_begin boot.partitions session op)) events (notes ++ Began session op ∷ [])
-  begin_kept kept events notes session k op c known keeps at is_known free = record {
-    lit = keeps.lit;
+  pub begin_kept : (kept : List (SlotState W)) (events : ℕ) (dark : Bool) (notes : List Note) (session k : ℕ) (op : Op) (c : ChipRun W) (known : Known)
+      → Keeps boot.partitions course kept events dark notes → slice_get course.chips k ≡ Some c → c.known ≡ Some known → c.pending ≡ None
+      → Keeps boot.partitions (began course session k op) (change_at kept k (after_begin boot.partitions session op)) events dark (notes ++ Began session op ∷ [])
+  begin_kept kept events dark notes session k op c known keeps at is_known free = record {
+    of_dark = keeps.of_dark;
     of_chips = ap (λ xs. change_at xs k (after_begin boot.partitions session op)) keeps.of_chips
         ∙ sym (mapped_change (slot_as boot.partitions) (λ d. with_pending d session op) (after_begin boot.partitions session op) course.chips k c at
         (begun boot.partitions c known session op is_known free));
@@ -186,12 +246,12 @@ module _ {W : Type 0} (model : FaultModel W) (boot : Boot) (uncut : boot.cut ≡
   }
 
   -- what is kept after an operation is answered
-  pub answer_kept : (kept : List (SlotState W)) (events : ℕ) (notes : List Note) (session k : ℕ) (c : ChipRun W) (finished : Finished)
-      → Keeps boot.partitions course kept events notes → slice_get course.chips k ≡ Some c
-      → Keeps boot.partitions (finish sizes course k c session (Some finished)) (change_at kept k (after_answer finished.known)) events
+  pub answer_kept : (kept : List (SlotState W)) (events : ℕ) (dark : Bool) (notes : List Note) (session k : ℕ) (c : ChipRun W) (finished : Finished)
+      → Keeps boot.partitions course kept events dark notes → slice_get course.chips k ≡ Some c
+      → Keeps boot.partitions (finish sizes course k c session (Some finished)) (change_at kept k (after_answer finished.known)) events dark
       (notes ++ Answered session finished.reply ∷ [])
-  answer_kept kept events notes session k c finished keeps at = record {
-    lit = keeps.lit;
+  answer_kept kept events dark notes session k c finished keeps at = record {
+    of_dark = keeps.of_dark;
     of_chips = ap (λ xs. change_at xs k (after_answer finished.known)) keeps.of_chips
         ∙ sym (mapped_change (slot_as boot.partitions) (λ old. with_finished c finished) (after_answer finished.known) course.chips k c at
         (answered boot.partitions c finished));

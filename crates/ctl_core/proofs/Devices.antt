@@ -30,7 +30,8 @@ use Rattle.session_steps.specs.Standing.{IsBetween, standing}
 use Rattle.session_steps.specs.Mirrors.{IsUnderWay, Mirrors}
 use Rattle.session_steps.proofs.Idle.{next_asks}
 use Rattle.session_steps.proofs.Scripts.{an_op}
-use Rattle.run_model.specs.Start.{CanStart, IsOnChip, IsOfDevice}
+use Rattle.run_model.specs.Start.{IsOnChip, IsOfDevice}
+use Rattle.ctl_core.specs.Start.{CanStart}
 
 -- what holds of all items holds of the one at a place
 pub all_at : {A : Type 0} (P : A → Type 0) (xs : List A) (k : ℕ) (x : A) → All P xs → slice_get xs k ≡ Some x → P x

@@ -21,20 +21,13 @@ use Rattle.ctl_core.specs.declared.board.Board.{Board}
 use Rattle.ctl_core.specs.SlotState.{SlotState, slot_first, slots_as, first_attaching}
 use Rattle.ctl_core.specs.Past.{Past, at_start, course_of}
 use Rattle.ctl_core.specs.Sessions.{HaveNotBegun, AreAllDone}
-use Rattle.run_model.specs.Start.{CanStart}
+use Rattle.ctl_core.specs.Start.{CanStart}
 use Rattle.ctl_core.specs.Board.{slot_state, slot_states, IsOnCourse}
 use Rattle.ctl_core.proofs.Positions.{mapped_at, mapped_length}
 use Rattle.ctl_core.proofs.Places.{item_at}
 use Rattle.ctl_core.proofs.Known.{all_known}
 use Rattle.ctl_core.proofs.Devices.{all_at}
 use Rattle.ctl_core.proofs.Limits.{attached_there}
-
--- what holds of all items holds of the first one, and of the others
-pub all_first : {A : Type 0} (P : A → Type 0) (x : A) (xs : List A) → All P (x ∷ xs) → P x
-all_first P x xs h = h zero x (omega arith)
-
-pub all_later : {A : Type 0} (P : A → Type 0) (x : A) (xs : List A) → All P (x ∷ xs) → All P xs
-all_later P x xs h k d l = h (suc k) d (omega arith)
 
 -- an item at the end of one list is one at the head of the other
 pub moved_on : {A B : Type 0} (f : A → B) (xs : List A) (x : A) (y : B) (ys : List B) → f x ≡ y → map f (xs ++ x ∷ []) ++ ys ≡ map f xs ++ (y ∷ ys)
@@ -126,16 +119,23 @@ module _ {F C : Type 0} {flash : Ghosts F} (past : Past F) (board : Board F C fl
       by_all true e = let bad : IsTrue false = h.1 (all_done e) in cc
       by_all false e = refl
 
-  pub over_where_done : (none done : Bool) (o : Option ℕ) → o ≡ first_attaching (slot_states board) → is_some o ≡ not none → none ≡ true
+  -- where the power failed, the boot is over
+  pub over_where_dark : board.dark ≡ true → true ≡ is_over (course_of flash.fault_model flash.state past)
+  over_where_dark dark = ap (λ b. b || (list_all (λ (c : ChipRun flash.FaultState). is_some c.known)
+      (course_of flash.fault_model flash.state past).chips
+      && list_all (λ (s : SessionRun). is_finished s.commands) (course_of flash.fault_model flash.state past).sessions))
+      (sym dark ∙ on.stands.keeps.of_dark)
+
+  pub over_where_done : (lit : board.dark ≡ false) (none done : Bool) (o : Option ℕ) → o ≡ first_attaching (slot_states board) → is_some o ≡ not none → none ≡ true
       → IsTrue done ↔ AreAllDone past.boot.sessions board.notes.notes board.sessions.items → done ≡ is_over (course_of flash.fault_model flash.state past)
-  over_where_done none done o first same absent all =
+  over_where_done lit none done o first same absent all =
       let attached : unattached (course_of flash.fault_model flash.state past) ≡ None = attached_there past board on ∙ sym first
       ∙ (same_none o none same).0 absent in
       let known : list_all (λ (c : ChipRun flash.FaultState). is_some c.known) (course_of flash.fault_model flash.state past).chips ≡ true =
       all_true (λ (c : ChipRun flash.FaultState). is_some c.known) (course_of flash.fault_model flash.state past).chips
       (λ k c at. is_known c (all_known (course_of flash.fault_model flash.state past) attached k c at)) in
       over_by (course_of flash.fault_model flash.state past).dark (list_all (λ (c : ChipRun flash.FaultState). is_some c.known)
-      (course_of flash.fault_model flash.state past).chips) done on.stands.keeps.lit known
+      (course_of flash.fault_model flash.state past).chips) done (sym on.stands.keeps.of_dark ∙ lit) known
       ∙ ap (λ b. (course_of flash.fault_model flash.state past).dark || (list_all (λ (c : ChipRun flash.FaultState). is_some c.known)
       (course_of flash.fault_model flash.state past).chips && b)) (done_there done all)
     where
@@ -146,15 +146,15 @@ module _ {F C : Type 0} {flash : Ghosts F} (past : Past F) (board : Board F C fl
       is_known : (c : ChipRun flash.FaultState) → is_none c.known ≡ false → is_some c.known ≡ true
       is_known c h = known_some c.known h
 
-  pub not_over_where_attaching : (none : Bool) (o : Option ℕ) → o ≡ first_attaching (slot_states board) → is_some o ≡ not none → none ≡ false
+  pub not_over_where_attaching : (lit : board.dark ≡ false) (none : Bool) (o : Option ℕ) → o ≡ first_attaching (slot_states board) → is_some o ≡ not none → none ≡ false
       → none ≡ is_over (course_of flash.fault_model flash.state past)
-  not_over_where_attaching none o first same there =
+  not_over_where_attaching lit none o first same there =
       let k = (same_none o none same).1 there in
       let some : unattached (course_of flash.fault_model flash.state past) ≡ Some k.0 = attached_there past board on ∙ sym first ∙ k.1 in
       let c = position_is (λ (d : ChipRun flash.FaultState). is_none d.known) (course_of flash.fault_model flash.state past).chips k.0 some in
       there ∙ not_over_by (course_of flash.fault_model flash.state past).dark (list_all (λ (c : ChipRun flash.FaultState). is_some c.known)
       (course_of flash.fault_model flash.state past).chips)
-      (list_all (λ (s : SessionRun). is_finished s.commands) (course_of flash.fault_model flash.state past).sessions) on.stands.keeps.lit
+      (list_all (λ (s : SessionRun). is_finished s.commands) (course_of flash.fault_model flash.state past).sessions) (sym on.stands.keeps.of_dark ∙ lit)
       (one_false (λ (c : ChipRun flash.FaultState). is_some c.known) (course_of flash.fault_model flash.state past).chips k.0 c.0 c.1 (unknown c.0.known c.2))
     where
       unknown : {K : Type 0} (o : Option K) → is_none o ≡ true → is_some o ≡ false
@@ -169,13 +169,13 @@ slots_at_start partitions (s ∷ starts) = ap (λ zs. slot_first s ∷ zs) (slot
 -- a controller at its start
 pub start_on : {F C : Type 0} {flash : Ghosts F} (boot : Boot) (flashes : List F) (board : Board F C flash) → CanStart boot (map flash.state flashes)
     → map slot_state board.slots.items ≡ map slot_first (map flash.state flashes) → HaveNotBegun boot.sessions board.sessions.items → board.events ≡ 0
-    → board.notes.notes ≡ []
+    → board.dark ≡ false → board.notes.notes ≡ []
     → IsOnCourse (at_start boot flashes) board
-start_on {F} {C} {flash} boot flashes board start slots fresh events notes = record {
+start_on {F} {C} {flash} boot flashes board start slots fresh events dark notes = record {
   conditions = start;
   stands = record {
     keeps = record {
-      lit = refl;
+      of_dark = dark;
       of_chips = slots ∙ slots_at_start boot.partitions (map flash.state flashes);
       of_events = events;
       of_notes = notes;

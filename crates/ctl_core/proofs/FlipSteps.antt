@@ -90,10 +90,10 @@ first_set P (y ∷ ys) (suc k) new within now before (suc j) d h =
     first_set P ys k new (omega arith) now (λ i e l. before (suc i) e (omega arith)) j d (omega arith)
 
 module _ {F C : Type 0} {flash : Ghosts F} where
-  -- the room of a flip and of those after it
-  pub room_split : (pages bits : ℕ) (flip : Flip) (rest : List Flip) (slots : List (Slot F C flash)) → pages ≡ 1 + length rest → bits
+  -- the room of a flip, of those after it and of one page more
+  pub room_split : (pages bits : ℕ) (flip : Flip) (rest : List Flip) (slots : List (Slot F C flash)) → pages ≡ 1 + (1 + length rest) → bits
       ≡ length flip.bits + bit_count rest
-      → All (HasRoom pages bits) slots → All (HasRoom (1 + length rest) (length flip.bits + bit_count rest)) slots × All (HasRoom 1 (length flip.bits)) slots
+      → All (HasRoom pages bits) slots → All (HasRoom (1 + (1 + length rest)) (length flip.bits + bit_count rest)) slots × All (HasRoom 1 (length flip.bits)) slots
   room_split pages bits flip rest slots more more_bits all = (
     λ k d h. let r = all k d h in record { page_room = omega (arith, r.page_room); bits_room = omega (arith, r.bits_room) },
     λ k d h. let r = all k d h in record { page_room = omega (arith, r.page_room); bits_room = omega (arith, r.bits_room) },
@@ -108,10 +108,10 @@ module _ {F C : Type 0} {flash : Ghosts F} where
       (λ other r. record { page_room = omega (arith, r.page_room); bits_room = omega (arith, r.bits_room) }) all
 
   -- the loop over the flips stands at place n: chips and room are those of the flips before, and
-  -- those that are left can be made
+  -- those that are left can be made, with room for one page more
   pub record FlipsLeft (flips : List Flip) (event n : ℕ) (start : List (SlotState flash.FaultState)) (slots : List (Slot F C flash)) : Type 0 where
     pub there : All (CanFlip (map slot_state slots)) flips
-    pub room : All (HasRoom (length (due_flips (drop n flips) event)) (bit_count (due_flips (drop n flips) event))) slots
+    pub room : All (HasRoom (1 + length (due_flips (drop n flips) event)) (bit_count (due_flips (drop n flips) event))) slots
     pub so_far : fold (slot_flip flash.fault_model) (map slot_state slots) (due_flips (drop n flips) event)
         ≡ slot_flips_before flash.fault_model flips event start
 
@@ -122,12 +122,12 @@ module _ {F C : Type 0} {flash : Ghosts F} where
       is_due_here : is_due event flip ≡ true
       is_due_here = eq-eqb flip.before event due
 
-      flip_rooms : All (HasRoom (1 + length (due_flips (drop (n + 1) flips) event)) (length flip.bits + bit_count (due_flips (drop (n + 1) flips) event))) slots
+      flip_rooms : All (HasRoom (1 + (1 + length (due_flips (drop (n + 1) flips) event))) (length flip.bits + bit_count (due_flips (drop (n + 1) flips) event))) slots
           × All (HasRoom 1 (length flip.bits)) slots
       flip_rooms =
           let counts = counted_here flips event n flip at is_due_here in
-          room_split (length (due_flips (drop n flips) event)) (bit_count (due_flips (drop n flips) event)) flip (due_flips (drop (n + 1) flips) event) slots
-          counts.0 counts.1 left.room
+          room_split (1 + length (due_flips (drop n flips) event)) (bit_count (due_flips (drop n flips) event)) flip (due_flips (drop (n + 1) flips) event)
+          slots (ap (λ m. 1 + m) counts.0) counts.1 left.room
 
       -- there is room for the flip
       pub flip_room : All (HasRoom 1 (length flip.bits)) slots
@@ -140,14 +140,14 @@ module _ {F C : Type 0} {flash : Ghosts F} where
       one_flipped now chips room = record {
         there = λ k d h. subst (λ cs. CanFlip cs (get_or flips k d)) (sym chips) (can_still_flip flash.fault_model (map slot_state slots) flip
             (get_or flips k d) (left.there k d h));
-        room = room (length (due_flips (drop (n + 1) flips) event)) (bit_count (due_flips (drop (n + 1) flips) event)) flip_rooms.0;
+        room = room (1 + length (due_flips (drop (n + 1) flips) event)) (bit_count (due_flips (drop (n + 1) flips) event)) flip_rooms.0;
         so_far = ap (λ cs. fold (slot_flip flash.fault_model) cs (due_flips (drop (n + 1) flips) event)) chips
             ∙ ap (fold (slot_flip flash.fault_model) (map slot_state slots)) (sym (due_here flips event n flip at is_due_here)) ∙ left.so_far;
       }
 
     -- a flip that is not due is passed over
     pub none_flipped : (flip.before ≡ event → ⊥) → FlipsLeft flips event (n + 1) start slots
-    none_flipped other = subst (λ due. All (HasRoom (length due) (bit_count due)) slots → fold (slot_flip flash.fault_model) (map slot_state slots) due
+    none_flipped other = subst (λ due. All (HasRoom (1 + length due) (bit_count due)) slots → fold (slot_flip flash.fault_model) (map slot_state slots) due
         ≡ slot_flips_before flash.fault_model flips event start
         → FlipsLeft flips event (n + 1) start slots)
         (sym (due_later flips event n flip at (ne_eqb flip.before event other)))
@@ -159,6 +159,11 @@ module _ {F C : Type 0} {flash : Ghosts F} where
       → map slot_state slots ≡ slot_flips_before flash.fault_model flips event start
   all_flipped flips event n start slots left end =
       ap (fold (slot_flip flash.fault_model) (map slot_state slots)) (sym (due_at_end flips event n end)) ∙ left.so_far
+
+  -- and room for a page is left
+  pub room_at_end : (flips : List Flip) (event n : ℕ) (start : List (SlotState flash.FaultState)) (slots : List (Slot F C flash))
+      → FlipsLeft flips event n start slots → length flips ≤ n → All (HasRoom 1 0) slots
+  room_at_end flips event n start slots left end = subst (λ due. All (HasRoom (1 + length due) (bit_count due)) slots) (due_at_end flips event n end) left.room
 
   -- a chip in a slot after the flips, which has an event before them
   pub event_there : (flips : List Flip) (event : ℕ) (before now : List (Slot F C flash)) (k : ℕ)

@@ -5,16 +5,18 @@ use Rattle.nand_model.specs.declared.geometry.Geometry.{Geometry}
 use Rattle.nand_model.specs.declared.words.Command.{Command}
 use Rattle.nand_model.specs.declared.words.Flip.{Flip}
 use Rattle.nand_model.specs.declared.words.Op.{Op}
-use Rattle.nand_model.specs.Chip.{FaultModel, PageEvent, Complete, happens}
+use Rattle.nand_model.specs.declared.tear.Tear.{Tear}
+use Rattle.nand_model.specs.Chip.{FaultModel, PageEvent, DoneBits, Complete, PowerCut, done_bits, happens}
 use Rattle.nand_model.specs.Path.{answer_to}
 use Rattle.chip_paths.specs.Operation.{Known, Finished}
 use Rattle.nand_model.specs.Partitions.{device_of, chip_of}
-use Rattle.chip_paths.specs.ChipRun.{ChipRun, Pending, next_chip_event, finished_by, answered_by, advanced, with_flips}
+use Rattle.chip_paths.specs.ChipRun.{ChipRun, Pending, next_chip_event, finished_by, answered_by, advanced, torn_at, torn_by, with_flips}
 use Rattle.command_model.specs.Boot.{Boot, change_at}
-use Rattle.run_model.specs.Course.{Course, with_flip, with_flips_before, session_run, pending_chip, unattached, is_idle, with_answer, finish, event_or_answer, chip_step, began, begin_on, begin_at, begin_step, session_step, turn_unless, turn_step}
+use Rattle.run_model.specs.Course.{Course, tear_at, event_done, with_flip, with_flips_before, session_run, pending_chip, unattached, is_idle, with_answer, finish, event_or_answer, chip_step, began, begin_on, begin_at, begin_step, session_step, turn_unless, turn_step}
 use Rattle.command_model.specs.Session.{next_op}
 use Rattle.run_laws.proofs.Places.{position_none}
 use Rattle.nand_model.specs.Flips.{due_flips}
+use Rattle.nand_model.specs.Sizes.{raw_len}
 use Rattle.ctl_core.proofs.Positions.{nowhere}
 use Rattle.ctl_core.proofs.Places.{changed_at}
 use Rattle.ctl_core.proofs.CourseSteps.{event_is}
@@ -59,13 +61,20 @@ module _ {W : Type 0} (model : FaultModel W) (boot : Boot) where
       let now = changed_there chips k flip.chip (λ d. with_flips model d flip.page flip.bits) c at in
       there_after flips (with_flip model boot chips flip) k now.0 now.1
 
-module _ {W : Type 0} (model : FaultModel W) (boot : Boot) (uncut : boot.cut ≡ None) (sizes : Command → Geometry) (course : Course W)
+module _ {W : Type 0} (model : FaultModel W) (boot : Boot) (sizes : Command → Geometry) (course : Course W)
     (known : AllKnown course.chips) where
   advanced_known : (c : ChipRun W) (e : PageEvent) → is_none c.known ≡ false → is_none (advanced model c e).known ≡ false
   advanced_known c e h = by_known c.known h
     where
       by_known : (k : Option Known) → is_none k ≡ false → is_none (answered_by (record c { known = k }) (happens model c.chip (Complete e))
           (answer_to model c.chip e) k).known ≡ false
+      by_known None i = cc
+      by_known (Some x) i = refl
+
+  torn_known : (c : ChipRun W) (e : PageEvent) (done : DoneBits) → is_none c.known ≡ false → is_none (torn_at model c e done).known ≡ false
+  torn_known c e done h = by_known c.known h
+    where
+      by_known : (k : Option Known) → is_none k ≡ false → is_none (torn_by (record c { known = k }) (happens model c.chip (PowerCut e done)) k).known ≡ false
       by_known None i = cc
       by_known (Some x) i = refl
 
@@ -76,6 +85,15 @@ module _ {W : Type 0} (model : FaultModel W) (boot : Boot) (uncut : boot.cut ≡
   flipped_there : (k : ℕ) (c : ChipRun W) → slice_get course.chips k ≡ Some c → (d : ChipRun W)
       × (slice_get (with_flips_before model boot (course.events + 1) course.chips) k ≡ Some d)
   flipped_there k c at = there_after model boot (due_flips boot.flips (course.events + 1)) course.chips k c at
+
+  done_known : (k : ℕ) (now : ChipRun W) (e : PageEvent) (o : Option Tear) → slice_get (with_flips_before model boot (course.events + 1) course.chips) k
+      ≡ Some now
+      → AllKnown (event_done model boot course (with_flips_before model boot (course.events + 1) course.chips) k (course.events + 1) now e o).chips
+  done_known k now e None at = known_change (with_flips_before model boot (course.events + 1) course.chips) k (λ old. advanced model now e) flipped_known
+      (λ d there. advanced_known now e (flipped_known k now at))
+  done_known k now e (Some tear) at = known_change (with_flips_before model boot (course.events + 1) course.chips) k
+      (λ old. torn_at model now e (done_bits (raw_len now.chip.geometry) tear)) flipped_known
+      (λ d there. torn_known now e (done_bits (raw_len now.chip.geometry) tear) (flipped_known k now at))
 
   finish_known : (k : ℕ) (c : ChipRun W) (session : ℕ) (o : Option Finished) → AllKnown (finish sizes course k c session o).chips
   finish_known k c session None = known
@@ -91,9 +109,8 @@ module _ {W : Type 0} (model : FaultModel W) (boot : Boot) (uncut : boot.cut ≡
   next_known k c None at = answer_known k c c.known c.pending
   next_known k c (Some e) at =
       let now = flipped_there k c at in
-      subst (λ (d : Course W). AllKnown d.chips) (sym (event_is model boot uncut sizes course k now.0 e now.1))
-      (known_change (with_flips_before model boot (course.events + 1) course.chips) k (λ old. advanced model now.0 e) flipped_known
-      (λ d there. advanced_known now.0 e (flipped_known k now.0 now.1)))
+      subst (λ (d : Course W). AllKnown d.chips) (sym (event_is model boot sizes course k now.0 e now.1))
+      (done_known k now.0 e (tear_at boot.cut (course.events + 1)) now.1)
 
   chip_known : (k : ℕ) (o : Option (ChipRun W)) → slice_get course.chips k ≡ o → AllKnown (chip_step model boot sizes course k o).chips
   chip_known k None at = known
@@ -127,7 +144,7 @@ module _ {W : Type 0} (model : FaultModel W) (boot : Boot) (uncut : boot.cut ≡
       by_idle false = step_known session (pending_chip course session)
 
 -- a turn leaves all chips attached
-pub stays_attached : {W : Type 0} (model : FaultModel W) (boot : Boot) (uncut : boot.cut ≡ None) (sizes : Command → Geometry) (course : Course W) (session : ℕ)
+pub stays_attached : {W : Type 0} (model : FaultModel W) (boot : Boot) (sizes : Command → Geometry) (course : Course W) (session : ℕ)
     → unattached course ≡ None → unattached (turn_step model boot sizes course session) ≡ None
-stays_attached model boot uncut sizes course session h = none_unattached (turn_step model boot sizes course session)
-    (turn_known model boot uncut sizes course (all_known course h) session)
+stays_attached model boot sizes course session h = none_unattached (turn_step model boot sizes course session)
+    (turn_known model boot sizes course (all_known course h) session)

@@ -1,8 +1,6 @@
 -- What is left of a course that is over, by what its controller keeps.
 use Rattle.std.proofs.Common.{◌≡◌, ◌<◌, ◌≤◌, ◌+◌, arith, ℕ, zero, suc, Bool, true, false, not, ◌&&◌, ◌||◌, List, [], ◌∷◌, ◌++◌, length, map, take, Option, Some, None, refl, ap, sym, ◌∙◌, get_or, add-one, cond}
 use Rattle.std.specs.Prelude.{slice_get, find, option_map, ◌==◌, All, sum_by, is_some}
-use Rattle.std.specs.List.{list_all}
-use Rattle.std.proofs.lemmas.Bool.{and_parts}
 use Rattle.std.proofs.lemmas.List.{take_more}
 use Rattle.std.proofs.lemmas.List.Sums.{sum_by-cons, sum_by_push}
 use Rattle.std.proofs.lemmas.Option.{slice_get_within, slice_get-map, slice_get-get_or}
@@ -19,25 +17,22 @@ use Rattle.nand_model.specs.Partitions.{Partitions, chip_of}
 use Rattle.chip_paths.specs.Operation.{Known}
 use Rattle.chip_paths.specs.ChipRun.{ChipRun, Pending, bad_blocks, bad_blocks_in}
 use Rattle.nand_model.proofs.Bounds.{bounds_of}
-use Rattle.command_model.specs.Session.{SessionRun, is_finished, next_op_of}
-use Rattle.run_model.specs.Course.{end_states, is_over}
+use Rattle.command_model.specs.Session.{SessionRun, is_finished}
+use Rattle.run_model.specs.Course.{end_states}
 use Rattle.session_steps.specs.declared.session.Session.{Session}
-use Rattle.session_steps.specs.Standing.{standing, end_of}
+use Rattle.session_steps.specs.Standing.{standing}
 use Rattle.chip_paths.proofs.Tables.{one_table}
 use Rattle.chip_paths.specs.Stage.{stage_by, stage_statistics, stage_table}
 use Rattle.ctl_core.specs.declared.board.Board.{Board}
 use Rattle.ctl_core.specs.SlotState.{SlotState, slot_as, slots_as}
 use Rattle.ctl_core.specs.Past.{Past, starts_of, sizes_in, course_of}
 use Rattle.run_model.specs.Start.{IsOnChip}
-use Rattle.ctl_core.specs.Ended.{ends_beside, end_of_run, all_bad_blocks, slot_flash, slot_statistics_on, slot_statistics_at, slot_statistics, slot_bad_blocks}
+use Rattle.ctl_core.specs.Ended.{end_beside, ends_beside, end_of_run, all_bad_blocks, slot_flash, slot_statistics_on, slot_statistics_at, slot_statistics, slot_bad_blocks}
 use Rattle.run_model.specs.Statistics.{statistics_known, statistics_on, statistics_at, device_numbers, device_statistics}
 use Rattle.ctl_core.specs.Board.{slot_states, IsOnCourse}
 use Rattle.ctl_core.proofs.Places.{item_at}
-use Rattle.ctl_core.proofs.Sessions.{one_number_each}
 use Rattle.ctl_core.proofs.Devices.{all_at, chip_stays}
-use Rattle.ctl_core.proofs.FirstAndLast.{true_at}
 use Rattle.ctl_core.proofs.OnCourse.{holds, slot_there}
-use Rattle.run_laws.proofs.Pending.{pending_is_next}
 
 -- the numbers from one on, and one more
 pub one_number_more : (a n : ℕ) → numbers_from a (n + 1) ≡ numbers_from a n ++ (a + n) ∷ []
@@ -96,33 +91,18 @@ statistics_kept {W} partitions chips k dev = ap (λ (o : Option (SlotState W)). 
     by_place None = refl
     by_place (Some c) = statistics_by partitions c c.known c.pending dev
 
-over_parts : (dark known done : Bool) → dark ≡ false → (dark || (known && done)) ≡ true → (known ≡ true) × (done ≡ true)
-over_parts true known done d h = cc
-over_parts false true true d h = (refl, refl)
-over_parts false true false d h = cc
-over_parts false false done d h = cc
-
--- a session that is found passes each test that all pass
-found_passes : (test is_it : SessionRun → Bool) (xs : List SessionRun) (x : SessionRun) → list_all test xs ≡ true → find is_it xs ≡ Some x → test x ≡ true
-found_passes test is_it [] x h g = cc
-found_passes test is_it (y ∷ ys) x h g = by_test (is_it y) g (found_passes test is_it ys x (and_parts (test y) _ h).1)
-  where
-    by_test : (b : Bool) → cond b (Some y) (find is_it ys) ≡ Some x → (find is_it ys ≡ Some x → test x ≡ true) → test x ≡ true
-    by_test true e later = let same : y ≡ x = cc in ap test (sym same) ∙ (and_parts _ _ h).0
-    by_test false e later = later e
-
 -- sessions that ended each as the one at its place ended alike
 ends_alike : (begun : List (ℕ × List Command)) (notes : List Note) (sessions : List Session) (runs : List SessionRun) → length sessions ≡ length begun
     → length runs ≡ length begun
     → ((i : ℕ) (own : ℕ × List Command) (s : Session) (run : SessionRun) → slice_get begun i ≡ Some own → slice_get sessions i ≡ Some s
-    → slice_get runs i ≡ Some run → end_of own.1 false (standing notes s) ≡ end_of_run run)
+    → slice_get runs i ≡ Some run → end_beside own.1 (standing notes s) ≡ end_of_run run)
     → ends_beside begun notes sessions ≡ map end_of_run runs
 ends_alike [] notes sessions [] many runs_many same = refl
 ends_alike [] notes sessions (run ∷ runs) many runs_many same = absurd (omega arith)
 ends_alike (own ∷ begun) notes [] runs many runs_many same = absurd (omega arith)
 ends_alike (own ∷ begun) notes (s ∷ sessions) [] many runs_many same = absurd (omega arith)
 ends_alike (own ∷ begun) notes (s ∷ sessions) (run ∷ runs) many runs_many same =
-    let first : end_of own.1 false (standing notes s) ≡ end_of_run run = same 0 own s run refl refl refl in
+    let first : end_beside own.1 (standing notes s) ≡ end_of_run run = same 0 own s run refl refl refl in
     let rest : ends_beside begun notes sessions ≡ map end_of_run runs =
     ends_alike begun notes sessions runs (omega (arith, many)) (omega (arith, runs_many)) (λ i. same (suc i)) in
     λ d. first d ∷ rest d
@@ -135,14 +115,14 @@ ends_none (own ∷ begun) notes = refl
 -- one more session ends
 pub ends_push : (begun : List (ℕ × List Command)) (notes : List Note) (sessions : List Session) (s : Session) (commands : List Command)
     → option_map (λ (x : ℕ × List Command). x.1) (slice_get begun (length sessions)) ≡ Some commands
-    → ends_beside begun notes (sessions ++ s ∷ []) ≡ ends_beside begun notes sessions ++ end_of commands false (standing notes s) ∷ []
+    → ends_beside begun notes (sessions ++ s ∷ []) ≡ ends_beside begun notes sessions ++ end_beside commands (standing notes s) ∷ []
 ends_push [] notes sessions s commands here = cc
 ends_push (own ∷ begun) notes [] s commands here =
     let own_first : Some own.1 ≡ Some commands = here in
     let same : own.1 ≡ commands = cc in
-    ap (λ ends. end_of own.1 false (standing notes s) ∷ ends) (ends_none begun notes) ∙ ap (λ commands. end_of commands false (standing notes s) ∷ []) same
+    ap (λ ends. end_beside own.1 (standing notes s) ∷ ends) (ends_none begun notes) ∙ ap (λ commands. end_beside commands (standing notes s) ∷ []) same
 ends_push (own ∷ begun) notes (first ∷ sessions) s commands here =
-    ap (λ ends. end_of own.1 false (standing notes first) ∷ ends) (ends_push begun notes sessions s commands here)
+    ap (λ ends. end_beside own.1 (standing notes first) ∷ ends) (ends_push begun notes sessions s commands here)
 
 module _ {F C : Type 0} {flash : Ghosts F} (past : Past F) (board : Board F C flash) (on : IsOnCourse past board) where
   -- the parts lie on chips that are there
@@ -158,28 +138,17 @@ module _ {F C : Type 0} {flash : Ghosts F} (past : Past F) (board : Board F C fl
   pub last_states : map slot_flash (slot_states board) ≡ end_states (course_of flash.fault_model flash.state past)
   last_states = ap (map slot_flash) on.stands.keeps.of_chips ∙ states_kept past.boot.partitions (course_of flash.fault_model flash.state past).chips
 
-  -- where all is over, each session is finished
-  each_finished : is_over (course_of flash.fault_model flash.state past) ≡ true → (i : ℕ) (run : SessionRun)
-      → slice_get (course_of flash.fault_model flash.state past).sessions i ≡ Some run
-      → is_finished run.commands ≡ true
-  each_finished over i run there =
-      true_at (λ (s : SessionRun). is_finished s.commands) (course_of flash.fault_model flash.state past).sessions i run
-      (over_parts (course_of flash.fault_model flash.state past).dark (list_all (λ (d : ChipRun flash.FaultState). is_some d.known)
-      (course_of flash.fault_model flash.state past).chips)
-      (list_all (λ (s : SessionRun). is_finished s.commands) (course_of flash.fault_model flash.state past).sessions) on.stands.keeps.lit over).1 there
-
-  pub last_outcomes : is_over (course_of flash.fault_model flash.state past) ≡ true
-      → ends_beside past.boot.sessions board.notes.notes board.sessions.items ≡ map end_of_run (course_of flash.fault_model flash.state past).sessions
-  last_outcomes over = ends_alike past.boot.sessions board.notes.notes board.sessions.items
+  pub last_outcomes : ends_beside past.boot.sessions board.notes.notes board.sessions.items ≡ map end_of_run (course_of flash.fault_model flash.state past).sessions
+  last_outcomes = ends_alike past.boot.sessions board.notes.notes board.sessions.items
       (course_of flash.fault_model flash.state past).sessions on.stands.mirrors.many on.stands.mirrors.runs_many same_end
     where
       same_end : (i : ℕ) (own : ℕ × List Command) (s : Session) (run : SessionRun) → slice_get past.boot.sessions i ≡ Some own
           → slice_get board.sessions.items i ≡ Some s
           → slice_get (course_of flash.fault_model flash.state past).sessions i ≡ Some run
-          → end_of own.1 false (standing board.notes.notes s) ≡ end_of_run run
+          → end_beside own.1 (standing board.notes.notes s) ≡ end_of_run run
       same_end i own s run begun at there =
           let m = (on.stands.mirrors.each i own s run begun at there).1 in
-          λ d. record { session = sym m.shows.number d; cut = not (sym (each_finished over i run there) d); outcomes = sym m.shows.outcomes d }
+          λ d. record { session = sym m.shows.number d; cut = not (is_finished (sym m.shows.left d)); outcomes = sym m.shows.outcomes d }
 
   pub last_statistics : slot_statistics past.boot.partitions (slot_states board) (device_numbers past.boot.partitions)
       ≡ device_statistics past.boot.partitions (course_of flash.fault_model flash.state past)
@@ -213,37 +182,9 @@ module _ {F C : Type 0} {flash : Ghosts F} (past : Past F) (board : Board F C fl
                 (chip_of past.boot.partitions z) z,
           )) same
 
-  -- nothing is pending where all is over
-  none_pending : is_over (course_of flash.fault_model flash.state past) ≡ true → (k : ℕ) (c : ChipRun flash.FaultState)
-      → slice_get (course_of flash.fault_model flash.state past).chips k ≡ Some c
-      → (is_some c.known ≡ true) × (c.pending ≡ None)
-  none_pending over k c at =
-      let parts = over_parts (course_of flash.fault_model flash.state past).dark (list_all (λ (d : ChipRun flash.FaultState). is_some d.known)
-      (course_of flash.fault_model flash.state past).chips)
-      (list_all (λ (s : SessionRun). is_finished s.commands) (course_of flash.fault_model flash.state past).sessions) on.stands.keeps.lit over in (
-        true_at (λ (d : ChipRun flash.FaultState). is_some d.known) (course_of flash.fault_model flash.state past).chips k c parts.0 at,
-        by_pending parts.1
-            c.pending refl,
-      )
-    where
-      no_op : (replies : List Reply) (op : Op) (cs : List Command) → is_finished cs ≡ true → next_op_of (sizes_in flash.state past) cs replies ≡ Some op → ⊥
-      no_op replies op [] h e = cc
-      no_op replies op (command ∷ rest) h e = cc
-
-      by_pending : list_all (λ (s : SessionRun). is_finished s.commands) (course_of flash.fault_model flash.state past).sessions ≡ true → (p : Option Pending)
-          → c.pending ≡ p → c.pending ≡ None
-      by_pending done None h = h
-      by_pending done (Some pending) h =
-          let n = pending_is_next flash.fault_model past.boot (starts_of flash.state past) (course_of flash.fault_model flash.state past) on.stands.keeps.lit
-          (holds past board on)
-          (one_number_each past.boot.sessions on.conditions.ascending) k pending.session c pending at h refl in
-          absurd (no_op n.0.replies pending.op n.0.commands
-          (found_passes (λ (s : SessionRun). is_finished s.commands) (λ (s : SessionRun). s.number == pending.session)
-          (course_of flash.fault_model flash.state past).sessions n.0 done n.1) n.2)
-
-  pub last_bad : is_over (course_of flash.fault_model flash.state past) ≡ true → sum_by slot_bad_blocks (slot_states board)
+  pub last_bad : sum_by slot_bad_blocks (slot_states board)
       ≡ all_bad_blocks past.boot.partitions (course_of flash.fault_model flash.state past)
-  last_bad over =
+  last_bad =
       ap (sum_by slot_bad_blocks) on.stands.keeps.of_chips
       ∙ same_sums (slot_as past.boot.partitions) slot_bad_blocks (λ (c : ChipRun flash.FaultState). bad_blocks past.boot.partitions c)
       (course_of flash.fault_model flash.state past).chips same_bad

@@ -7,6 +7,7 @@ pub mod Flipped
 pub mod Turns
 pub mod FlipSteps
 pub mod Slots
+mod Torn
 pub mod Devices
 pub mod OnCourse
 pub mod BoardSteps

@@ -120,8 +120,8 @@ module _ {F C : Type 0} {flash : Ghosts F} (past : Past F) (board : Board F C fl
       )
 
   pub attached_there : unattached (course_of flash.fault_model flash.state past) ≡ first_attaching (slot_states board)
-  attached_there = unattached_there flash.fault_model past.boot on.conditions.uncut (starts_of flash.state past)
-      (course_of flash.fault_model flash.state past) (slot_states board) board.events board.notes.notes board.sessions.items on.stands
+  attached_there = unattached_there flash.fault_model past.boot (starts_of flash.state past)
+      (course_of flash.fault_model flash.state past) (slot_states board) board.events board.dark board.notes.notes board.sessions.items on.stands
 
   -- a session of the boot is found
   pub place_there : (session : ℕ) → HasSession past.boot session → position (λ (s : Session). number_of s == session) board.sessions.items ≡ None → ⊥
@@ -135,38 +135,39 @@ module _ {F C : Type 0} {flash : Ghosts F} (past : Past F) (board : Board F C fl
       let no : (number_of s.0 == session) ≡ false = position_none (λ (x : Session). number_of x == session) board.sessions.items none has.0 s.0 s.1 in
       cc (yes, no)
 
-  pub at_turn : (session place : ℕ) → unattached (course_of flash.fault_model flash.state past) ≡ None
+  pub at_turn : (lit : board.dark ≡ false) (session place : ℕ) → unattached (course_of flash.fault_model flash.state past) ≡ None
       → position (λ (s : Session). number_of s == session) board.sessions.items ≡ Some place → (place < length board.sessions.items)
       × IsAtTurn past session place board
-  at_turn session place attached here =
+  at_turn lit session place attached here =
       let s = position_is (λ (x : Session). number_of x == session) board.sessions.items place here in (
         slice_get_within board.sessions.items place s.0 s.1,
         record {
           on_course = on;
+          lit = lit;
           attached = sym attached_there ∙ attached;
           own = ap (option_map number_of) s.1 ∙ ap Some (eqb-true _ _ s.2);
         },
       )
 
   -- the chip that a session holds is at work
-  pub held_works : (session k : ℕ) → first_held_by session (slot_states board) ≡ Some k
+  pub held_works : (lit : board.dark ≡ false) (session k : ℕ) → first_held_by session (slot_states board) ≡ Some k
       → option_map (λ (c : SlotState flash.FaultState). is_working c.stage) (slice_get (slot_states board) k) ≡ Some true
-  held_works session k h =
+  held_works lit session k h =
       let x = position_is (λ (y : SlotState flash.FaultState). is_held_by session y.holder) (slot_states board) k h in
-      let holder = found_held flash.fault_model past.boot on.conditions.uncut (starts_of flash.state past) (course_of flash.fault_model flash.state past)
-      (slot_states board) board.events board.notes.notes board.sessions.items on.stands
+      let holder = found_held flash.fault_model past.boot (starts_of flash.state past) (course_of flash.fault_model flash.state past)
+      (slot_states board) board.events board.dark board.notes.notes board.sessions.items on.stands lit
       on.conditions.ascending (holds past board on) session k x.0 h x.1 in
-      let c = chip_there flash.fault_model past.boot on.conditions.uncut (starts_of flash.state past) (course_of flash.fault_model flash.state past)
-      (slot_states board) board.events board.notes.notes board.sessions.items on.stands k x.0 x.1 in
+      let c = chip_there flash.fault_model past.boot (starts_of flash.state past) (course_of flash.fault_model flash.state past)
+      (slot_states board) board.events board.dark board.notes.notes board.sessions.items on.stands k x.0 x.1 in
       ap (option_map (λ (y : SlotState flash.FaultState). is_working y.stage)) x.1
       ∙ ap Some (ap (λ (y : SlotState flash.FaultState). is_working y.stage) (sym c.2)
       ∙ working_by past.boot.partitions c.0 c.0.known c.0.pending session (ap (λ (y : SlotState flash.FaultState). y.holder) c.2 ∙ holder))
 
   -- in its slot
-  pub held_slot : (session k : ℕ) (slot : Slot F C flash) → first_held_by session (slot_states board) ≡ Some k → slot ≡ get_or board.slots.items k slot
+  pub held_slot : (lit : board.dark ≡ false) (session k : ℕ) (slot : Slot F C flash) → first_held_by session (slot_states board) ≡ Some k → slot ≡ get_or board.slots.items k slot
       → (x : SlotState flash.FaultState) × (slice_get (slot_states board) k ≡ Some x) × (slot_state slot ≡ x) × (is_working x.stage ≡ true)
-  held_slot session k slot h is =
-      let x = mapped_some (λ (y : SlotState flash.FaultState). is_working y.stage) (slice_get (slot_states board) k) true (held_works session k h) in
+  held_slot lit session k slot h is =
+      let x = mapped_some (λ (y : SlotState flash.FaultState). is_working y.stage) (slice_get (slot_states board) k) true (held_works lit session k h) in
       let here = kept_at slot_state board.slots.items k slot x.0 is x.1 in
       (x.0, x.1, here.1, x.2)
 

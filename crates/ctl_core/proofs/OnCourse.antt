@@ -1,6 +1,6 @@
 -- What a board that stands on its course knows, and what a step makes of it.
-use Rattle.std.proofs.Common.{◌≡◌, ◌<◌, ◌+◌, arith, ℕ, zero, suc, true, false, List, [], ◌∷◌, ◌++◌, length, Option, Some, None, Result, Ok, Err, OnErr, Bor, refl, ap, sym, ◌∙◌, subst, get_or}
-use Rattle.std.specs.Prelude.{slice_get, option_copied, All, map, option_map, option_and_then, IsSome, is_none}
+use Rattle.std.proofs.Common.{◌≡◌, ◌<◌, ◌+◌, arith, ℕ, zero, suc, true, false, List, [], ◌∷◌, ◌++◌, length, Option, Some, None, Result, Ok, Err, OnErr, Bor, refl, ap, sym, ◌∙◌, subst, subst₂, get_or}
+use Rattle.std.specs.Prelude.{slice_get, option_copied, All, map, option_map, option_and_then, IsSome, is_none, is_some}
 use Rattle.std.proofs.Math.ListN.{set}
 use Rattle.std.proofs.lemmas.Option.{slice_get_within, get_or_from_slice_get}
 use Rattle.nand_model.specs.Flips.{FitsBits}
@@ -15,7 +15,8 @@ use Rattle.nand_model.specs.Path.{Path, Over, Then, first_event, result_of}
 use Rattle.nand_model.specs.Partitions.{Partitions, part_of, device_of, chip_of, chip_of_part, command_device}
 use Rattle.chip_paths.specs.Operation.{Finished}
 use Rattle.chip_paths.specs.ChipRun.{ChipRun, Pending}
-use Rattle.run_model.specs.Course.{Course, session_run, pending_chip, can_begin, is_free_at, is_free, is_idle}
+use Rattle.nand_model.specs.declared.words.CutAt.{CutAt}
+use Rattle.run_model.specs.Course.{Course, tear_at, session_run, pending_chip, can_begin, is_free_at, is_free, is_idle}
 use Rattle.command_model.specs.Session.{SessionRun, next_op, next_op_of, is_finished}
 use Rattle.command_model.specs.Boot.{change_at}
 use Rattle.run_laws.proofs.Courses.{Holds}
@@ -27,14 +28,14 @@ use Rattle.session_steps.specs.declared.session.Session.{Session}
 use Rattle.session_steps.specs.Standing.{number_of, standing, outcomes_by, commands_by, First}
 use Rattle.session_steps.proofs.TakenOps.{next_taken}
 use Rattle.command_model.specs.Taken.{IsTaken}
-use Rattle.chip_paths.specs.Stage.{Stage, Attaches, Rests, Works, failure_told, stage_event, finished_in, is_working, is_resting, stage_by}
+use Rattle.chip_paths.specs.Stage.{Stage, Attaches, Rests, Works, stage_event, finished_in, is_working, is_resting, stage_by}
 use Rattle.chip_core.specs.Chip.{chip_stage}
 use Rattle.ctl_core.specs.declared.turn.Turn.TheVariants.{Did, Held, Done}
 use Rattle.ctl_core.specs.declared.board.Board.{Board}
 use Rattle.ctl_core.specs.declared.board.Slot.{Slot}
-use Rattle.ctl_core.specs.SlotState.{SlotState, slot_as, first_attaching, first_held_by, is_held_by, after_event, with_note_written, failure_notes, pending_notes}
+use Rattle.ctl_core.specs.SlotState.{SlotState, slot_as, first_attaching, first_held_by, is_held_by, slot_after, notes_after}
 use Rattle.ctl_core.specs.Past.{Past, starts_of, sizes_in, course_of, next_course, is_done, has_no_command, session_of, session_on, session_at}
-use Rattle.ctl_core.specs.Answer.{next_chip, held_unless_pending, held_by, held_or_did, done_if, turn_answer}
+use Rattle.ctl_core.specs.Answer.{next_chip, held_unless_pending, held_by, held_or_did, dark_if, done_if, turn_answer}
 use Rattle.ctl_core.specs.Board.{slot_state, slot_states, StandsAt, StandsAlike, IsOnCourse, IsAtTurn, DidEvent}
 use Rattle.ctl_core.specs.Flips.{CanFlip, slot_flips_before}
 use Rattle.ctl_core.proofs.Places.{item_at}
@@ -130,53 +131,55 @@ module _ {F C : Type 0} {flash : Ghosts F} (past : Past F) (board : Board F C fl
       (slot_as past.boot.partitions stays.0, there.0, subst (λ g. FitsBits g flip.page flip.bits) (sym stays.2) start.2)
 
   -- a step that does an event
-  stands_event : (session k : ℕ) (x y : SlotState flash.FaultState) (e : PageEvent) (new : Board F C flash) → first_attaching (slot_states board) ≡ None
+  stands_event : (lit : board.dark ≡ false) (session k : ℕ) (x y : SlotState flash.FaultState) (e : PageEvent) (new : Board F C flash)
+      → first_attaching (slot_states board) ≡ None
       → first_held_by session (slot_states board) ≡ Some k → slice_get (slot_states board) k ≡ Some x → stage_event x.stage ≡ Some e
       → slice_get (slot_flips_before flash.fault_model past.boot.flips (board.events + 1) (slot_states board)) k ≡ Some y
-      → DidEvent past.boot.flips k y e board new
+      → DidEvent past.boot.flips past.boot.cut k y e board new
       → StandsAt past (next_course flash.fault_model flash.state past session) new
-  stands_event session k x y e new attached held at has flipped did =
+  stands_event lit session k x y e new attached held at has flipped did =
+      let tear = tear_at past.boot.cut (board.events + 1) in
       follows_as past.boot (starts_of flash.state past) (next_course flash.fault_model flash.state past session)
       (change_at (slot_flips_before flash.fault_model past.boot.flips (board.events + 1) (slot_states board)) k
-      (λ z. with_note_written (after_event flash.fault_model e z))) (slot_states new) (board.events + 1) new.events
-      (board.notes.notes ++ failure_notes k (board.events + 1) e (failure_told flash.fault_model y.state e) ++ pending_notes k
-      (after_event flash.fault_model e y).pending_note) new.notes.notes
-      board.sessions.items new.sessions.items did.chips did.events did.notes did.sessions
-      (follows_turn_event flash.fault_model past.boot on.conditions.uncut (starts_of flash.state past) (course_of flash.fault_model flash.state past)
-      (slot_states board) board.events board.notes.notes board.sessions.items
-      on.stands session k x y e attached held at has flipped)
+      (slot_after flash.fault_model e tear)) (slot_states new) (board.events + 1) new.events (is_some tear) new.dark
+      (notes_after flash.fault_model k (board.events + 1) e tear y board.notes.notes) new.notes.notes
+      board.sessions.items new.sessions.items did.chips did.events did.dark did.notes did.sessions
+      (follows_turn_event flash.fault_model past.boot (starts_of flash.state past) (course_of flash.fault_model flash.state past)
+      (slot_states board) board.events board.dark board.notes.notes board.sessions.items
+      on.stands lit session k x y e attached held at has flipped)
 
-  pub stands_now : (session k : ℕ) (x : SlotState flash.FaultState) (e : PageEvent) (new : Board F C flash) → first_attaching (slot_states board) ≡ None
-      → first_held_by session (slot_states board) ≡ Some k → slice_get (slot_states board) k ≡ Some x → stage_event x.stage ≡ Some e → (flips : List Flip)
-      → flips ≡ past.boot.flips
+  pub stands_now : (lit : board.dark ≡ false) (session k : ℕ) (x : SlotState flash.FaultState) (e : PageEvent) (new : Board F C flash)
+      → first_attaching (slot_states board) ≡ None
+      → first_held_by session (slot_states board) ≡ Some k → slice_get (slot_states board) k ≡ Some x → stage_event x.stage ≡ Some e
+      → (flips : List Flip) (cut : Option CutAt) → flips ≡ past.boot.flips → cut ≡ past.boot.cut
       → ((y : SlotState flash.FaultState) (e : PageEvent) → slice_get (slot_flips_before flash.fault_model flips (board.events + 1) (slot_states board)) k
       ≡ Some y → stage_event y.stage ≡ Some e
-      → DidEvent flips k y e board new)
+      → DidEvent flips cut k y e board new)
       → StandsAt past (next_course flash.fault_model flash.state past session) new
-  stands_now session k x e new attached held at has flips same did =
+  stands_now lit session k x e new attached held at has flips cut same same_cut did =
       let flipped = flipped_at flash.fault_model past.boot.flips (board.events + 1) (slot_states board) k x at in
-      let now = subst (λ fs. (y : SlotState flash.FaultState) (e : PageEvent) → slice_get
+      let now = subst₂ (λ fs o. (y : SlotState flash.FaultState) (e : PageEvent) → slice_get
       (slot_flips_before flash.fault_model fs (board.events + 1) (slot_states board)) k ≡ Some y
-      → stage_event y.stage ≡ Some e → DidEvent fs k y e board new) same did in
-      stands_event session k x flipped.0 e new attached held at has flipped.1 (now flipped.0 e flipped.1 (ap stage_event flipped.2.stage ∙ has))
+      → stage_event y.stage ≡ Some e → DidEvent fs o k y e board new) same same_cut did in
+      stands_event lit session k x flipped.0 e new attached held at has flipped.1 (now flipped.0 e flipped.1 (ap stage_event flipped.2.stage ∙ has))
 
   -- a board that differs in its room stands where it stood
   pub stands_alike : (course : Course flash.FaultState) (new : Board F C flash) → StandsAt past course board → StandsAlike board new → StandsAt past course new
   stands_alike course new stands alike =
-      follows_as past.boot (starts_of flash.state past) course (slot_states board) (slot_states new) board.events new.events board.notes.notes new.notes.notes
-      board.sessions.items new.sessions.items
-      alike.chips alike.events alike.notes alike.sessions stands
+      follows_as past.boot (starts_of flash.state past) course (slot_states board) (slot_states new) board.events new.events board.dark new.dark
+      board.notes.notes new.notes.notes board.sessions.items new.sessions.items
+      alike.chips alike.events alike.dark alike.notes alike.sessions stands
 
   -- a session that holds a chip has commands left
-  pub held_not_done : (session k : ℕ) → first_held_by session (slot_states board) ≡ Some k → is_done (course_of flash.fault_model flash.state past) session
+  pub held_not_done : (lit : board.dark ≡ false) (session k : ℕ) → first_held_by session (slot_states board) ≡ Some k → is_done (course_of flash.fault_model flash.state past) session
       ≡ false
-  held_not_done session k h =
+  held_not_done lit session k h =
       let x = position_is (λ (y : SlotState flash.FaultState). is_held_by session y.holder) (slot_states board) k h in
-      let holder = found_held flash.fault_model past.boot on.conditions.uncut (starts_of flash.state past) (course_of flash.fault_model flash.state past)
-      (slot_states board) board.events board.notes.notes board.sessions.items on.stands
+      let holder = found_held flash.fault_model past.boot (starts_of flash.state past) (course_of flash.fault_model flash.state past)
+      (slot_states board) board.events board.dark board.notes.notes board.sessions.items on.stands lit
       on.conditions.ascending holds session k x.0 h x.1 in
-      let n = held_next flash.fault_model past.boot on.conditions.uncut (starts_of flash.state past) (course_of flash.fault_model flash.state past)
-      (slot_states board) board.events board.notes.notes board.sessions.items on.stands
+      let n = held_next flash.fault_model past.boot (starts_of flash.state past) (course_of flash.fault_model flash.state past)
+      (slot_states board) board.events board.dark board.notes.notes board.sessions.items on.stands lit
       on.conditions.ascending holds k session x.0 x.1 holder in
       ap has_no_command n.2 ∙ asks_on n.0.replies n.1 n.0.commands n.3
     where
@@ -298,38 +301,43 @@ module _ {F C : Type 0} {flash : Ghosts F} (past : Past F) (board : Board F C fl
         → option_copied lent ≡ part_of partitions dev → option_copied lent ≡ Some first.is_ready.part
     part_next command first partitions dev lent p d copied = copied ∙ (λ i. part_of (p i) (d i)) ∙ first.is_ready.part_is
 
+  -- its course is not dark
+  lit_course : (course_of flash.fault_model flash.state past).dark ≡ false
+  lit_course = sym turn.on_course.stands.keeps.of_dark ∙ turn.lit
+
   -- the answers of a turn
   pub answers_done : is_done (course_of flash.fault_model flash.state past) session ≡ true
       → Done ≡ turn_answer past.boot.partitions (sizes_in flash.state past) (course_of flash.fault_model flash.state past) session
-  answers_done h = sym (ap (λ b. done_if b (held_or_did (held_by past.boot.partitions (sizes_in flash.state past)
-      (course_of flash.fault_model flash.state past) session))) h)
+  answers_done h = sym (λ d. dark_if (lit_course d) (done_if (h d) (held_or_did (held_by past.boot.partitions (sizes_in flash.state past)
+      (course_of flash.fault_model flash.state past) session))))
 
   answers_else : (p : Option ℕ) (k : Option ℕ) → is_done (course_of flash.fault_model flash.state past) session ≡ false
       → pending_chip (course_of flash.fault_model flash.state past) session ≡ p
       → next_chip past.boot.partitions (sizes_in flash.state past) (course_of flash.fault_model flash.state past) session ≡ k
       → held_or_did (held_unless_pending (course_of flash.fault_model flash.state past) p k)
       ≡ turn_answer past.boot.partitions (sizes_in flash.state past) (course_of flash.fault_model flash.state past) session
-  answers_else p k h i j = sym ((λ d. done_if (h d) (held_or_did (held_unless_pending (course_of flash.fault_model flash.state past) (i d) (j d)))))
+  answers_else p k h i j = sym ((λ d. dark_if (lit_course d) (done_if (h d) (held_or_did (held_unless_pending
+      (course_of flash.fault_model flash.state past) (i d) (j d))))))
 
   pending_is_none : first_held_by session (slot_states board) ≡ None → pending_chip (course_of flash.fault_model flash.state past) session ≡ None
-  pending_is_none h = pending_there flash.fault_model past.boot turn.on_course.conditions.uncut (starts_of flash.state past)
-      (course_of flash.fault_model flash.state past) (slot_states board) board.events board.notes.notes board.sessions.items
+  pending_is_none h = pending_there flash.fault_model past.boot (starts_of flash.state past)
+      (course_of flash.fault_model flash.state past) (slot_states board) board.events board.dark board.notes.notes board.sessions.items
       turn.on_course.stands session turn.attached ∙ h
 
   pub answers_did_pending : (k : ℕ) → is_done (course_of flash.fault_model flash.state past) session ≡ false → first_held_by session (slot_states board) ≡ Some k
       → Did ≡ turn_answer past.boot.partitions (sizes_in flash.state past) (course_of flash.fault_model flash.state past) session
   answers_did_pending k h i = answers_else (Some k) (next_chip past.boot.partitions (sizes_in flash.state past) (course_of flash.fault_model flash.state past)
       session) h
-      (pending_there flash.fault_model past.boot turn.on_course.conditions.uncut (starts_of flash.state past) (course_of flash.fault_model flash.state past)
-      (slot_states board) board.events board.notes.notes board.sessions.items
+      (pending_there flash.fault_model past.boot (starts_of flash.state past) (course_of flash.fault_model flash.state past)
+      (slot_states board) board.events board.dark board.notes.notes board.sessions.items
       turn.on_course.stands session turn.attached ∙ i) refl
 
   -- a chip in a slot, as the course has it
   chip_of_slot : (k : ℕ) (slot : Slot F C flash) → slice_get board.slots.items k ≡ Some slot
       → (c : ChipRun flash.FaultState) × (slice_get (course_of flash.fault_model flash.state past).chips k ≡ Some c)
       × (slot_as past.boot.partitions c ≡ slot_state slot)
-  chip_of_slot k slot h = chip_there flash.fault_model past.boot turn.on_course.conditions.uncut (starts_of flash.state past)
-      (course_of flash.fault_model flash.state past) (slot_states board) board.events board.notes.notes board.sessions.items
+  chip_of_slot k slot h = chip_there flash.fault_model past.boot (starts_of flash.state past)
+      (course_of flash.fault_model flash.state past) (slot_states board) board.events board.dark board.notes.notes board.sessions.items
       turn.on_course.stands k (slot_state slot) (at_mapped slot_state board.slots.items k slot h)
 
   idle_where_blocked : first_held_by session (slot_states board) ≡ None
@@ -337,22 +345,22 @@ module _ {F C : Type 0} {flash : Ghosts F} (past : Past F) (board : Board F C fl
       (session_run (course_of flash.fault_model flash.state past) session)) ≡ false
       → is_idle past.boot.partitions (sizes_in flash.state past) (course_of flash.fault_model flash.state past) session ≡ true
   idle_where_blocked i blocked =
-      let attached = unattached_there flash.fault_model past.boot turn.on_course.conditions.uncut (starts_of flash.state past)
-      (course_of flash.fault_model flash.state past) (slot_states board) board.events board.notes.notes board.sessions.items
+      let attached = unattached_there flash.fault_model past.boot (starts_of flash.state past)
+      (course_of flash.fault_model flash.state past) (slot_states board) board.events board.dark board.notes.notes board.sessions.items
       turn.on_course.stands ∙ turn.attached in
-      idle_else flash.fault_model past.boot (sizes_in flash.state past) (course_of flash.fault_model flash.state past) session turn.on_course.stands.keeps.lit
+      idle_else flash.fault_model past.boot (sizes_in flash.state past) (course_of flash.fault_model flash.state past) session lit_course
       attached (pending_is_none i) blocked
 
   pub busy_pending : (k : ℕ) → first_held_by session (slot_states board) ≡ Some k → is_idle past.boot.partitions (sizes_in flash.state past)
       (course_of flash.fault_model flash.state past) session ≡ false
   busy_pending k h =
-      let attached = unattached_there flash.fault_model past.boot turn.on_course.conditions.uncut (starts_of flash.state past)
-      (course_of flash.fault_model flash.state past) (slot_states board) board.events board.notes.notes board.sessions.items
+      let attached = unattached_there flash.fault_model past.boot (starts_of flash.state past)
+      (course_of flash.fault_model flash.state past) (slot_states board) board.events board.dark board.notes.notes board.sessions.items
       turn.on_course.stands ∙ turn.attached in
       busy_where_pending flash.fault_model past.boot (sizes_in flash.state past) (course_of flash.fault_model flash.state past) session
-      turn.on_course.stands.keeps.lit attached k
-      (pending_there flash.fault_model past.boot turn.on_course.conditions.uncut (starts_of flash.state past) (course_of flash.fault_model flash.state past)
-      (slot_states board) board.events board.notes.notes board.sessions.items
+      lit_course attached k
+      (pending_there flash.fault_model past.boot (starts_of flash.state past) (course_of flash.fault_model flash.state past)
+      (slot_states board) board.events board.dark board.notes.notes board.sessions.items
       turn.on_course.stands session turn.attached ∙ h)
 
   -- nothing is done where the next operation cannot begin
@@ -365,18 +373,18 @@ module _ {F C : Type 0} {flash : Ghosts F} (past : Past F) (board : Board F C fl
       turn_is_idle_by : is_idle past.boot.partitions (sizes_in flash.state past) (course_of flash.fault_model flash.state past) session ≡ true
           → next_course flash.fault_model flash.state past session ≡ course_of flash.fault_model flash.state past
       turn_is_idle_by h =
-          let attached = unattached_there flash.fault_model past.boot turn.on_course.conditions.uncut (starts_of flash.state past)
-          (course_of flash.fault_model flash.state past) (slot_states board) board.events board.notes.notes board.sessions.items
+          let attached = unattached_there flash.fault_model past.boot (starts_of flash.state past)
+          (course_of flash.fault_model flash.state past) (slot_states board) board.events board.dark board.notes.notes board.sessions.items
           turn.on_course.stands ∙ turn.attached in
           turn_is_idle flash.fault_model past.boot (sizes_in flash.state past) (course_of flash.fault_model flash.state past) session
-          turn.on_course.stands.keeps.lit attached h
+          lit_course attached h
 
   -- a chip that no session holds is at rest
   pub rests_here : (k : ℕ) (slot : Slot F C flash) → slice_get board.slots.items k ≡ Some slot → slot.holder ≡ None → is_resting (chip_stage slot.chip) ≡ true
   rests_here k slot at holder =
       let c = chip_of_slot k slot at in
-      let attached = unattached_there flash.fault_model past.boot turn.on_course.conditions.uncut (starts_of flash.state past)
-      (course_of flash.fault_model flash.state past) (slot_states board) board.events board.notes.notes board.sessions.items
+      let attached = unattached_there flash.fault_model past.boot (starts_of flash.state past)
+      (course_of flash.fault_model flash.state past) (slot_states board) board.events board.dark board.notes.notes board.sessions.items
       turn.on_course.stands ∙ turn.attached in
       let known = position_none (λ (d : ChipRun flash.FaultState). is_none d.known) (course_of flash.fault_model flash.state past).chips attached k c.0 c.1 in
       let r = resting past.boot.partitions c.0 known (ap (λ (y : SlotState flash.FaultState). y.holder) c.2 ∙ holder) in
@@ -410,8 +418,8 @@ module _ {F C : Type 0} {flash : Ghosts F} (past : Past F) (board : Board F C fl
       × (is_idle past.boot.partitions (sizes_in flash.state past) (course_of flash.fault_model flash.state past) session ≡ false)
   answers_did_begin k slot h i j at holder =
       let c = chip_of_slot k slot at in
-      let attached = unattached_there flash.fault_model past.boot turn.on_course.conditions.uncut (starts_of flash.state past)
-      (course_of flash.fault_model flash.state past) (slot_states board) board.events board.notes.notes board.sessions.items
+      let attached = unattached_there flash.fault_model past.boot (starts_of flash.state past)
+      (course_of flash.fault_model flash.state past) (slot_states board) board.events board.dark board.notes.notes board.sessions.items
       turn.on_course.stands ∙ turn.attached in
       let known = position_none (λ (d : ChipRun flash.FaultState). is_none d.known) (course_of flash.fault_model flash.state past).chips attached k c.0 c.1 in
       let r = resting past.boot.partitions c.0 known (ap (λ (y : SlotState flash.FaultState). y.holder) c.2 ∙ holder) in
@@ -424,7 +432,7 @@ module _ {F C : Type 0} {flash : Ghosts F} (past : Past F) (board : Board F C fl
       ∙ ap (is_free_at (course_of flash.fault_model flash.state past)) op.2 ∙ ap is_free c.1 ∙ ap (λ (q : Option Pending). is_none q) r.2 in (
         ap held_or_did (sym found) ∙ answers_else None (Some k) h (pending_is_none i) j,
         busy_where_begins flash.fault_model past.boot (sizes_in flash.state past) (course_of flash.fault_model flash.state past) session
-            turn.on_course.stands.keeps.lit attached begins,
+            lit_course attached begins,
       )
 
   -- nothing is done where no command is left

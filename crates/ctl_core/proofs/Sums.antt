@@ -49,8 +49,8 @@ module _ {F C : Type 0} {flash : Ghosts F} (past : Past F) (board : Board F C fl
   -- the statistics of each device of a chip in a slot are small
   sums_small : (k : ℕ) (slot : Slot F C flash) → slice_get board.slots.items k ≡ Some slot → (dev : ℕ) → AreSmall (stage_statistics (slot_state slot).stage dev)
   sums_small k slot at dev =
-      let c = chip_there flash.fault_model past.boot on.conditions.uncut (starts_of flash.state past) (course_of flash.fault_model flash.state past)
-      (slot_states board) board.events board.notes.notes board.sessions.items
+      let c = chip_there flash.fault_model past.boot (starts_of flash.state past) (course_of flash.fault_model flash.state past)
+      (slot_states board) board.events board.dark board.notes.notes board.sessions.items
       on.stands k (slot_state slot) (at_mapped slot_state board.slots.items k slot at) in
       let same : statistics_known c.0.known dev ≡ stage_statistics (slot_state slot).stage dev =
       sym (statistics_by past.boot.partitions c.0 c.0.known c.0.pending dev) ∙ ap (λ (x : SlotState flash.FaultState). stage_statistics x.stage dev) c.2 in

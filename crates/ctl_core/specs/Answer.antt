@@ -4,7 +4,7 @@ use Rattle.nand_model.specs.Partitions.{Partitions, device_of, chip_of}
 use Rattle.nand_model.specs.declared.geometry.Geometry.{Geometry}
 use Rattle.nand_model.specs.declared.words.Command.{Command}
 use Rattle.nand_model.specs.declared.words.Op.{Op}
-use Rattle.run_model.specs.Course.{Course, session_run, pending_chip}
+use Rattle.run_model.specs.Course.{Course, session_run, pending_chip, unattached}
 use Rattle.command_model.specs.Session.{next_op}
 use Rattle.ctl_core.specs.declared.turn.Turn.{Turn}
 use Rattle.ctl_core.specs.declared.turn.Turn.TheVariants.{Did, Held, Done, Dark}
@@ -37,11 +37,16 @@ abbrev pub done_if : Bool → Turn → Turn
 done_if true turn = Done
 done_if false turn = turn
 
--- a turn of a session is answered Done where its commands are over, else Held where another session
--- holds it up, else Did
+-- a turn of a dark controller is dark
+abbrev pub dark_if : Bool → Turn → Turn
+dark_if true turn = Dark
+dark_if false turn = turn
+
+-- a turn of a session is answered Dark where the controller is dark, else Done where its commands
+-- are over, else Held where another session holds it up, else Did
 abbrev pub turn_answer : {W : Type 0} → Partitions → (Command → Geometry) → Course W → ℕ → Turn
 turn_answer partitions sizes course session =
-    done_if (is_done course session) (held_or_did (held_by partitions sizes course session))
+    dark_if course.dark (done_if (is_done course session) (held_or_did (held_by partitions sizes course session)))
 
 -- a turn that did something
 abbrev pub is_did : Turn → Bool
@@ -50,10 +55,15 @@ is_did (Held by) = false
 is_did Done = false
 is_did Dark = false
 
--- an attach turn is answered Did where a chip is not attached, else Done
-abbrev pub attach_answer : Option ℕ → Turn
-attach_answer None = Done
-attach_answer (Some k) = Did
+-- where no power has failed, an attach turn is answered Did where a chip is not attached, else Done
+abbrev pub did_if_some : Option ℕ → Turn
+did_if_some None = Done
+did_if_some (Some k) = Did
+
+-- an attach turn is answered Dark where the controller is dark, else Did where a chip is not
+-- attached, else Done
+abbrev pub attach_answer : {W : Type 0} → Course W → Turn
+attach_answer course = dark_if course.dark (did_if_some (unattached course))
 
 -- only a turn that answers Did makes anything of a controller: it is one more turn of the session
 abbrev pub after_turn : {F E : Type 0} → Result Turn E → ℕ → Past F → Past F

@@ -1,23 +1,24 @@
 -- What a controller keeps, as its course has it.
-use Rattle.std.specs.Prelude.{◌≡◌, ◌≤◌, ℕ, ◌+◌, ◌++◌, List, [], map, slice_get, Option, Some, None, option_map, option_and_then}
+use Rattle.std.specs.Prelude.{◌≡◌, ◌≤◌, ℕ, ◌+◌, List, [], false, map, slice_get, Option, Some, None, is_some, option_map, option_and_then}
 use Rattle.nand_iface.specs.declared.flash.Flash.{Ghosts}
 use Rattle.nand_model.specs.Chip.{PageEvent}
 use Rattle.nand_model.specs.declared.words.Flip.{Flip}
-use Rattle.run_model.specs.Course.{Course, unattached, course_after}
+use Rattle.nand_model.specs.declared.words.CutAt.{CutAt}
+use Rattle.run_model.specs.Course.{Course, unattached, course_after, tear_at}
 use Rattle.command_model.specs.Boot.{change_at}
 use Rattle.run_laws.specs.Turns.{busy_turns}
 use Rattle.chip_core.specs.Chip.{chip_state, chip_stage, chip_page_room, chip_bits, chip_pending_note}
-use Rattle.chip_paths.specs.Stage.{stage_event, finished_in, failure_told}
+use Rattle.chip_paths.specs.Stage.{stage_event, finished_in}
 use Rattle.chip_paths.specs.Operation.{Finished}
 use Rattle.session_steps.specs.Standing.{number_of}
 use Rattle.ctl_core.specs.declared.board.Slot.{Slot}
 use Rattle.ctl_core.specs.declared.board.Board.{Board}
 use Rattle.ctl_core.specs.declared.journal.Journal.{Journal}
-use Rattle.ctl_core.specs.SlotState.{SlotState, first_attaching, after_event, with_note_written, failure_notes, pending_notes}
+use Rattle.ctl_core.specs.SlotState.{SlotState, first_attaching, slot_after, notes_after}
 use Rattle.ctl_core.specs.Flips.{slot_flips_before}
 use Rattle.ctl_core.specs.Follows.{Follows}
 use Rattle.ctl_core.specs.Past.{Past, starts_of, course_of}
-use Rattle.run_model.specs.Start.{CanStart}
+use Rattle.ctl_core.specs.Start.{CanStart}
 
 -- a chip in its slot
 abbrev pub slot_state : {F C : Type 0} {flash : Ghosts F} → Slot F C flash → SlotState flash.FaultState
@@ -45,7 +46,7 @@ event_at {F} {C} {flash} board k = option_and_then (λ (c : SlotState flash.Faul
 -- a board stands where a course does
 abbrev pub StandsAt : {F C : Type 0} {flash : Ghosts F} → Past F → Course flash.FaultState → Board F C flash → Type 0
 StandsAt {F} {C} {flash} past course board =
-    Follows past.boot (starts_of flash.state past) course (slot_states board) board.events board.notes.notes
+    Follows past.boot (starts_of flash.state past) course (slot_states board) board.events board.dark board.notes.notes
     board.sessions.items
 
 -- what was done so far
@@ -72,21 +73,21 @@ pub record IsOnCourse {F C : Type 0} {flash : Ghosts F} (past : Past F) (board :
 pub record StandsAlike {F C : Type 0} {flash : Ghosts F} (old new : Board F C flash) : Type 0 where
   pub chips : slot_states new ≡ slot_states old
   pub events : new.events ≡ old.events
+  pub dark : new.dark ≡ old.dark
   pub notes : new.notes.notes ≡ old.notes.notes
   pub sessions : new.sessions.items ≡ old.sessions.items
 
 -- the flips that are due are made, and event e of chip k, which stood so after them, is done and
--- noted
-pub record DidEvent {F C : Type 0} {flash : Ghosts F} (flips : List Flip) (k : ℕ) (c : SlotState flash.FaultState)
-    (e : PageEvent) (old new : Board F C flash)
-    : Type 0 where
+-- noted; where the cut names it, it is torn, and the controller is dark
+pub record DidEvent {F C : Type 0} {flash : Ghosts F} (flips : List Flip) (cut : Option CutAt) (k : ℕ)
+    (c : SlotState flash.FaultState) (e : PageEvent) (old new : Board F C flash) : Type 0 where
   pub chips : slot_states new
       ≡ change_at (slot_flips_before flash.fault_model flips (old.events + 1) (slot_states old)) k
-      (λ x. with_note_written (after_event flash.fault_model e x))
+      (slot_after flash.fault_model e (tear_at cut (old.events + 1)))
   pub events : new.events ≡ old.events + 1
-  pub notes : new.notes.notes ≡ old.notes.notes
-      ++ failure_notes k (old.events + 1) e (failure_told flash.fault_model c.state e) ++ pending_notes k
-      (after_event flash.fault_model e c).pending_note
+  pub dark : new.dark ≡ is_some (tear_at cut (old.events + 1))
+  pub notes : new.notes.notes
+      ≡ notes_after flash.fault_model k (old.events + 1) e (tear_at cut (old.events + 1)) c old.notes.notes
   pub sessions : new.sessions.items ≡ old.sessions.items
 
 -- how the operation in flight on a chip has ended, where no event of it is left
@@ -94,9 +95,10 @@ abbrev pub finished_at : {F C : Type 0} {flash : Ghosts F} → Board F C flash �
 finished_at {F} {C} {flash} board k = option_and_then (λ (c : SlotState flash.FaultState). finished_in c.stage)
     (slice_get (slot_states board) k)
 
--- a board whose chips are all attached, with a session at its place
+-- a board that is not dark, whose chips are all attached, with a session at its place
 pub record IsAtTurn {F C : Type 0} {flash : Ghosts F} (past : Past F) (session place : ℕ) (board : Board F C flash) :
     Type 0 where
   pub on_course : IsOnCourse past board
+  pub lit : board.dark ≡ false
   pub attached : first_attaching (slot_states board) ≡ None
   pub own : option_map number_of (slice_get board.sessions.items place) ≡ Some session

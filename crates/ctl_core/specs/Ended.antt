@@ -1,8 +1,8 @@
 -- What a controller that is over leaves.
-use Rattle.std.specs.Prelude.{not, ℕ, List, [], ◌∷◌, false, map, sum_by, Option, Some, None, slice_get}
+use Rattle.std.specs.Prelude.{not, ℕ, List, [], ◌∷◌, map, sum_by, Option, Some, None, slice_get}
 use Rattle.command_model.specs.Session.{SessionRun, exchanges_of, is_finished, session_after}
 use Rattle.session_steps.specs.Ended.{EndOfSession}
-use Rattle.session_steps.specs.Standing.{end_of, standing}
+use Rattle.session_steps.specs.Standing.{Standing, commands_by, end_of, standing}
 use Rattle.session_steps.specs.declared.session.Session.{Session}
 use Rattle.nand_model.specs.Chip.{ChipState}
 use Rattle.command_model.specs.Boot.{Boot}
@@ -31,12 +31,16 @@ end_by_notes boot starts notes own = end_of_run
 abbrev pub ends_by_notes : {W : Type 0} → Boot → List (ChipState W) → List Note → List EndOfSession
 ends_by_notes boot starts notes = map (end_by_notes boot starts notes) boot.sessions
 
+-- how a session with these commands that stands so ended: cut short where one of them is left
+abbrev pub end_beside : List Command → Standing → EndOfSession
+end_beside commands st = end_of commands (not (is_finished (commands_by commands st))) st
+
 -- how sessions that stand so ended, each beside the commands of the boot's session at its place
 abbrev pub ends_beside : List (ℕ × List Command) → List Note → List Session → List EndOfSession
 ends_beside [] notes sessions = []
 ends_beside (own ∷ begun) notes [] = []
 ends_beside (own ∷ begun) notes (s ∷ sessions) =
-    end_of own.1 false (standing notes s) ∷ ends_beside begun notes sessions
+    end_beside own.1 (standing notes s) ∷ ends_beside begun notes sessions
 
 -- the bad blocks of all chips of a course
 abbrev pub all_bad_blocks : {W : Type 0} → Partitions → Course W → ℕ

@@ -1,12 +1,12 @@
 -- What a controller did so far in a boot, and the course that follows from it.
-use Rattle.std.specs.Prelude.{ℕ, ◌+◌, Bool, true, List, [], ◌∷◌, ◌++◌, map, slice_get, Option, Some, None}
+use Rattle.std.specs.Prelude.{ℕ, ◌+◌, Bool, true, ◌||◌, List, [], ◌∷◌, ◌++◌, map, slice_get, Option, Some, None, is_none}
 use Rattle.nand_model.specs.Chip.{ChipState, FaultModel}
 use Rattle.chip_paths.specs.ChipRun.{ChipRun, Pending}
 use Rattle.nand_model.specs.declared.geometry.Geometry.{Geometry}
 use Rattle.nand_model.specs.declared.words.Command.{Command}
 use Rattle.command_model.specs.Boot.{Boot}
 use Rattle.turn_laws.specs.Laws.{most_turns}
-use Rattle.run_model.specs.Course.{Course, session_run, course_after, turn_step, sizes_of}
+use Rattle.run_model.specs.Course.{Course, session_run, unattached, course_after, turn_step, sizes_of}
 use Rattle.command_model.specs.Session.{SessionRun, is_finished}
 
 -- a controller's boot, the flashes with which it was started, the number of its attach steps, and
@@ -49,6 +49,10 @@ course_of model state past = course_after model past.boot (starts_of state past)
 abbrev pub next_course : {F W : Type 0} → FaultModel W → (F → ChipState W) → Past F → ℕ → Course W
 next_course model state past session =
     turn_step model past.boot (sizes_in state past) (course_of model state past) session
+
+-- sessions may take turns: all chips are attached, or the controller is dark
+abbrev pub takes_turns : {W : Type 0} → Course W → Bool
+takes_turns course = course.dark || is_none (unattached course)
 
 -- no command of a session is left (nor of one that is not there)
 abbrev pub has_no_command : Option SessionRun → Bool

@@ -1,8 +1,9 @@
 -- A chip as its controller keeps it: its state and its stage, an attach note that is still to be
 -- written, and the session that holds it.
-use Rattle.std.specs.Prelude.{ℕ, Bool, false, not, ◌==◌, List, [], ◌∷◌, map, position, Option, Some, None}
+use Rattle.std.specs.Prelude.{ℕ, Bool, true, false, not, ◌==◌, List, [], ◌∷◌, ◌++◌, map, position, Option, Some, None}
 use Rattle.nand_model.specs.Chip.{ChipState, FaultModel, PageEvent, Complete, happens}
 use Rattle.nand_model.specs.Path.{answer_to}
+use Rattle.nand_model.specs.declared.tear.Tear.{Tear}
 use Rattle.chip_paths.specs.Attach.{Attaching}
 use Rattle.nand_model.specs.Partitions.{Partitions}
 use Rattle.chip_paths.specs.Operation.{Known}
@@ -12,7 +13,8 @@ use Rattle.nand_model.specs.declared.words.Fairness.{Fairness}
 use Rattle.nand_model.specs.declared.words.Note.{Note}
 use Rattle.nand_model.specs.declared.words.Note.TheVariants.{Torn}
 use Rattle.nand_model.specs.declared.words.Op.{Op}
-use Rattle.chip_paths.specs.Stage.{Stage, Rests, is_attached, first_stage, stage_of, stage_after, stage_begun, pending_note_after, note_of_attach}
+use Rattle.chip_paths.specs.Stage.{Stage, Rests, failure_told, is_attached, first_stage, stage_of, stage_after, stage_begun, pending_note_after, note_of_attach}
+use Rattle.chip_core.specs.Torn.{stage_torn, state_torn, tear_told}
 
 -- a chip in a controller
 pub record SlotState (W : Type 0) : Type 0 where
@@ -72,6 +74,19 @@ after_event model e c =
 abbrev pub with_note_written : {W : Type 0} → SlotState W → SlotState W
 with_note_written c = record c { pending_note = None }
 
+-- a chip whose next event is torn by a power cut
+abbrev pub after_tear : {W : Type 0} → FaultModel W → PageEvent → Tear → SlotState W → SlotState W
+after_tear model e tear c =
+    record c {
+      state = state_torn model tear e c.state;
+      stage = stage_torn (is_quiet c.state.geometry c.state.pages) c.stage;
+    }
+
+-- a chip after its next event, whole or torn, and noted
+abbrev pub slot_after : {W : Type 0} → FaultModel W → PageEvent → Option Tear → SlotState W → SlotState W
+slot_after model e None c = with_note_written (after_event model e c)
+slot_after model e (Some tear) c = after_tear model e tear c
+
 -- a chip on which a session begins an operation
 abbrev pub after_begin : {W : Type 0} → Partitions → ℕ → Op → SlotState W → SlotState W
 after_begin partitions session op c =
@@ -90,6 +105,13 @@ failure_notes k n e (Some fairness) = Torn k n (name_of e) false fairness ∷ []
 abbrev pub pending_notes : ℕ → Option (Bool × Attaching) → List Note
 pending_notes k None = []
 pending_notes k (Some pending_note) = note_of_attach k pending_note ∷ []
+
+-- these notes and those of event n of chip k, which stood so before it
+abbrev pub notes_after : {W : Type 0} → FaultModel W → (k n : ℕ) → PageEvent → Option Tear → SlotState W → List Note
+    → List Note
+notes_after model k n e None c notes =
+    notes ++ failure_notes k n e (failure_told model c.state e) ++ pending_notes k (after_event model e c).pending_note
+notes_after model k n e (Some tear) c notes = notes ++ Torn k n (name_of e) true (tear_told model tear c.state e) ∷ []
 
 -- a note, if there is one
 abbrev pub noted : Option Note → List Note

@@ -1,19 +1,20 @@
 // The chips, sessions and notes of a controller.
-ghost use Rattle.std.specs.Prelude.{◌≡◌, ◌≤◌, ◌<◌, ◌+◌, ◌-◌, ◌^◌, ◌++◌, ◌==◌, ℕ, All, List, true, None, not, length, position, slice_get, option_map, IsSome, IfSome, OnOk, OnErr, IfOk};
+ghost use Rattle.std.specs.Prelude.{◌≡◌, ◌≤◌, ◌<◌, ◌+◌, ◌-◌, ◌^◌, ◌++◌, ◌==◌, ℕ, All, List, true, false, Some, None, not, length, position, slice_get, option_map, IsSome, IfSome, OnOk, OnErr, IfOk};
 ghost use Rattle.nand_model.specs.Chip.{ChipState, PageEvent};
 ghost use Rattle.chip_paths.specs.ChipRun.{name_of};
-ghost use Rattle.chip_paths.specs.Stage.{stage_event, failure_told, finished_in, is_attached, is_resting, is_working};
+ghost use Rattle.chip_paths.specs.Stage.{stage_event, stage_statistics, finished_in, is_attached, is_resting, is_working};
 ghost use Rattle.run_model.specs.Start.{AreFewFlips};
 ghost use Rattle.chip_core.specs.Begin.{CanBegin};
-ghost use Rattle.chip_core.specs.Chip.{chip_stage};
-ghost use Rattle.ctl_core.specs.SlotState.{SlotState, is_held_by, after_event, after_begin, after_answer, with_note_written, failure_notes, pending_notes, noted};
+ghost use Rattle.chip_core.specs.Chip.{chip_page_room, chip_stage};
+ghost use Rattle.ctl_core.specs.SlotState.{SlotState, is_held_by, after_event, after_tear, after_begin, after_answer, with_note_written, failure_notes, notes_after, noted};
 
 use crate::Turn;
 use crate::flips::make_due_flips;
 use chip_core::Chip;
 use fault_plan::Faults;
 use mtd_part::Parts;
-use nand_iface::{Event, Fairness, Flash, History, Note, Op, PageCode, Reply};
+use nand_iface::{Event, Fairness, Flash, History, Note, Op, PageCode, Reply, Stats};
+use nand_model::Tear;
 use session_steps::Session;
 use std::alloc::AllocError;
 
@@ -36,16 +37,39 @@ impl<F: Flash, C: PageCode> Slot<F, C> {
             (λ e. slot_state self.new
             ≡ with_note_written (after_event F.fault_model e (slot_state self.old))) }
         ensures notes { IfSome (stage_event (slot_state self.old).stage)
-            (λ e. notes.new.notes ≡ notes.old.notes
-            ++ failure_notes chip number e
-            (failure_told F.fault_model (slot_state self.old).state e)
-            ++ pending_notes chip
-            (after_event F.fault_model e (slot_state self.old)).pending_note) }
+            (λ e. notes.new.notes ≡ notes_after F.fault_model chip number e None
+            (slot_state self.old) notes.old.notes) }
     {
         let event = self.chip.next_event();
         let told = self.chip.advance();
         put_down(notes, failure_note(chip, number, event, told));
         put_down(notes, self.chip.attach_note(chip));
+    }
+
+    // The power fails within the chip's next event, which is event `number` of the controller, and
+    // this is put down.
+    pub fn tear(&mut self, chip: u32, number: u32, tear: &Tear, notes: &mut History)
+        requires event { IsSome (stage_event (slot_state self.old).stage) }
+        requires page_room { 1 ≤ chip_page_room self.old.chip }
+        requires room { 0 < notes.old.room }
+        ensures slot { IfSome (stage_event (slot_state self.old).stage)
+            (λ e. slot_state self.new
+            ≡ after_tear F.fault_model e tear.now (slot_state self.old)) }
+        ensures notes { IfSome (stage_event (slot_state self.old).stage)
+            (λ e. notes.new.notes ≡ notes_after F.fault_model chip number e (Some tear.now)
+            (slot_state self.old) notes.old.notes) }
+    {
+        let Some(event) = self.chip.next_event() else {
+            unreachable!();
+        };
+        let fairness = self.chip.torn(tear);
+        notes.push(Note::Torn {
+            chip,
+            number,
+            event,
+            cut: true,
+            fairness,
+        });
     }
 
     // The session begins an operation on the chip. Where memory runs out, the chip is as before.
@@ -72,6 +96,13 @@ impl<F: Flash, C: PageCode> Slot<F, C> {
     {
         self.holder = None;
         self.chip.answer()
+    }
+
+    // What a device of the chip counted.
+    pub fn stats(&self, dev: u32) -> Stats
+        ensures { result ≡ stage_statistics (slot_state self.now).stage dev }
+    {
+        self.chip.stats(dev)
     }
 }
 
@@ -116,12 +147,13 @@ fn is_held_by(holder: Option<u32>, session: u32) -> bool
     }
 }
 
-/// What the steps of a controller change: its chips, the number of page events so far, its notes
-/// and its sessions.
+/// What the steps of a controller change: its chips, the number of page events so far, whether the
+/// power has failed, its notes and its sessions.
 #[derive(Drop)]
 pub struct Board<F: Flash, C: PageCode> {
     pub slots: Vec<Slot<F, C>>,
     pub events: u32,
+    pub dark: bool,
     pub notes: History,
     pub sessions: Vec<Session>,
 }
@@ -156,24 +188,32 @@ impl<F: Flash, C: PageCode> Board<F, C> {
     }
 
     // Makes the flips that are due before the next event, and does this event, which is one of chip
-    // `k`. Memory is taken first; where there is none, chips, notes and sessions stand as they
-    // stood.
+    // `k`; where the cut names it, it is torn, and the controller is dark. Memory is taken first;
+    // where there is none, chips, notes and sessions stand as they stood.
     pub fn do_event(&mut self, faults: &Faults, k: usize) -> Result<(), AllocError>
         requires few { length self.old.slots.items ≤ 8 }
+        requires lit { self.old.dark ≡ false }
         requires event { IsSome (event_at self.old k) }
         requires room { 2 ≤ self.old.notes.room }
         requires number { self.old.events < 2 ^ 32 - 1 }
-        requires flips { All (CanFlip (slot_states self.old)) faults.now }
-        requires few_flips { AreFewFlips faults.now }
+        requires flips { All (CanFlip (slot_states self.old)) faults.now.flips }
+        requires few_flips { AreFewFlips faults.now.flips }
         ensures did { (c : SlotState F.FaultState) (e : PageEvent) →
-            slice_get (slot_flips_before F.fault_model faults.now (self.old.events + 1)
+            slice_get (slot_flips_before F.fault_model faults.now.flips (self.old.events + 1)
             (slot_states self.old)) k ≡ Some c → stage_event c.stage ≡ Some e →
-            OnOk result (DidEvent faults.now k c e self.old self.new) }
+            OnOk result (DidEvent faults.now.flips faults.now.cut k c e self.old self.new) }
         ensures no_memory { OnErr result (StandsAlike self.old self.new) }
     {
         make_due_flips(&mut self.slots, faults, self.events + 1)?;
         self.events += 1;
-        self.slots[k].advance(k as u32, self.events, &mut self.notes);
+        let slot = &mut self.slots[k];
+        match faults.cut_at(self.events) {
+            None => slot.advance(k as u32, self.events, &mut self.notes),
+            Some(tear) => {
+                slot.tear(k as u32, self.events, tear, &mut self.notes);
+                self.dark = true;
+            }
+        }
         Ok(())
     }
 }

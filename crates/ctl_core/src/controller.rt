@@ -1,15 +1,14 @@
 // A controller in one boot.
-ghost use Rattle.std.specs.Prelude.{◌≡◌, ◌≤◌, ◌+◌, ◌*◌, ◌↔◌, map, length, true, false, not, None, IsTrue, OnOk, IfOk, is_none};
+ghost use Rattle.std.specs.Prelude.{◌≡◌, ◌≤◌, ◌+◌, ◌*◌, ◌↔◌, map, length, true, false, not, None, IsTrue, OnOk, IfOk};
 ghost use Rattle.run_model.specs.Course.{attach_step, end_states, is_idle, is_over, unattached};
 ghost use Rattle.run_model.specs.Run.{AreInOrder, CoursesAreFaithful};
 ghost use Rattle.tool_steps.specs.Boot.{session_number};
-ghost use Rattle.run_model.specs.Start.{CanStart};
 ghost use Rattle.turn_laws.specs.Laws.{events_of_attaches};
 ghost use Rattle.ctl_core.specs.Answer.{is_did, turn_answer, attach_answer, after_turn, after_attach_turn};
 ghost use Rattle.ctl_core.specs.Ended.{all_bad_blocks, end_of_run, ends_by_notes};
 ghost use Rattle.run_model.specs.Statistics.{device_statistics};
-ghost use Rattle.ctl_core.specs.Past.{turn_limit, at_start, starts_of, sizes_in, course_of, next_course};
-ghost use Rattle.ctl_core.specs.Start.{HasSession};
+ghost use Rattle.ctl_core.specs.Past.{turn_limit, at_start, starts_of, sizes_in, course_of, next_course, takes_turns};
+ghost use Rattle.ctl_core.specs.Start.{CanStart, HasSession};
 
 use crate::Turn;
 use crate::board::Board;
@@ -49,10 +48,10 @@ impl<F: Flash, C: PageCode> Core<F, C> {
     /// A controller at the start of its part of a boot. It takes the memory that the attaches of
     /// its chips need.
     ///
-    /// There are at most eight flashes, without tables, whose pages are in this code. The
-    /// partitions lie on these chips, the flips turn bits of their pages, and there is no cut; the
-    /// commands name devices that are there, with their sizes, and can be run; the sessions'
-    /// numbers ascend; and the commands cost at most 16,777,216 operations together.
+    /// There are at most eight flashes, whose pages are in this code. The partitions lie on these
+    /// chips, and the flips turn bits of their pages; the commands name devices that are there, with
+    /// their sizes, and can be run; the sessions' numbers ascend; and the commands cost at most
+    /// 16,777,216 operations together.
     pub fn start(
         alloc: Global,
         boot: ControllerBoot,
@@ -75,6 +74,7 @@ impl<F: Flash, C: PageCode> Core<F, C> {
             board: Board {
                 slots,
                 events: 0,
+                dark: false,
                 notes: History::new(alloc),
                 sessions,
             },
@@ -82,19 +82,24 @@ impl<F: Flash, C: PageCode> Core<F, C> {
     }
 
     /// The flips that are due, and one page event of the first chip that is not attached; the last
-    /// one of an attach also puts its note down.
+    /// one of an attach also puts its note down. Where the cut names the event, it is torn, and the
+    /// controller is dark from then on.
     ///
-    /// `Done` comes exactly where all chips are attached, and `Did` else. Only `Did` makes anything
-    /// of the controller: it counts one more attach step.
+    /// `Dark` comes exactly where the controller was cut before this turn, else `Done` exactly where
+    /// all chips are attached, else `Did`. Only `Did` makes anything of the controller: it counts
+    /// one more attach step.
     pub fn attach_turn(&mut self) -> Result<Turn, AllocError>
         ensures answer { IfOk result
-            (λ turn. turn ≡ attach_answer (unattached (course_of F.fault_model F.state self.old))) }
+            (λ turn. turn ≡ attach_answer (course_of F.fault_model F.state self.old)) }
         ensures past { self.new ≡ after_attach_turn result self.old }
         ensures step { OnOk result (course_of F.fault_model F.state self.new
             ≡ attach_step F.fault_model self.old.boot (sizes_in F.state self.old)
             (course_of F.fault_model F.state self.old)) }
         ensures few { self.new.attaches ≤ events_of_attaches (starts_of F.state self.new) }
     {
+        if self.board.dark {
+            return Ok(Turn::Dark);
+        }
         self.board.notes.reserve(2)?;
         let Some(k) = self.board.first_attaching() else {
             return Ok(Turn::Done);
@@ -104,16 +109,17 @@ impl<F: Flash, C: PageCode> Core<F, C> {
         Ok(Turn::Did)
     }
 
-    /// One step of a session of this controller, whose chips are all attached: its operation in
-    /// flight does its next page event, after the flips that are due before it, or is answered, or
-    /// its next operation begins.
+    /// One step of a session of this controller, whose chips are all attached or whose power has
+    /// failed: its operation in flight does its next page event, after the flips that are due before
+    /// it, or is answered, or its next operation begins. Where the cut names the event, it is torn,
+    /// and the controller is dark from then on.
     ///
-    /// `Done` comes exactly where the session's commands are over; else `Held(by)` exactly where it
-    /// has nothing in flight and session `by` has an operation in flight on the chip of its next
-    /// operation; else `Did`. Only `Did` makes anything of the controller: it is one more turn of
-    /// this session.
+    /// `Dark` comes exactly where the controller was cut before this turn; else `Done` exactly where
+    /// the session's commands are over; else `Held(by)` exactly where it has nothing in flight and
+    /// session `by` has an operation in flight on the chip of its next operation; else `Did`. Only
+    /// `Did` makes anything of the controller: it is one more turn of this session.
     pub fn turn(&mut self, session: u32) -> Result<Turn, AllocError>
-        requires attached { unattached (course_of F.fault_model F.state self.old) ≡ None }
+        requires takes { takes_turns (course_of F.fault_model F.state self.old) ≡ true }
         requires own { HasSession self.old.boot session }
         ensures answer { IfOk result
             (λ turn. turn
@@ -127,9 +133,12 @@ impl<F: Flash, C: PageCode> Core<F, C> {
         ensures step { OnOk result
             (course_of F.fault_model F.state self.new
             ≡ next_course F.fault_model F.state self.old session) }
-        ensures attached { unattached (course_of F.fault_model F.state self.new) ≡ None }
+        ensures takes { takes_turns (course_of F.fault_model F.state self.new) ≡ true }
         ensures few { length self.new.turns ≤ turn_limit F.state self.new }
     {
+        if self.board.dark {
+            return Ok(Turn::Dark);
+        }
         self.journal.turns.reserve(1)?;
         self.board.notes.reserve(2)?;
         let turn = self.board.step(&self.journal, session)?;
@@ -165,7 +174,8 @@ impl<F: Flash, C: PageCode> Core<F, C> {
         &self.board.notes
     }
 
-    /// Whether all chips are attached and the commands of all sessions are over.
+    /// Whether all chips are attached and the commands of all sessions are over, or the controller
+    /// is dark.
     pub fn over(&self) -> bool
         ensures { result ≡ is_over (course_of F.fault_model F.state self.now) }
     {
@@ -195,7 +205,6 @@ impl<F: Flash, C: PageCode> Core<F, C> {
         ensures flashes { IfOk result
             (λ ended. map F.state ended.flashes
             ≡ end_states (course_of F.fault_model F.state self)) }
-        ensures lit { OnOk result ((course_of F.fault_model F.state self).dark ≡ false) }
         ensures notes { IfOk result
             (λ ended. ended.notes.notes ≡ (course_of F.fault_model F.state self).notes) }
         ensures outcomes { IfOk result

@@ -44,7 +44,7 @@ pub fn stop_all<F: Flash, C: PageCode>(
     Ok(flashes)
 }
 
-// How the sessions of the boot ended.
+// How the sessions of the boot ended: cut short where a command is left.
 pub fn end_all(
     alloc: Global,
     boot: &ControllerBoot,
@@ -58,7 +58,8 @@ pub fn end_all(
     let mut ends = OutcomeList::new(alloc);
     for session in sessions {
         let commands = boot.commands(ends.len());
-        let end = session.finish(commands, notes, false)?;
+        let cut = !session.is_over(commands, notes);
+        let end = session.finish(commands, notes, cut)?;
         ends.append(end)?;
     }
     Ok(ends)
@@ -88,7 +89,7 @@ fn statistics<F: Flash, C: PageCode>(slots: &[Slot<F, C>], parts: &Parts, dev: u
     ensures { result ≡ slot_statistics_at (map slot_state slots.now) (chip_of parts.now dev) dev }
 {
     match parts.get(dev) {
-        Some(part) => slots[part.chip as usize].chip.stats(dev),
+        Some(part) => slots[part.chip as usize].stats(dev),
         None => Stats {
             corrected: 0,
             failed: 0,

@@ -1,6 +1,5 @@
 // Chips and sessions at the start of a boot.
-ghost use Rattle.std.specs.Prelude.{◌≡◌, All, map, IfOk};
-ghost use Rattle.run_model.specs.Start.{IsPlain};
+ghost use Rattle.std.specs.Prelude.{◌≡◌, map, IfOk};
 ghost use Rattle.ctl_core.specs.SlotState.{slot_first};
 ghost use Rattle.ctl_core.specs.Board.{slot_state};
 ghost use Rattle.ctl_core.specs.Sessions.{HaveNotBegun};
@@ -18,7 +17,6 @@ pub fn first_slots<F: Flash, C: PageCode>(
     flashes: FlashList<F>,
     code: C,
 ) -> Result<Vec<Slot<F, C>>, AllocError>
-    requires { All IsPlain (map F.state flashes) }
     ensures { IfOk result (λ slots. map slot_state slots.items
         ≡ map slot_first (map F.state flashes)) }
 {
@@ -36,7 +34,6 @@ fn first_slot<F: Flash, C: PageCode>(
     flash: F,
     code: C,
 ) -> Result<Slot<F, C>, AllocError>
-    requires { IsPlain (F.state flash) }
     ensures { IfOk result (λ slot. slot_state slot ≡ slot_first (F.state flash)) }
 {
     Ok(Slot {

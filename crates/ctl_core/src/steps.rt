@@ -1,5 +1,5 @@
 // One step of a session.
-ghost use Rattle.std.specs.Prelude.{◌≡◌, ◌≤◌, ◌<◌, ◌-◌, ◌^◌, ◌↔◌, IsTrue, true, not, None, IsSome, is_none, length, slice_get, option_map, OnOk, OnErr, IfOk, IfSome};
+ghost use Rattle.std.specs.Prelude.{◌≡◌, ◌≤◌, ◌<◌, ◌-◌, ◌^◌, ◌↔◌, IsTrue, true, false, not, None, IsSome, is_none, length, slice_get, option_map, OnOk, OnErr, IfOk, IfSome};
 ghost use Rattle.nand_model.specs.Partitions.{command_device};
 ghost use Rattle.run_model.specs.Course.{is_idle, is_over, unattached};
 ghost use Rattle.ctl_core.specs.Answer.{is_did, next_chip, turn_answer};
@@ -19,10 +19,11 @@ use tool_steps::ControllerBoot;
 impl<F: Flash, C: PageCode> Board<F, C> {
     ghost use Rattle.ctl_core.specs.Board.{slot_states, finished_at, past_of, IsOnCourse, IsAtTurn, StandsAt};
 
-    // One step of a session of the boot, where all chips are attached. Where memory runs out,
-    // chips, sessions and notes stand where they stood.
+    // One step of a session of the boot, where the power has not failed and all chips are attached.
+    // Where memory runs out, chips, sessions and notes stand where they stood.
     pub fn step(&mut self, journal: &Journal<F>, session: u32) -> Result<Turn, AllocError>
         requires on_course { IsOnCourse (past_of journal.now) self.old }
+        requires lit { self.old.dark ≡ false }
         requires attached { unattached (course_of F.fault_model F.state (past_of journal.now))
             ≡ None }
         requires own { HasSession journal.now.boot session }
@@ -54,12 +55,13 @@ impl<F: Flash, C: PageCode> Board<F, C> {
         }
     }
 
-    // Whether all chips are attached and the commands of all sessions are over.
+    // Whether the power has failed, or all chips are attached and the commands of all sessions are
+    // over.
     pub fn is_over(&self, journal: &Journal<F>) -> bool
         requires { IsOnCourse (past_of journal.now) self.now }
         ensures { result ≡ is_over (course_of F.fault_model F.state (past_of journal.now)) }
     {
-        self.first_attaching().is_none() && self.all_done(&journal.boot)
+        self.dark || self.first_attaching().is_none() && self.all_done(&journal.boot)
     }
 
     // Whether the commands of all sessions are over.

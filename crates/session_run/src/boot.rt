@@ -1,9 +1,8 @@
 // A controller's boot, replayed.
-ghost use Rattle.std.specs.Prelude.{◌≡◌, ◌<◌, ◌≤◌, ◌+◌, ◌*◌, [], None, false, All, length, IfOk, OnOk, OnErr};
-ghost use Rattle.run_model.specs.Course.{is_over, turns_taken, unattached};
-ghost use Rattle.run_model.specs.Start.{CanStart};
-ghost use Rattle.ctl_core.specs.Past.{turn_limit, starts_of, course_of};
-ghost use Rattle.ctl_core.specs.Start.{HasSession};
+ghost use Rattle.std.specs.Prelude.{◌≡◌, ◌<◌, ◌≤◌, ◌+◌, ◌*◌, [], true, false, All, length, IfOk, OnOk, OnErr};
+ghost use Rattle.run_model.specs.Course.{is_over, turns_taken};
+ghost use Rattle.ctl_core.specs.Past.{turn_limit, starts_of, course_of, takes_turns};
+ghost use Rattle.ctl_core.specs.Start.{CanStart, HasSession};
 ghost use Rattle.session_run.specs.Replay.{IsReplayed, IsOfTheSameStart, TakesTurn, session_numbers};
 
 use ctl_core::{Core, Turn};
@@ -11,10 +10,10 @@ use nand_iface::{Flash, PageCode};
 use std::alloc::AllocError;
 use tool_steps::Schedule;
 
-// Attaches all chips.
+// Attaches all chips, unless the power fails.
 fn attach_all<F: Flash, C: PageCode>(core: &mut Core<F, C>) -> Result<(), AllocError>
     requires { core.old.turns ≡ [] }
-    ensures attached { OnOk result (unattached (course_of F.fault_model F.state core.new) ≡ None) }
+    ensures takes { OnOk result (takes_turns (course_of F.fault_model F.state core.new) ≡ true) }
     ensures same { IsOfTheSameStart core.old core.new }
     ensures turns { core.new.turns ≡ [] }
 {
@@ -27,12 +26,12 @@ fn take_turns<F: Flash, C: PageCode>(
     core: &mut Core<F, C>,
     sessions: &Schedule,
 ) -> Result<(), AllocError>
-    requires attached { unattached (course_of F.fault_model F.state core.old) ≡ None }
+    requires takes { takes_turns (course_of F.fault_model F.state core.old) ≡ true }
     requires own { All (HasSession core.old.boot) sessions.now }
     ensures course { OnOk result (course_of F.fault_model F.state core.new
         ≡ turns_taken F.fault_model core.old.boot (starts_of F.state core.old) sessions.now
         (course_of F.fault_model F.state core.old)) }
-    ensures attached { OnOk result (unattached (course_of F.fault_model F.state core.new) ≡ None) }
+    ensures takes { OnOk result (takes_turns (course_of F.fault_model F.state core.new) ≡ true) }
     ensures same { IsOfTheSameStart core.old core.new }
     ensures attaches { core.new.attaches ≡ core.old.attaches }
 {
@@ -44,7 +43,7 @@ fn take_turns<F: Flash, C: PageCode>(
 
 // Takes a turn of the session at place `k`.
 fn take_turn_at<F: Flash, C: PageCode>(core: &mut Core<F, C>, k: usize) -> Result<(), AllocError>
-    requires attached { unattached (course_of F.fault_model F.state core.old) ≡ None }
+    requires takes { takes_turns (course_of F.fault_model F.state core.old) ≡ true }
     requires place { k < length core.old.boot.sessions }
     ensures taken { OnOk result (TakesTurn F.fault_model F.state k core.old core.new) }
     ensures no_memory { OnErr result (core.new ≡ core.old) }
@@ -60,13 +59,13 @@ fn take_turn_at<F: Flash, C: PageCode>(core: &mut Core<F, C>, k: usize) -> Resul
 
 // Takes a turn of each session, in their order; some turn does something.
 fn take_round<F: Flash, C: PageCode>(core: &mut Core<F, C>) -> Result<(), AllocError>
-    requires attached { unattached (course_of F.fault_model F.state core.old) ≡ None }
+    requires takes { takes_turns (course_of F.fault_model F.state core.old) ≡ true }
     requires can { CanStart core.old.boot (starts_of F.state core.old) }
     requires goes { is_over (course_of F.fault_model F.state core.old) ≡ false }
     ensures course { OnOk result (course_of F.fault_model F.state core.new
         ≡ turns_taken F.fault_model core.old.boot (starts_of F.state core.old)
         (session_numbers core.old.boot) (course_of F.fault_model F.state core.old)) }
-    ensures attached { OnOk result (unattached (course_of F.fault_model F.state core.new) ≡ None) }
+    ensures takes { OnOk result (takes_turns (course_of F.fault_model F.state core.new) ≡ true) }
     ensures same { IsOfTheSameStart core.old core.new }
     ensures attaches { core.new.attaches ≡ core.old.attaches }
     ensures more { OnOk result (length core.old.turns < length core.new.turns) }
@@ -80,7 +79,8 @@ fn take_round<F: Flash, C: PageCode>(core: &mut Core<F, C>) -> Result<(), AllocE
 }
 
 /// Runs a controller's boot to its end: its chips are attached, the turns of the schedule are
-/// taken, and then those of all sessions in their order, round after round, until all is over.
+/// taken, and then those of all sessions in their order, round after round, until all is over or
+/// the power fails.
 ///
 /// The controller has just been started, and the schedule names sessions of its own. It waits for
 /// nobody.

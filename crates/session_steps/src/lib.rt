@@ -4,8 +4,6 @@
 mod ended;
 mod laws;
 mod session;
-#[cfg(test)]
-mod tests;
 
 pub use ended::{OutcomeList, SessionEnd, StatsList};
 pub use laws::{next_operations_are_taken, notes_leave_sessions};

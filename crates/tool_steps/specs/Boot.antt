@@ -1,13 +1,18 @@
 -- A controller's part of a boot, as it is put together.
-use Rattle.std.specs.Prelude.{ℕ, ◌-◌, List, [], ◌∷◌, ◌++◌, length, slice_get, Option, option_map, option_and_then, None}
+use Rattle.std.specs.Prelude.{ℕ, ◌-◌, List, [], ◌∷◌, ◌++◌, length, slice_get, Option, option_map, option_and_then}
 use Rattle.nand_model.specs.Partitions.{Partitions}
 use Rattle.nand_model.specs.declared.words.Command.{Command}
-use Rattle.nand_model.specs.declared.words.Flip.{Flip}
+use Rattle.fault_plan.specs.BootFaults.{BootFaults}
 use Rattle.command_model.specs.Boot.{Boot, change_at}
 
--- a boot of these partitions, flips and sessions, without a cut
-abbrev pub boot_with : Partitions → List Flip → List (ℕ × List Command) → Boot
-boot_with partitions flips sessions = record { partitions = partitions; sessions = sessions; flips = flips; cut = None }
+-- a boot of these partitions, faults and sessions
+abbrev pub boot_with : Partitions → BootFaults → List (ℕ × List Command) → Boot
+boot_with partitions faults sessions =
+    record { partitions = partitions; sessions = sessions; flips = faults.flips; cut = faults.cut }
+
+-- the faults of a boot
+abbrev pub faults_of : Boot → BootFaults
+faults_of boot = record { flips = boot.flips; cut = boot.cut }
 
 -- the boot with one more session, which has no command
 abbrev pub with_session : Boot → ℕ → Boot

@@ -1,7 +1,7 @@
 // A controller's part of one boot.
-ghost use Rattle.std.specs.Prelude.{◌≡◌, ◌<◌, [], ℕ, List, length, All, OnOk, OnErr, IfErr, option_copied, None};
+ghost use Rattle.std.specs.Prelude.{◌≡◌, ◌<◌, [], ℕ, List, length, All, OnOk, OnErr, IfErr, option_copied};
 ghost use Rattle.nand_model.specs.declared.words.Command.{Command as Ordered};
-ghost use Rattle.tool_steps.specs.Boot.{boot_with, with_session, with_command, session_number, commands_at, command_at};
+ghost use Rattle.tool_steps.specs.Boot.{boot_with, faults_of, with_session, with_command, session_number, commands_at, command_at};
 
 use fault_plan::Faults;
 use mtd_part::Parts;
@@ -89,16 +89,15 @@ impl ControllerBoot {
 
     /// Lends the faults.
     pub fn faults(&self) -> &Faults
-        ensures { result.now ≡ self.now.flips }
+        ensures { result.now ≡ faults_of self.now }
     {
         &self.faults
     }
 
     /// The number of the session at place `k`, counted from 0. None comes exactly where there is
-    /// none. The boot has no cut.
+    /// none.
     pub fn session(&self, k: usize) -> Option<u32>
-        ensures number { result ≡ session_number self.now k }
-        ensures uncut { self.now.cut ≡ None }
+        ensures { result ≡ session_number self.now k }
     {
         if k < self.order.len() {
             Some(self.order[k].number)

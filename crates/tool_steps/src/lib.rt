@@ -12,8 +12,6 @@ mod ranges;
 mod replies;
 mod step;
 mod testing;
-#[cfg(test)]
-mod tests;
 mod tool;
 mod work;
 mod writing;

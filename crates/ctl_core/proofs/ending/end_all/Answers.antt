@@ -1,7 +1,8 @@
-use Rattle.std.proofs.Common.{◌≡◌, ◌+◌, ◌∷◌, ◌++◌, [], ap, length, length-append, sym, ◌∙◌}
+use Rattle.std.proofs.Common.{◌≡◌, ◌+◌, ◌∷◌, ◌++◌, [], Bool, not, ap, length, length-append, sym, ◌∙◌}
 use Rattle.nand_model.specs.declared.words.Command.{Command}
 use Rattle.tool_steps.specs.Boot.{commands_at}
 use Rattle.session_steps.specs.declared.session.Session.{Session}
+use Rattle.session_steps.specs.Standing.{end_of, standing}
 use Rattle.ctl_core.specs.Ended.{ends_beside}
 use Rattle.ctl_core.proofs.LastStates.{ends_none, ends_push}
 use Rattle.ctl_core.proofs.ending.end_all.Goals as goal
@@ -23,7 +24,8 @@ loop-session-preserved c =
     record {
       ended =
           c.in_ok-append.ensures.ok ∙ ap (λ ends. ends ++ c.in_ok-end.end ∷ []) c.loop-session.invariant.ended
-          ∙ ap (λ end. ends_beside begun notes yielded ++ end ∷ []) c.in_ok-end.ensures
+          ∙ ap (λ end. ends_beside begun notes yielded ++ end ∷ [])
+          (c.in_ok-end.ensures ∙ ap (λ (over : Bool). end_of c.commands-commands.result.now (not over) (standing notes session)) c.is_over-cut.ensures)
           ∙ sym (ends_push begun notes yielded session c.commands-commands.result.now here);
       many =
           ap length c.in_ok-append.ensures.ok ∙ length-append c.loop-session.ends (c.in_ok-end.end ∷ []) ∙ ap (λ n. n + 1) c.loop-session.invariant.many

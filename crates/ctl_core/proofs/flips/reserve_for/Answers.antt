@@ -1,4 +1,4 @@
-use Rattle.std.proofs.Common.{◌≡◌, ◌<◌, arith, length, ap, sym, ◌∙◌}
+use Rattle.std.proofs.Common.{◌≡◌, ◌<◌, ◌+◌, arith, length, ap, sym, ◌∙◌}
 use Rattle.ctl_core.specs.Board.{slot_state, HasRoom}
 use Rattle.ctl_core.proofs.FlipSteps.{first_set}
 use Rattle.ctl_core.proofs.OnCourse.{kept_same, lent_within}
@@ -27,7 +27,7 @@ loop-k-preserved g c =
     sym (mapped_length slot_state c.loop-k.slots.items) ∙ ap length c.loop-k.invariant.same ∙ mapped_length slot_state c.args.slots.now.items in
     let within : c.loop-k.k < length c.loop-k.slots.items = omega (arith, many, c.loop-k-test.true, c.len-k-end.ensures, c.args.slots.now.ok.0) in
     record {
-      room = first_set (HasRoom c.due_counts-pages.result.0 c.due_counts-pages.result.1) c.loop-k.slots.items c.loop-k.k _ within
+      room = first_set (HasRoom (1 + c.due_counts-pages.result.0) c.due_counts-pages.result.1) c.loop-k.slots.items c.loop-k.k _ within
           (record { page_room = omega (arith, c.due_counts-pages.ensures.few, c.in_ok-reserve.ensures.page_room); bits_room = c.in_ok-reserve.ensures.bits }) c.loop-k.invariant.room;
       same = kept_same slot_state c.loop-k.slots.items c.loop-k.k c.index_mut.result.now _
           (lent_within c.loop-k.slots.items c.loop-k.k c.index_mut.result.now within c.index_mut.ensures.value)

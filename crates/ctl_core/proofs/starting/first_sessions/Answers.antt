@@ -11,7 +11,7 @@ use Rattle.ctl_core.proofs.starting.first_sessions.Goals as goal
 pub loop-number-preserved : goal.loop-number-preserved
 loop-number-preserved c =
     let here : session_number c.args.boot.now (length c.loop-number.sessions.items) ≡ Some c.in-Some.number =
-    ap (session_number c.args.boot.now) (sym (c.len.ensures ∙ c.loop-number.sessions.ok.0)) ∙ sym c.session.ensures.number ∙ c.in-Some.is in
+    ap (session_number c.args.boot.now) (sym (c.len.ensures ∙ c.loop-number.sessions.ok.0)) ∙ sym c.session.ensures ∙ c.in-Some.is in
     let below = before_end (λ (s : ℕ × List Command). s.0) c.args.boot.now.sessions (length c.loop-number.sessions.items) c.in-Some.number here in
     record {
       within = let longer : length c.push.new.self.items ≡ length c.loop-number.sessions.items + 1 = ap length c.in_ok-push.ensures.items
@@ -33,6 +33,6 @@ loop-number-preserved c =
 pub returns : goal.returns
 returns c =
     let here : session_number c.args.boot.now (length c.loop-number.sessions.items) ≡ None =
-    ap (session_number c.args.boot.now) (sym (c.len.ensures ∙ c.loop-number.sessions.ok.0)) ∙ sym c.session.ensures.number ∙ c.in_default.is in
+    ap (session_number c.args.boot.now) (sym (c.len.ensures ∙ c.loop-number.sessions.ok.0)) ∙ sym c.session.ensures ∙ c.in_default.is in
     let end = past_end (λ (s : ℕ × List Command). s.0) c.args.boot.now.sessions (length c.loop-number.sessions.items) here in
     record { many = omega (arith, end, c.loop-number.invariant.within); each = c.loop-number.invariant.each }

@@ -1,20 +1,12 @@
 use Rattle.std.proofs.Common.{◌≡◌, ◌<◌, ◌∷◌, ◌++◌, [], List, length, map, arith, refl, ap, sym, ◌∙◌, subst, append-nil}
-use Rattle.std.specs.Prelude.{All, IsSome}
+use Rattle.std.specs.Prelude.{IsSome}
 use Rattle.ctl_core.specs.Board.{slot_state}
 use Rattle.ctl_core.specs.SlotState.{slot_first}
-use Rattle.run_model.specs.Start.{IsPlain}
-use Rattle.ctl_core.proofs.FirstAndLast.{all_first, all_later, moved_on}
+use Rattle.ctl_core.proofs.FirstAndLast.{moved_on}
 use Rattle.ctl_core.proofs.starting.first_slots.Goals as goal
-
-pub first_slot-requires : goal.first_slot-requires
-first_slot-requires g c =
-    all_first IsPlain (g.F.Flash.state c.in-Some.flash) (map g.F.Flash.state c.take_first.new.self)
-    (subst (λ fs. All IsPlain (map g.F.Flash.state fs)) c.in-Some.ensures.taken c.loop-flash.invariant.plain)
 
 pub loop-flash-preserved : goal.loop-flash-preserved
 loop-flash-preserved g c = record {
-  plain = all_later IsPlain (g.F.Flash.state c.in-Some.flash) (map g.F.Flash.state c.take_first.new.self)
-      (subst (λ fs. All IsPlain (map g.F.Flash.state fs)) c.in-Some.ensures.taken c.loop-flash.invariant.plain);
   so_far = ap (λ ss. map slot_state ss ++ map slot_first (map g.F.Flash.state c.take_first.new.self)) c.in_ok-push.ensures.items
       ∙ moved_on slot_state c.loop-flash.slots.items c.in_ok-first_slot.field-0 (slot_first (g.F.Flash.state c.in-Some.flash))
       (map slot_first (map g.F.Flash.state c.take_first.new.self)) c.in_ok-first_slot.ensures

@@ -1,13 +1,10 @@
 use Rattle.std.proofs.Common.{◌≡◌, ◌++◌, length, map}
-use Rattle.std.specs.Prelude.{All}
 use Rattle.ctl_core.specs.Board.{slot_state}
 use Rattle.ctl_core.specs.SlotState.{slot_first}
-use Rattle.run_model.specs.Start.{IsPlain}
 use Rattle.ctl_core.proofs.starting.first_slots.Given as goal
 
 abbrev pub invariant-loop-flash : goal.invariant-loop-flash
 invariant-loop-flash g l = record {
-  plain : All IsPlain (map g.F.Flash.state l.rest);
   so_far : map slot_state l.slots.items ++ map slot_first (map g.F.Flash.state l.rest) ≡ map slot_first (map g.F.Flash.state l.fn.flashes);
 }
 

@@ -96,7 +96,7 @@ returns-in_err-begin-clause-no_memory g c =
     let own = own_session past board c.args.session c.args.place c.requires.turn c.index_mut.result.now c.index_mut.ensures.value in
     let first = begins_with past board c.args.session c.args.place c.requires.turn c.index_mut.result.now own.0 own.1 c.args.k c.requires.chip in
     where_err c.from_residual-in_err-begin.result _
-    (subst (λ chips. Follows past.boot (starts_of g.F.Flash.state past) (course_of g.F.Flash.fault_model g.F.Flash.state past) chips board.events
+    (subst (λ chips. Follows past.boot (starts_of g.F.Flash.state past) (course_of g.F.Flash.fault_model g.F.Flash.state past) chips board.events board.dark
     board.notes.notes (set board.sessions.items c.args.place c.next_op.new.self))
     (sym (kept_same slot_state board.slots.items c.args.k c.index_mut-2.result.now c.begin.new.self slot.0 c.in_err-begin.ensures.no_memory))
     (stands_resumed past board c.args.session c.args.place c.requires.turn c.index_mut.result.now own.0 own.1 c.args.k c.index_mut-2.result.now slot.0 first.0

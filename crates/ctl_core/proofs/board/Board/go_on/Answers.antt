@@ -9,6 +9,7 @@ use Rattle.chip_paths.specs.Stage.{stage_event, finished_in}
 use Rattle.session_steps.specs.Standing.{number_of}
 use Rattle.run_model.specs.Start.{AreFewFlips}
 use Rattle.ctl_core.specs.Board.{slot_states, past_of}
+use Rattle.fault_plan.specs.BootFaults.{BootFaults}
 use Rattle.ctl_core.specs.Flips.{CanFlip}
 use Rattle.ctl_core.specs.SlotState.{SlotState}
 use Rattle.ctl_core.specs.Past.{course_of}
@@ -25,12 +26,15 @@ not_named : (o : Option PageEvent) (name : Option Event) → name ≡ option_map
 not_named None name h i = refl
 not_named (Some e) name h i = cc
 
+pub do_event-requires-clause-lit : goal.do_event-requires-clause-lit
+do_event-requires-clause-lit g c = c.requires.turn.lit
+
 pub do_event-requires-clause-few : goal.do_event-requires-clause-few
 do_event-requires-clause-few g c = few_slots (past_of c.args.journal.now) c.args.self.now c.requires.turn.on_course
 
 pub do_event-requires-clause-event : goal.do_event-requires-clause-event
 do_event-requires-clause-event g c =
-    let x = held_slot (past_of c.args.journal.now) c.args.self.now c.requires.turn.on_course c.args.session c.args.k c.index.result.now c.requires.held
+    let x = held_slot (past_of c.args.journal.now) c.args.self.now c.requires.turn.on_course c.requires.turn.lit c.args.session c.args.k c.index.result.now c.requires.held
     c.index.ensures in
     let e = named (stage_event (chip_stage c.index.result.now.chip)) c.next_event.result c.next_event.ensures (sym c.if-is_some.true ∙ c.is_some.ensures) in
     let has : stage_event x.0.stage ≡ Some e.0 = ap (λ (y : SlotState g.F.Flash.FaultState). stage_event y.stage) (sym x.2) ∙ e.1 in
@@ -41,11 +45,11 @@ pub do_event-requires-clause-number : goal.do_event-requires-clause-number
 do_event-requires-clause-number g c = few_events (past_of c.args.journal.now) c.args.self.now c.requires.turn.on_course
 
 pub do_event-requires-clause-few_flips : goal.do_event-requires-clause-few_flips
-do_event-requires-clause-few_flips g c = subst AreFewFlips (sym c.faults.ensures) c.requires.turn.on_course.conditions.few_flips
+do_event-requires-clause-few_flips g c = subst AreFewFlips (sym (ap (λ (f : BootFaults). f.flips) c.faults.ensures)) c.requires.turn.on_course.conditions.few_flips
 
 pub do_event-requires-clause-flips : goal.do_event-requires-clause-flips
 do_event-requires-clause-flips g c =
-    subst (λ flips. All (CanFlip (slot_states c.args.self.now)) flips) (sym c.faults.ensures)
+    subst (λ flips. All (CanFlip (slot_states c.args.self.now)) flips) (sym (ap (λ (f : BootFaults). f.flips) c.faults.ensures))
     (can_flip (past_of c.args.journal.now) c.args.self.now c.requires.turn.on_course)
 
 pub returns-in_err-do_event-clause-no_memory : goal.returns-in_err-do_event-clause-no_memory
@@ -57,7 +61,7 @@ returns-in_err-do_event-clause-no_memory g c =
 
 pub answer-requires-clause-finished : goal.answer-requires-clause-finished
 answer-requires-clause-finished g c =
-    let x = held_slot (past_of c.args.journal.now) c.args.self.now c.requires.turn.on_course c.args.session c.args.k c.index.result.now c.requires.held
+    let x = held_slot (past_of c.args.journal.now) c.args.self.now c.requires.turn.on_course c.requires.turn.lit c.args.session c.args.k c.index.result.now c.requires.held
     c.index.ensures in
     let none = not_named (stage_event (chip_stage c.index.result.now.chip)) c.next_event.result c.next_event.ensures
     (sym c.if-is_some.false ∙ c.is_some.ensures) in
@@ -73,12 +77,13 @@ answer-requires-clause-place g c =
 pub returns-in_ok-do_event-clause-stands : goal.returns-in_ok-do_event-clause-stands
 returns-in_ok-do_event-clause-stands g c =
     let past = past_of c.args.journal.now in
-    let x = held_slot past c.args.self.now c.requires.turn.on_course c.args.session c.args.k c.index.result.now c.requires.held c.index.ensures in
+    let x = held_slot past c.args.self.now c.requires.turn.on_course c.requires.turn.lit c.args.session c.args.k c.index.result.now c.requires.held c.index.ensures in
     let e = named (stage_event (chip_stage c.index.result.now.chip)) c.next_event.result c.next_event.ensures (sym c.if-is_some.true ∙ c.is_some.ensures) in
     let has : stage_event x.0.stage ≡ Some e.0 = ap (λ (y : SlotState g.F.Flash.FaultState). stage_event y.stage) (sym x.2) ∙ e.1 in
-    stands_now past c.args.self.now c.requires.turn.on_course c.args.session c.args.k x.0 e.0 c.do_event.new.self c.requires.turn.attached c.requires.held x.1
+    stands_now past c.args.self.now c.requires.turn.on_course c.requires.turn.lit c.args.session c.args.k x.0 e.0 c.do_event.new.self c.requires.turn.attached c.requires.held x.1
     has
-    c.faults.result.now c.faults.ensures c.in_ok-do_event.ensures.did
+    c.faults.result.now.flips c.faults.result.now.cut (ap (λ (f : BootFaults). f.flips) c.faults.ensures) (ap (λ (f : BootFaults). f.cut) c.faults.ensures)
+    c.in_ok-do_event.ensures.did
 
 pub returns-else-is_some-clause-stands : goal.returns-else-is_some-clause-stands
 returns-else-is_some-clause-stands g c = c.answer.ensures (past_of c.args.journal.now) c.requires.turn c.requires.held

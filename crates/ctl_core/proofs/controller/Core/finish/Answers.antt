@@ -1,8 +1,8 @@
-use Rattle.std.proofs.Common.{◌≡◌, ◌<◌, ◌≤◌, true, length, map, List, sym, ap, ◌∙◌, subst}
+use Rattle.std.proofs.Common.{◌≡◌, ◌<◌, ◌≤◌, length, map, List, sym, ap, ◌∙◌, subst}
 use Rattle.std.specs.Prelude.{All, sum_by}
 use Rattle.nand_model.specs.Partitions.{Partitions}
 use Rattle.nand_model.specs.declared.words.Part.{Part}
-use Rattle.run_model.specs.Course.{end_states, is_over}
+use Rattle.run_model.specs.Course.{end_states}
 use Rattle.ctl_core.specs.declared.board.Slot.{Slot}
 use Rattle.ctl_core.specs.Past.{Past, course_of, starts_of}
 use Rattle.ctl_core.specs.Board.{past_of, slot_state}
@@ -30,26 +30,18 @@ returns-clause-flashes g c =
     c.in_ok-flashes.ensures ∙ last_states (past_of c.self.inside.journal) c.self.inside.board c.self.invariant
     ∙ ap (λ (p : Past g.row.F.Denot). end_states (course_of g.F.Flash.fault_model g.F.Flash.state p)) c.self.view_is
 
-pub returns-clause-lit : goal.returns-clause-lit
-returns-clause-lit g c = ap (λ (p : Past g.row.F.Denot). (course_of g.F.Flash.fault_model g.F.Flash.state p).dark) (sym c.self.view_is)
-    ∙ c.self.invariant.stands.keeps.lit
-
 pub returns-clause-notes : goal.returns-clause-notes
 returns-clause-notes g c = c.self.invariant.stands.keeps.of_notes ∙ ap (λ (p : Past g.row.F.Denot). (course_of g.F.Flash.fault_model g.F.Flash.state p).notes)
     c.self.view_is
 
 pub returns-clause-outcomes : goal.returns-clause-outcomes
 returns-clause-outcomes g c =
-    let over : is_over (course_of g.F.Flash.fault_model g.F.Flash.state (past_of c.self.inside.journal)) ≡ true =
-    ap (λ (p : Past g.row.F.Denot). is_over (course_of g.F.Flash.fault_model g.F.Flash.state p)) c.self.view_is ∙ c.requires in
-    c.in_ok-outcomes.ensures ∙ last_outcomes (past_of c.self.inside.journal) c.self.inside.board c.self.invariant over
+    c.in_ok-outcomes.ensures ∙ last_outcomes (past_of c.self.inside.journal) c.self.inside.board c.self.invariant
     ∙ ap (λ (p : Past g.row.F.Denot). map end_of_run (course_of g.F.Flash.fault_model g.F.Flash.state p).sessions) c.self.view_is
 
 pub returns-clause-ends : goal.returns-clause-ends
 returns-clause-ends g c =
-    let over : is_over (course_of g.F.Flash.fault_model g.F.Flash.state (past_of c.self.inside.journal)) ≡ true =
-    ap (λ (p : Past g.row.F.Denot). is_over (course_of g.F.Flash.fault_model g.F.Flash.state p)) c.self.view_is ∙ c.requires in
-    c.in_ok-outcomes.ensures ∙ last_outcomes (past_of c.self.inside.journal) c.self.inside.board c.self.invariant over
+    c.in_ok-outcomes.ensures ∙ last_outcomes (past_of c.self.inside.journal) c.self.inside.board c.self.invariant
     ∙ last_ends (past_of c.self.inside.journal) c.self.inside.board c.self.invariant
     ∙ ap (λ (p : Past g.row.F.Denot). ends_by_notes p.boot (starts_of g.F.Flash.state p) (course_of g.F.Flash.fault_model g.F.Flash.state p).notes)
     c.self.view_is
@@ -63,9 +55,7 @@ returns-clause-stats g c =
 
 pub returns-clause-bad : goal.returns-clause-bad
 returns-clause-bad g c =
-    let over : is_over (course_of g.F.Flash.fault_model g.F.Flash.state (past_of c.self.inside.journal)) ≡ true =
-    ap (λ (p : Past g.row.F.Denot). is_over (course_of g.F.Flash.fault_model g.F.Flash.state p)) c.self.view_is ∙ c.requires in
     c.all_bad-bad.ensures ∙ ap (λ (slots : List (Slot g.row.F.Denot g.row.C.Denot g.F.Flash)). sum_by slot_bad_blocks (map slot_state slots))
     c.deref-2.ensures.value
-    ∙ last_bad (past_of c.self.inside.journal) c.self.inside.board c.self.invariant over
+    ∙ last_bad (past_of c.self.inside.journal) c.self.inside.board c.self.invariant
     ∙ ap (λ (p : Past g.row.F.Denot). all_bad_blocks p.boot.partitions (course_of g.F.Flash.fault_model g.F.Flash.state p)) c.self.view_is
