@@ -5,8 +5,6 @@ mod commands;
 mod given;
 mod kinds;
 mod options;
-#[cfg(test)]
-mod tests;
 
 pub use commands::command_words;
 pub use kinds::line_kind;

@@ -7,8 +7,6 @@ mod forms;
 mod hardware;
 mod payloads;
 mod plan;
-#[cfg(test)]
-mod tests;
 mod words;
 
 pub use plan::put_lines;

@@ -7,8 +7,6 @@ mod lists;
 mod names;
 mod payload;
 mod tears;
-#[cfg(test)]
-mod tests;
 mod words;
 
 pub use error::LineError;

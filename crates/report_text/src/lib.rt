@@ -10,8 +10,6 @@ mod notes;
 mod outcomes;
 mod replies;
 mod rows;
-#[cfg(test)]
-mod tests;
 mod words;
 
 pub use lines::{put_boot, put_boot_end, put_controller, put_cut, put_device, put_session};

@@ -1,12 +1,12 @@
 // Lines of reports, from the examples of the report's format.
-use crate::{
-    put_boot, put_boot_end, put_controller, put_cut, put_device, put_note, put_notes, put_outcome,
-    put_rows, put_session,
-};
 use nand_iface::History;
 use nand_model::{
     Bytes, Command, Ending, Event, Fairness, Note, Op, Origin, Outcome, PageKind, PageRead, Reply,
     Stats, Which,
+};
+use report_text::{
+    put_boot, put_boot_end, put_controller, put_cut, put_device, put_note, put_notes, put_outcome,
+    put_rows, put_session,
 };
 use std::alloc::{AllocError, Global};
 use std::test::Fail;
@@ -91,36 +91,47 @@ fn replies(alloc: Global) -> Result<[Reply; 6], AllocError> {
     ])
 }
 
-#[test]
-fn notes_of_each_kind(rt: HostRuntime) -> Result<(), Fail> {
-    let alloc = rt.alloc();
+// The notes of three operations that begin.
+fn begun(alloc: Global) -> Result<History, AllocError> {
+    let image = Bytes::filled(alloc, 0, 2112)?;
     let mut history = History::new(alloc);
-    history.reserve(32)?;
-    history.push(Note::Began {
-        session: 1,
-        op: Op::Read { dev: 1, page: 0 },
-    });
-    history.push(Note::Began {
-        session: 0,
-        op: Op::RawWrite {
-            dev: 0,
-            page: 0,
-            image: Bytes::filled(alloc, 0, 2112)?,
-        },
-    });
-    history.push(Note::Began {
-        session: 0,
-        op: Op::Stats { dev: 0 },
-    });
-    let mut out = Bytes::filled(alloc, 0, 0)?;
-    put_notes(&mut out, 1, &history)?;
-    for reply in replies(alloc)? {
-        put_note(&mut out, 1, &Note::Answered { session: 0, reply })?;
+    let ops = [
+        (1, Op::Read { dev: 1, page: 0 }),
+        (
+            0,
+            Op::RawWrite {
+                dev: 0,
+                page: 0,
+                image,
+            },
+        ),
+        (0, Op::Stats { dev: 0 }),
+    ];
+    for (session, op) in ops {
+        history.reserve(1)?;
+        history.push(Note::Began { session, op });
     }
+    Ok(history)
+}
+
+// The lines of the replies.
+fn put_replies(alloc: Global, out: &mut Bytes) -> Result<(), AllocError> {
+    for reply in replies(alloc)? {
+        put_note(out, 1, &Note::Answered { session: 0, reply })?;
+    }
+    Ok(())
+}
+
+// The lines of two chips that are attached, by a table and by markers.
+fn put_attaches(alloc: Global, out: &mut Bytes) -> Result<(), AllocError> {
     let table = attached(alloc, 0, Origin::Primary, 2, 1, &[0, 1, 2, 3])?;
-    put_note(&mut out, 1, &table)?;
+    put_note(out, 1, &table)?;
     let markers = attached(alloc, 1, Origin::Markers, 0, 0, &[0, 2])?;
-    put_note(&mut out, 1, &markers)?;
+    put_note(out, 1, &markers)
+}
+
+// The lines of torn events.
+fn put_tears(out: &mut Bytes) -> Result<(), AllocError> {
     let events = [
         torn(29, Event::Erase(14), true, Fairness::Whole),
         torn(34, Event::Program(960), true, Fairness::Foul),
@@ -128,9 +139,24 @@ fn notes_of_each_kind(rt: HostRuntime) -> Result<(), Fail> {
         torn(6, Event::Read(896), true, Fairness::Missing),
     ];
     for event in &events {
-        put_note(&mut out, 1, event)?;
+        put_note(out, 1, event)?;
     }
-    assert_eq!(rt; out.as_slice(), NOTES.as_bytes());
+    Ok(())
+}
+
+// The lines of all these notes.
+fn notes(alloc: Global) -> Result<Bytes, AllocError> {
+    let mut out = Bytes::with_room(alloc, 1024)?;
+    put_notes(&mut out, 1, &begun(alloc)?)?;
+    put_replies(alloc, &mut out)?;
+    put_attaches(alloc, &mut out)?;
+    put_tears(&mut out)?;
+    Ok(out)
+}
+
+#[test]
+fn notes_of_each_kind(rt: HostRuntime) -> Result<(), Fail> {
+    assert_eq!(rt; notes(rt.alloc())?.as_slice(), NOTES.as_bytes());
     Ok(())
 }
 
@@ -230,26 +256,40 @@ fn command_of(outcome: &Outcome) -> Command {
     }
 }
 
-#[test]
-fn lines_of_a_boot(rt: HostRuntime) -> Result<(), Fail> {
-    let alloc = rt.alloc();
-    let mut out = Bytes::filled(alloc, 0, 0)?;
-    put_boot(&mut out, 0)?;
-    put_controller(&mut out, 0)?;
-    put_session(&mut out, 0)?;
+// The lines of a boot up to the outcomes of its first session.
+fn put_first_session(alloc: Global, out: &mut Bytes) -> Result<(), AllocError> {
+    put_boot(out, 0)?;
+    put_controller(out, 0)?;
+    put_session(out, 0)?;
     for outcome in outcomes(alloc)? {
-        put_outcome(&mut out, &command_of(&outcome), &outcome)?;
+        put_outcome(out, &command_of(&outcome), &outcome)?;
     }
-    put_session(&mut out, 1)?;
-    put_cut(&mut out, 1)?;
+    Ok(())
+}
+
+// The lines of a session that was cut, and those behind the sessions.
+fn put_second_session(out: &mut Bytes) -> Result<(), AllocError> {
     let stats = Stats {
         corrected: 1,
         failed: 0,
     };
-    put_device(&mut out, 1, &stats)?;
-    put_boot_end(&mut out, 0)?;
-    assert_eq!(rt; out.as_slice(), BOOT.as_bytes());
+    put_session(out, 1)?;
+    put_cut(out, 1)?;
+    put_device(out, 1, &stats)?;
+    put_boot_end(out, 0)
+}
+
+// The lines of a boot, and those of no bytes.
+fn boot(alloc: Global) -> Result<Bytes, AllocError> {
+    let mut out = Bytes::with_room(alloc, 1024)?;
+    put_first_session(alloc, &mut out)?;
+    put_second_session(&mut out)?;
     put_rows(&mut out, &[])?;
-    assert_eq!(rt; out.as_slice(), BOOT.as_bytes());
+    Ok(out)
+}
+
+#[test]
+fn lines_of_a_boot(rt: HostRuntime) -> Result<(), Fail> {
+    assert_eq!(rt; boot(rt.alloc())?.as_slice(), BOOT.as_bytes());
     Ok(())
 }

@@ -1,0 +1,13 @@
+//! Tests of plans' words, lines and texts, and of reports' lines.
+#![tactic(auto)]
+
+#[cfg(test)]
+mod commands;
+#[cfg(test)]
+mod plans;
+#[cfg(test)]
+mod printing;
+#[cfg(test)]
+mod reports;
+#[cfg(test)]
+mod words;
