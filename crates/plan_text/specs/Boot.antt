@@ -1,17 +1,19 @@
 -- A controller's part of a boot, as it is put together from the lines of a plan.
-use Rattle.std.specs.Prelude.{ℕ, ◌<◌, List, ◌++◌, map, flat_map, sum_by, take, All}
+use Rattle.std.specs.Prelude.{ℕ, ◌<◌, List, ◌++◌, map, flat_map, sum_by, take, All, Option}
 use Rattle.nand_model.specs.Partitions.{Partitions, LiesWithin}
 use Rattle.nand_model.specs.declared.words.Command.{Command}
+use Rattle.nand_model.specs.declared.words.CutAt.{CutAt}
 use Rattle.nand_model.specs.declared.words.Flip.{Flip}
 use Rattle.nand_model.specs.declared.words.Part.{Part}
 use Rattle.command_model.specs.Boot.{Boot}
-use Rattle.plan_model.specs.Plan.{PartPlan, items_of, part_count, parts_from, sessions_from}
+use Rattle.fault_plan.specs.BootFaults.{BootFaults}
+use Rattle.plan_model.specs.Plan.{PartPlan, first_of, items_of, part_count, parts_from, sessions_from}
 use Rattle.plan_grammar.specs.declared.lines.PlanLines.{PlanLines}
 use Rattle.plan_grammar.specs.declared.lines.ChipLines.{ChipLines}
 use Rattle.plan_grammar.specs.declared.lines.PartLine.{PartLine}
 use Rattle.plan_grammar.specs.declared.lines.FaultLine.{FaultLine}
 use Rattle.plan_grammar.specs.declared.lines.SessionLines.{SessionLines}
-use Rattle.plan_grammar.specs.Meaning.{chip_plan, flips_in, session_plan}
+use Rattle.plan_grammar.specs.Meaning.{chip_plan, cuts_in, flips_in, session_plan}
 use Rattle.plan_text.specs.Plan.{HasSmallDevice}
 
 -- the partitions of these lines, on the chip of this number
@@ -43,6 +45,14 @@ HasPartsWithin chip = All (λ (p : PartLine). LiesWithin chip.geometry.blocks (r
 -- the flips of a controller among these lines
 abbrev pub flips_for : ℕ → List FaultLine → List Flip
 flips_for c faults = items_of c (flat_map flips_in faults)
+
+-- the cut of a controller among these lines: the first one
+abbrev pub cut_for : ℕ → List FaultLine → Option CutAt
+cut_for c faults = first_of (items_of c (flat_map cuts_in faults))
+
+-- the faults of a controller among these lines
+abbrev pub faults_for : ℕ → List FaultLine → BootFaults
+faults_for c faults = record { flips = flips_for c faults; cut = cut_for c faults }
 
 -- the sessions of a controller among these lines, the first of which has this number
 abbrev pub sessions_for : PlanLines → (controller first : ℕ) → List SessionLines → List (ℕ × List Command)

@@ -1,8 +1,9 @@
 -- What the calls of a plan tell of it as data.
-use Rattle.std.specs.Prelude.{◌≡◌, ℕ, ◌^◌, ◌<◌, List, [], length, map, slice_get, slice_index_or, sum_by, count_by, Option, All}
+use Rattle.std.specs.Prelude.{◌≡◌, ℕ, true, ◌^◌, ◌<◌, List, [], length, map, slice_get, slice_index_or, sum_by, count_by, Option, All}
 use Rattle.nand_model.specs.declared.words.Command.{Command}
 use Rattle.nand_model.specs.declared.words.Weak.{Weak}
 use Rattle.nand_model.specs.declared.words.WeakKind.{WeakKind}
+use Rattle.fault_plan.specs.WeakPlaces.{are_apart}
 use Rattle.plan_model.specs.Plan.{PlanData, ChipPlan, BootPlan, SessionPlan}
 use Rattle.plan_grammar.specs.declared.lines.PlanLines.{PlanLines}
 use Rattle.plan_grammar.specs.declared.lines.ChipLines.{ChipLines}
@@ -68,6 +69,6 @@ pub record IsKept (plan : PlanLines) (commands : List (List (List Command))) : T
   pub read : IsOfBytes plan
   pub commands_are : commands ≡ all_commands plan
 
--- a chip without weak places, whose bad blocks are there
-abbrev pub IsPlainChip : ChipLines → Type 0
-IsPlainChip chip = All (λ block. block < chip.geometry.blocks) (bad_blocks chip) × (weak_places chip ≡ [])
+-- a chip that can be made: its bad blocks are there, and no two of its weak places are the same
+abbrev pub IsMadeChip : ChipLines → Type 0
+IsMadeChip chip = All (λ block. block < chip.geometry.blocks) (bad_blocks chip) × (are_apart (weak_places chip) ≡ true)

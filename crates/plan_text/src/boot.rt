@@ -1,9 +1,9 @@
 // A controller's part of a boot of a plan.
-ghost use Rattle.std.specs.Prelude.{◌≡◌, ◌<◌, None, length, IfOk};
+ghost use Rattle.std.specs.Prelude.{◌≡◌, ◌<◌, length, IfOk};
 ghost use Rattle.plan_grammar.specs.Meaning.{plan_of};
 ghost use Rattle.plan_laws.specs.Ready.{part_at};
 
-use crate::flips::flips_for;
+use crate::faults::faults_for;
 use crate::parts::{devices_before, parts_of};
 use crate::plan::Plan;
 use crate::sessions::add_sessions;
@@ -12,8 +12,8 @@ use tool_steps::ControllerBoot;
 
 impl Plan {
     /// A controller's part of a boot: its partitions, whose device numbers go on from those of the
-    /// controllers before it, its flips, and its sessions, by their numbers in the boot, with their
-    /// commands. It has no cut in the boot.
+    /// controllers before it, its flips and its cut, and its sessions, by their numbers in the boot,
+    /// with their commands.
     pub fn boot(
         &self,
         alloc: Global,
@@ -22,7 +22,6 @@ impl Plan {
     ) -> Result<ControllerBoot, AllocError>
         requires boots { boot < length (plan_of self.now).boots }
         requires controllers { controller < length (plan_of self.now).controllers }
-        requires uncut { (part_at (plan_of self.now) boot controller).cut ≡ None }
         ensures { IfOk result (λ part. part ≡ part_at (plan_of self.now) boot controller) }
     {
         let _kept = &self.commands;
@@ -30,8 +29,8 @@ impl Plan {
         let lines = self.boot_lines(boot);
         let first = devices_before(controllers, controller as usize) as u32;
         let parts = parts_of(alloc, first, controllers.get(controller as usize))?;
-        let flips = flips_for(alloc, controller, &lines.faults)?;
-        let mut part = ControllerBoot::new(alloc, parts, flips);
+        let faults = faults_for(alloc, controller, &lines.faults)?;
+        let mut part = ControllerBoot::new(alloc, parts, faults);
         add_sessions(alloc, &self.draft, &mut part, controller, &lines.sessions)?;
         Ok(part)
     }

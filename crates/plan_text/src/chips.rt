@@ -1,15 +1,17 @@
 // The new chips of a plan.
-ghost use Rattle.std.specs.Prelude.{◌≡◌, ◌<◌, ◌++◌, [], length, map, All, IfOk, OnOk};
+ghost use Rattle.std.specs.Prelude.{◌≡◌, ◌<◌, ◌++◌, length, map, All, IfOk, OnOk};
 ghost use Rattle.chip_sim.specs.State.{sim_state};
 ghost use Rattle.nand_model.specs.Chip.{new_chip};
-ghost use Rattle.plan_model.specs.Plan.{ChipPlan as Chip, new_chips};
-ghost use Rattle.plan_grammar.specs.Devices.{bad_blocks};
+ghost use Rattle.plan_model.specs.Plan.{new_chips};
+ghost use Rattle.plan_grammar.specs.Devices.{bad_blocks, weak_places};
 ghost use Rattle.plan_grammar.specs.Meaning.{chip_plan, plan_of};
 ghost use Rattle.plan_laws.specs.Ready.{chips_at};
-ghost use Rattle.plan_text.specs.Plan.{IsPlainChip};
+ghost use Rattle.plan_text.specs.Plan.{IsMadeChip};
 
+use crate::faults::copy_of_tear;
 use crate::plan::Plan;
 use chip_sim::SimChip;
+use fault_plan::{Weak, WeakList};
 use nand_model::{BlockList, ItemList};
 use plan_grammar::{ChipLines, DefectLine};
 use std::alloc::{AllocError, Global};
@@ -38,18 +40,44 @@ fn bad_blocks(alloc: Global, chip: &ChipLines) -> Result<BlockList, AllocError>
     Ok(bad)
 }
 
+// A copy of a weak place.
+fn copy_of_weak(alloc: Global, weak: &Weak) -> Result<Weak, AllocError>
+    ensures { IfOk result (λ copy. copy ≡ weak.now) }
+{
+    Ok(Weak {
+        kind: weak.kind,
+        at: weak.at,
+        after: weak.after,
+        tear: copy_of_tear(alloc, &weak.tear)?,
+    })
+}
+
+// The weak places of a chip.
+fn weak_places(alloc: Global, chip: &ChipLines) -> Result<WeakList, AllocError>
+    ensures { IfOk result (λ weak. weak ≡ weak_places chip.now) }
+{
+    let mut places = WeakList::new(alloc);
+    for defect in &chip.defects {
+        if let DefectLine::Weak(weak) = defect {
+            places.push(copy_of_weak(alloc, weak)?)?;
+        }
+    }
+    Ok(places)
+}
+
 // A new chip.
 fn new_chip(alloc: Global, chip: &ChipLines) -> Result<SimChip, AllocError>
-    requires { IsPlainChip chip.now }
-    ensures { IfOk result (λ made. sim_state made ≡ new_chip chip.now.geometry (bad_blocks chip.now) []) }
+    requires { IsMadeChip chip.now }
+    ensures { IfOk result (λ made. sim_state made
+        ≡ new_chip chip.now.geometry (bad_blocks chip.now) (weak_places chip.now)) }
 {
     let bad = bad_blocks(alloc, chip)?;
-    SimChip::new(alloc, chip.geometry, &bad)
+    SimChip::new(alloc, chip.geometry, &bad, weak_places(alloc, chip)?)
 }
 
 // New chips.
 fn new_chips(alloc: Global, chips: &ItemList<ChipLines>) -> Result<FlashList<SimChip>, AllocError>
-    requires { All IsPlainChip chips.now }
+    requires { All IsMadeChip chips.now }
     ensures { IfOk result (λ flashes. map sim_state flashes ≡ new_chips (map chip_plan chips.now)) }
 {
     let mut flashes = FlashList::new(alloc);
@@ -60,11 +88,9 @@ fn new_chips(alloc: Global, chips: &ItemList<ChipLines>) -> Result<FlashList<Sim
 }
 
 impl Plan {
-    /// The new chips of a controller that has no weak place.
+    /// The new chips of a controller.
     pub fn chips(&self, alloc: Global, controller: u32) -> Result<FlashList<SimChip>, AllocError>
-        requires controllers { controller < length (plan_of self.now).controllers }
-        requires strong { All (λ (chip : Chip). chip.weak ≡ [])
-            (chips_at (plan_of self.now) controller) }
+        requires { controller < length (plan_of self.now).controllers }
         ensures { IfOk result (λ flashes. map sim_state flashes
             ≡ new_chips (chips_at (plan_of self.now) controller)) }
     {

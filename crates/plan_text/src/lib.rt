@@ -6,7 +6,7 @@ mod chips;
 mod commands;
 mod counts;
 mod error;
-mod flips;
+mod faults;
 mod parts;
 mod payload;
 mod plan;
@@ -19,6 +19,3 @@ pub use plan::Plan;
 pub use plan_grammar::PlanKind;
 pub use reader::read_plan;
 pub use text::put_plan;
-
-#[cfg(test)]
-mod tests;

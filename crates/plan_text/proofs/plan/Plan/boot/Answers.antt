@@ -2,7 +2,7 @@ use Rattle.std.proofs.Common.{◌≡◌, ◌∙◌, ℕ, List, [], ap, ap₂, ma
 use Rattle.std.specs.Prelude.{slice_get, sum_by}
 use Rattle.std.proofs.lemmas.List.Sums.{sum_by-take-le}
 use Rattle.nand_model.specs.Partitions.{Partitions}
-use Rattle.nand_model.specs.declared.words.Flip.{Flip}
+use Rattle.fault_plan.specs.BootFaults.{BootFaults}
 use Rattle.command_model.specs.Boot.{Boot}
 use Rattle.tool_steps.specs.Boot.{boot_with}
 use Rattle.plan_model.specs.Plan.{part_count}
@@ -11,7 +11,7 @@ use Rattle.plan_grammar.specs.declared.lines.PlanLines.{PlanLines}
 use Rattle.plan_grammar.specs.declared.lines.BootLines.{BootLines}
 use Rattle.plan_grammar.specs.declared.lines.ChipLines.{ChipLines}
 use Rattle.plan_text.specs.Plan.{IsOfBytes}
-use Rattle.plan_text.specs.Boot.{devices_before, flips_for, parts_of, sessions_for, with_sessions}
+use Rattle.plan_text.specs.Boot.{devices_before, faults_for, parts_of, sessions_for, with_sessions}
 use Rattle.plan_text.proofs.WasRead.{few_sessions}
 use Rattle.plan_text.proofs.BootParts.{part_made, small_at}
 use Rattle.plan_text.proofs.OwnParts.{devices_within, few_devices, keeps_parts}
@@ -93,7 +93,7 @@ returns c =
     c.in_ok-parts.ensures ∙ ap (at_first chips) first in
     c.in_ok-add_sessions.ensures
     ∙ ap (λ (b : Boot). with_sessions b (sessions_for c.self.inside.draft c.args.controller 0 lines.sessions))
-    (c.new-part.ensures ∙ ap₂ (λ (p : Partitions) (f : List Flip). boot_with p f []) parts c.in_ok-flips.ensures)
-    ∙ ap (λ (p : PlanLines). boot_with (at_first chips (devices_before c.args.controller c.args.self.now.controllers)) (flips_for c.args.controller lines.faults)
+    (c.new-part.ensures ∙ ap₂ (λ (p : Partitions) (f : BootFaults). boot_with p f []) parts c.in_ok-faults.ensures)
+    ∙ ap (λ (p : PlanLines). boot_with (at_first chips (devices_before c.args.controller c.args.self.now.controllers)) (faults_for c.args.controller lines.faults)
     (sessions_for p c.args.controller 0 lines.sessions)) c.self.view_is
-    ∙ part_made c.args.self.now c.args.boot c.args.controller lines chips c.boot_lines-lines.ensures there c.requires.uncut
+    ∙ part_made c.args.self.now c.args.boot c.args.controller lines chips c.boot_lines-lines.ensures there

@@ -5,14 +5,14 @@ use Rattle.chip_sim.specs.State.{sim_state}
 use Rattle.plan_model.specs.Plan.{ChipPlan, new_chips}
 use Rattle.plan_grammar.specs.declared.lines.PlanLines.{PlanLines}
 use Rattle.plan_text.specs.Plan.{IsOfBytes}
-use Rattle.plan_text.proofs.NewChips.{chips_are, plain_of}
+use Rattle.plan_text.proofs.NewChips.{chips_are, made_of}
 use Rattle.plan_text.proofs.plan.Plan.chips.Goals as goal
 
 pub new_chips-requires : goal.new_chips-requires
 new_chips-requires c =
     let read = subst IsOfBytes c.self.view_is c.self.invariant.read in
     let there = ap (λ (p : PlanLines). slice_get p.controllers c.args.controller) (sym c.lines.ensures) ∙ c.get.ensures in
-    plain_of c.args.self.now c.args.controller c.get.result.now read there c.requires.strong
+    made_of c.args.self.now c.args.controller c.get.result.now read there
 
 pub returns : goal.returns
 returns c =

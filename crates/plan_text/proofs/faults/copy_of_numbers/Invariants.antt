@@ -1,6 +1,6 @@
 use Rattle.std.proofs.Common.{◌≡◌, ◌++◌}
 use Rattle.std.specs.VecDeque.Iter.{deque_iter_rest}
-use Rattle.plan_text.proofs.flips.copy_of_numbers.Given as goal
+use Rattle.plan_text.proofs.faults.copy_of_numbers.Given as goal
 
 -- the numbers so far and what is left make the whole
 abbrev pub invariant-loop-number : goal.invariant-loop-number
