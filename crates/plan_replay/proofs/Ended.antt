@@ -99,7 +99,7 @@ module _ (plan : PlanData) (n c : ℕ) (starts : List (ChipState SimFaults)) whe
 
   -- a controller that was replayed went through the boot
   pub ends_boot : (ended : EndedController) → HaveSizes (chips_at plan c) starts
-      → EndsReplay part starts (own_schedule (boot_at plan n) c) (map sim_state ended.flashes) (notes_of ended) ended.outcomes ended.stats
+      → EndsReplay part starts (own_schedule (boot_at plan n) c) (map sim_state ended.flashes) (notes_of ended) ended.outcomes ended.stats ended.bad
       → (course : Course SimFaults) × EndsBoot plan n c starts course ended
   ends_boot ended sizes h = (
     h.course,
@@ -113,5 +113,6 @@ module _ (plan : PlanData) (n c : ℕ) (starts : List (ChipState SimFaults)) whe
             ∙ same_sums h.replayed.attaches (rounds_after (own_schedule (boot_at plan n) c) (session_numbers part) h.replayed.rounds) h.course h.replayed.steps
             ∙ ap (sums_in plan c (boot_at plan n)) (sym h.notes_are);
       };
+      bad_are = h.bad_are;
     },
   )

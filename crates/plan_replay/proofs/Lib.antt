@@ -1,8 +1,8 @@
-mod Plain
+mod Runnable
 mod Own
 mod Starts
 mod Ended
 mod Lines
 mod Places
-mod Through
-mod Replays
+pub mod Through
+pub mod Replays

@@ -10,7 +10,7 @@ use Rattle.run_model.specs.Course.{Course, end_states}
 use Rattle.plan_model.specs.Plan.{BootPlan, ChipPlan, PlanData, new_chips}
 use Rattle.plan_laws.specs.Ready.{boot_at, chips_at, no_boot}
 use Rattle.report_model.specs.Report.{boot_text, boots_text}
-use Rattle.headline_model.specs.Headline.{IsReplayOf, notes_in, notes_of_course, starts_at}
+use Rattle.headline_model.specs.Headline.{AreReplay, IsReplayOf, notes_in, notes_of_course, starts_at}
 use Rattle.headline_laws.specs.Replays.{AreReplaysOfAll, AreReplaysOfBoots, IsReplayOfBoot}
 use Rattle.headline_laws.proofs.Numbers.{length-numbers}
 use Rattle.headline_laws.proofs.Replays.{one_boot_more, replays_joined}
@@ -57,11 +57,11 @@ sizes_before plan n states text h = record {
 }
 
 -- a controller after one more boot
-abbrev joined_one : Standing → Through → Standing
+abbrev pub joined_one : Standing → Through → Standing
 joined_one s t = record { own = s.own ++ t.course ∷ []; states = end_states t.course }
 
 -- the same of all
-abbrev joined : List Standing → List Through → List Standing
+abbrev pub joined : List Standing → List Through → List Standing
 joined (s ∷ standing) (t ∷ through) = joined_one s t ∷ joined standing through
 joined _ _ = []
 
@@ -78,7 +78,7 @@ pub record IsJoined (standing : List Standing) (through : List Through) (c : ℕ
   pub is_t : slice_get through c ≡ Some t
   pub same : joined_one s t ≡ now
 
-joined_at : (standing : List Standing) (through : List Through) (c : ℕ) (now : Standing) → slice_get (joined standing through) c ≡ Some now
+pub joined_at : (standing : List Standing) (through : List Through) (c : ℕ) (now : Standing) → slice_get (joined standing through) c ≡ Some now
     → IsJoined standing through c now
 joined_at [] through c now at = cc
 joined_at (s ∷ standing) [] c now at = cc
@@ -210,7 +210,8 @@ module _ (plan : PlanData) (n : ℕ) (states after : List (List (ChipState SimFa
       begins : place.t.starts ≡ starts_at (new_chips (chips_at plan c)) place.s.own (length (take n plan.boots))
       begins = same_states ∙ before.states_are ∙ ap (starts_at (new_chips (chips_at plan c)) place.s.own) (sym taken)
 
-  notes_on : notes_before (n + 1) (courses_of (joined h.standing e.through)) ≡ notes_before n (courses_of h.standing) ++ map notes_of (ends_of e.through) ∷ []
+  -- the notes of one boot more
+  pub notes_on : notes_before (n + 1) (courses_of (joined h.standing e.through)) ≡ notes_before n (courses_of h.standing) ++ map notes_of (ends_of e.through) ∷ []
   notes_on =
       ap (map now) (numbers-push 0 n)
       ∙ map_push now (numbers_from 0 n) (0 + n)
@@ -233,23 +234,26 @@ module _ (plan : PlanData) (n : ℕ) (states after : List (List (ChipState SimFa
       ∙ sym (ap₂ (boots_text plan 0) (take_more plan.boots n no_boot below) notes_on
       ∙ boots_text-push plan 0 (take n plan.boots) (notes_before n (courses_of h.standing)) (boot_at plan n) (map notes_of (ends_of e.through)) many)
 
-  -- one boot more
-  pub boot_on : HaveBeenThrough plan (n + 1) after next
-  boot_on = record {
-    standing = joined h.standing e.through;
-    many = length-joined h.standing e.through same_many ∙ h.many;
-    each = one_on;
-    states_are = e.after_are ∙ last_flashes h.standing e.through same_many (λ i t at. (e.are_through i t at).flashes_are);
-    printed = printed_on;
-  }
+  -- one boot more, and where each controller stands then
+  pub joined_on : (h' : HaveBeenThrough plan (n + 1) after next) × (courses_of h'.standing ≡ courses_of (joined h.standing e.through))
+  joined_on = (
+    record {
+      standing = joined h.standing e.through;
+      many = length-joined h.standing e.through same_many ∙ h.many;
+      each = one_on;
+      states_are = e.after_are ∙ last_flashes h.standing e.through same_many (λ i t at. (e.are_through i t at).flashes_are);
+      printed = printed_on;
+    },
+    refl,
+  )
 
--- after the last boot the text is the report of the plan's replay
-pub all_ended : (plan : PlanData) (n : ℕ) (states : List (List (ChipState SimFaults))) (text : List ℕ) → HaveBeenThrough plan n states text
-    → n ≡ length plan.boots → IsReplayOf plan text
-all_ended plan n states text h end =
-    replay_reported plan (courses_of h.standing) text (replays_joined plan (courses_of h.standing) all)
-    (h.printed ∙ ap (λ bs. boots_text plan 0 bs (notes_before n (courses_of h.standing))) whole
-    ∙ ap (λ k. boots_text plan 0 plan.boots (notes_before k (courses_of h.standing))) end)
+  pub boot_on : HaveBeenThrough plan (n + 1) after next
+  boot_on = joined_on.0
+
+-- after the last boot the courses are those of the plan's replay
+pub all_replayed : (plan : PlanData) (n : ℕ) (states : List (List (ChipState SimFaults))) (text : List ℕ)
+    → (h : HaveBeenThrough plan n states text) → n ≡ length plan.boots → AreReplay plan (courses_of h.standing)
+all_replayed plan n states text h end = replays_joined plan (courses_of h.standing) all
   where
     whole : take n plan.boots ≡ plan.boots
     whole = take_all n plan.boots (omega (arith, end))
@@ -262,3 +266,11 @@ all_ended plan n states text h end =
           subst₂ (λ cs os. AreReplaysOfBoots plan c cs (new_chips cs) plan.boots os) (get_or_from_slice_get plan.controllers c chips [] is_chips) found.2
           (subst (λ bs. AreReplaysOfBoots plan c (chips_at plan c) (new_chips (chips_at plan c)) bs found.0.own) whole (h.each c found.0 found.1).replays);
     }
+
+-- and the text is its report
+pub all_ended : (plan : PlanData) (n : ℕ) (states : List (List (ChipState SimFaults))) (text : List ℕ) → HaveBeenThrough plan n states text
+    → n ≡ length plan.boots → IsReplayOf plan text
+all_ended plan n states text h end =
+    replay_reported plan (courses_of h.standing) text (all_replayed plan n states text h end)
+    (h.printed ∙ ap (λ bs. boots_text plan 0 bs (notes_before n (courses_of h.standing))) (take_all n plan.boots (omega (arith, end)))
+    ∙ ap (λ k. boots_text plan 0 plan.boots (notes_before k (courses_of h.standing))) end)

@@ -1,27 +1,23 @@
 -- A controller can be started on its part of a boot.
-use Rattle.std.proofs.Common.{◌≡◌, ◌<◌, ℕ, true, List, length}
+use Rattle.std.proofs.Common.{◌<◌, ℕ, List, length}
 use Rattle.nand_model.specs.Chip.{ChipState, SimFaults}
-use Rattle.run_model.specs.Start.{CanStart}
+use Rattle.ctl_core.specs.Start.{CanStart}
 use Rattle.plan_grammar.specs.declared.lines.PlanLines.{PlanLines}
 use Rattle.plan_grammar.specs.Meaning.{plan_of}
 use Rattle.plan_laws.specs.Ready.{HaveSizes, IsReady, chips_at, part_at}
 use Rattle.plan_laws.proofs.Ready.{are_ready}
 use Rattle.plan_text.specs.Plan.{IsOfBytes}
-use Rattle.plan_replay.specs.Built.{is_built}
-use Rattle.plan_replay.proofs.Plain.{plain_chips, plain_states, uncut}
 
 pub can_start : (plan : PlanLines) (n c : ℕ) (starts : List (ChipState SimFaults)) → IsOfBytes plan → n < length (plan_of plan).boots
-    → c < length (plan_of plan).controllers → is_built (plan_of plan) ≡ true → HaveSizes (chips_at (plan_of plan) c) starts
+    → c < length (plan_of plan).controllers → HaveSizes (chips_at (plan_of plan) c) starts
     → CanStart (part_at (plan_of plan) n c) starts
-can_start plan n c starts read boots controllers built sizes =
+can_start plan n c starts read boots controllers sizes =
     let ready : IsReady (part_at (plan_of plan) n c) starts = are_ready SimFaults read.0 plan read.1 starts n c boots controllers sizes in
     record {
       few = ready.few;
-      plain = plain_states (chips_at (plan_of plan) c) starts sizes (plain_chips (plan_of plan) c built);
       parts = ready.parts;
       flips = ready.flips;
       few_flips = ready.few_flips;
-      uncut = uncut (plan_of plan) n c built;
       devices = ready.devices;
       runnable = ready.fits;
       ascending = ready.ascending;

@@ -7,11 +7,11 @@ use Rattle.nand_model.specs.declared.words.Stats.{Stats}
 use Rattle.command_model.specs.Boot.{Boot}
 use Rattle.run_model.specs.Course.{Course, end_states}
 use Rattle.run_model.specs.Statistics.{device_statistics}
-use Rattle.plan_model.specs.Plan.{PlanData, new_chips}
+use Rattle.plan_model.specs.Plan.{PlanData, devices_of, new_chips}
 use Rattle.plan_laws.specs.Ready.{HaveSizes, boot_at, chips_at}
 use Rattle.report_model.specs.Report.{boot_text, boots_text, controller_lines}
 use Rattle.session_steps.specs.Ended.{EndOfSession}
-use Rattle.ctl_core.specs.Ended.{ends_by_notes}
+use Rattle.ctl_core.specs.Ended.{all_bad_blocks, ends_by_notes}
 use Rattle.session_run.specs.Replay.{IsReplayed}
 use Rattle.headline_model.specs.Headline.{Courses, notes_in, starts_at}
 use Rattle.headline_laws.specs.Replays.{AreReplaysOfBoots, IsReplayOfBoot}
@@ -22,13 +22,14 @@ use Rattle.plan_replay.specs.Ends.{device_text, ends_in, sums_in}
 -- what a controller leaves of a boot that it began in these states, by this schedule
 pub record EndsReplay (boot : Boot) (starts : List (ChipState SimFaults)) (schedule : List ℕ)
     (flashes : List (ChipState SimFaults)) (notes : List Note) (ends : List EndOfSession) (sums : List (ℕ × Stats))
-    : Type 0 where
+    (bad : ℕ) : Type 0 where
   pub course : Course SimFaults
   pub replayed : IsReplayed sim_faults boot starts schedule course
   pub flashes_are : flashes ≡ end_states course
   pub notes_are : notes ≡ course.notes
   pub ends_are : ends ≡ ends_by_notes boot starts course.notes
   pub sums_are : sums ≡ device_statistics boot.partitions course
+  pub bad_are : bad ≡ all_bad_blocks boot.partitions course
 
 -- the notes of a controller that went through a boot
 abbrev pub notes_of : EndedController → List Note
@@ -51,6 +52,7 @@ pub record EndsBoot (plan : PlanData) (n c : ℕ) (starts : List (ChipState SimF
   pub flashes_are : map sim_state ended.flashes ≡ end_states course
   pub notes_are : notes_of ended ≡ course.notes
   pub by_notes : EndsByNotes plan n c ended
+  pub bad_are : ended.bad ≡ all_bad_blocks (devices_of plan c (chips_at plan c)) course
 
 -- the lines of its devices
 abbrev pub devices_text : EndedController → List ℕ
@@ -68,10 +70,11 @@ abbrev pub AreThrough : PlanData → ℕ → List Through → Type 0
 AreThrough plan n through =
     (c : ℕ) (t : Through) → slice_get through c ≡ Some t → EndsBoot plan n c t.starts t.course t.ended
 
--- the states in which they began, and what they left
+-- the states in which they began
 abbrev pub starts_of : List Through → List (List (ChipState SimFaults))
 starts_of through = map (λ (t : Through). t.starts) through
 
+-- what they left
 abbrev pub ends_of : List Through → List EndedController
 ends_of through = map (λ (t : Through). t.ended) through
 

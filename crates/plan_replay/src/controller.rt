@@ -35,6 +35,8 @@ pub struct EndedController {
     pub outcomes: OutcomeList,
     /// The ECC statistics of each device, in order.
     pub stats: StatsList,
+    /// The number of blocks of its chips that are worn or factory bad.
+    pub bad: u32,
 }
 
 // A controller's part of a boot, run to its end on these flashes.
@@ -51,7 +53,7 @@ fn replayed(
     requires sizes { HaveSizes (chips_at (plan_of plan.now) controller) (map sim_state flashes) }
     ensures { IfOk result (λ ended. EndsReplay (part_at (plan_of plan.now) boot controller)
         (map sim_state flashes) (own_schedule (boot_at (plan_of plan.now) boot) controller)
-        (map sim_state ended.flashes) ended.notes.notes ended.outcomes ended.stats) }
+        (map sim_state ended.flashes) ended.notes.notes ended.outcomes ended.stats ended.bad) }
 {
     plan.was_read();
     let schedule = own_schedule(alloc, plan, boot, controller)?;
@@ -59,6 +61,40 @@ fn replayed(
     let core = Core::start(alloc, part, flashes, EccPage)?;
     let core = replay(core, &schedule)?;
     core.finish()
+}
+
+/// Runs a controller's part of a boot to its end on these flashes. Gives its notes back beside what
+/// else it leaves.
+pub fn go_through(
+    alloc: Global,
+    plan: &Plan,
+    boot: u32,
+    controller: u32,
+    flashes: FlashList<SimChip>,
+) -> Result<(EndedController, History), AllocError>
+    requires boots { boot < length (plan_of plan.now).boots }
+    requires controllers { controller < length (plan_of plan.now).controllers }
+    requires built { is_built (plan_of plan.now) ≡ true }
+    requires sizes { HaveSizes (chips_at (plan_of plan.now) controller) (map sim_state flashes) }
+    ensures ends { IfOk result (λ both. (course : Course SimFaults)
+        × EndsBoot (plan_of plan.now) boot controller (map sim_state flashes) course both.0) }
+    ensures notes { IfOk result (λ both. both.1.notes ≡ notes_of both.0) }
+{
+    let Ended {
+        flashes,
+        notes,
+        outcomes,
+        stats,
+        bad,
+    } = replayed(alloc, plan, boot, controller, flashes)?;
+    let ended = EndedController {
+        notes: Snapshot::of(&notes),
+        flashes,
+        outcomes,
+        stats,
+        bad,
+    };
+    Ok((ended, notes))
 }
 
 /// Runs a controller's part of a boot to its end on these flashes, and appends the controller's
@@ -80,19 +116,8 @@ pub fn run_controller(
     ensures text { IfOk result
         (λ ended. out.new ≡ out.old ++ notes_text controller (notes_of ended)) }
 {
-    let Ended {
-        flashes,
-        notes,
-        outcomes,
-        stats,
-        ..
-    } = replayed(alloc, plan, boot, controller, flashes)?;
+    let (ended, notes) = go_through(alloc, plan, boot, controller, flashes)?;
     put_controller(out, controller)?;
     put_notes(out, controller, &notes)?;
-    Ok(EndedController {
-        notes: Snapshot::of(&notes),
-        flashes,
-        outcomes,
-        stats,
-    })
+    Ok(ended)
 }

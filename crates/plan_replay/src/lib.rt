@@ -12,5 +12,7 @@ mod sessions;
 #[cfg(test)]
 mod tests;
 
+pub use boot::Flashes;
 pub use built::can_be_run;
-pub use replay::replay_report;
+pub use controller::{EndedController, go_through};
+pub use replay::{new_flashes, replay_report};

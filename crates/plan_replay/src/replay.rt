@@ -11,8 +11,8 @@ use nand_model::Bytes;
 use plan_text::Plan;
 use std::alloc::{AllocError, Global};
 
-// The new chips of each controller.
-fn new_flashes(alloc: Global, plan: &Plan) -> Result<Flashes, AllocError>
+/// The new chips of each controller of a plan.
+pub fn new_flashes(alloc: Global, plan: &Plan) -> Result<Flashes, AllocError>
     requires { is_built (plan_of plan.now) ≡ true }
     ensures { IfOk result (λ flashes. map (map sim_state) flashes
         ≡ map new_chips (plan_of plan.now).controllers) }
