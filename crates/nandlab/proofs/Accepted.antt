@@ -8,16 +8,16 @@ use Rattle.std.specs.Str.Parse.{digits_value}
 use Rattle.std.proofs.lemmas.Bool.{and_parts, cases_Bool, eqb-true, false_from_ne_true, false≢true}
 use Rattle.std.proofs.lemmas.Slice.Eq.{bytes_eq-Decides}
 use Rattle.clap.specs.Lexer.{long_of, long_of_rest, short_of, short_of_rest, strip_byte}
-use Rattle.clap.specs.Walk.{Held, Step, Text, Walk, idle, trailing, value, walked, word_met}
+use Rattle.clap.specs.Walk.{Held, Step, Text, Walk, idle, walked, word_met}
 use Rattle.clap.specs.Kinds.{Kinds, or_else}
-use Rattle.clap.specs.Faults.{bundle_fault, defaults_fault, fault_of, flag_word_fault, other_fault, step_fault, turn_fault, walk_fault, word_fault}
+use Rattle.clap.specs.Faults.{bundle_fault, defaults_fault, fault_of, flag_word_fault, step_fault, turn_fault, walk_fault, word_fault}
 use Rattle.lab_text.specs.Text.{is_numeral, number_in}
 use Rattle.plan_grammar.specs.Forms.{has_no_leading_zero, plain_decimal}
 use Rattle.nandlab.specs.Positionals.{two_positionals}
 use Rattle.nandlab.specs.Words.{number_request, plain_request, text_request, without_dashes, word_request}
 use Rattle.nandlab.specs.declared.request.Request.{Request}
 use Rattle.nandlab.specs.declared.request.Request.TheVariants.{Check, Replay, Run, Make}
-use Rattle.nandlab.proofs.ClapSteps.{at, dashes, held, holds_both, holds_none, holds_word, met_dashes, met_other, rules, shape, walk_dashes, walk_number, walk_number_after, walk_word, walk_word_after}
+use Rattle.nandlab.proofs.ClapSteps.{at, dashes, holds_both, holds_none, holds_word, met_dashes, met_other, rules, shape, walk_dashes, walk_number, walk_number_after, walk_word, walk_word_after}
 use Rattle.nandlab.proofs.ClapWords.{dashes_out, end_fault, faults_are, walk_on, word_stays}
 
 or_else_none : (x y : Kinds) → x ≡ [] → y ≡ [] → or_else x y ≡ []

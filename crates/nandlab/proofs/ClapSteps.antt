@@ -3,7 +3,7 @@ use Rattle.std.proofs.Common.{◌≡◌, ◌∙◌, ◌⊎◌, ℕ, zero, suc, B
 use Rattle.std.specs.Prelude.{if◌then◌else◌, length, slice_get}
 use Rattle.std.specs.Str.{chars}
 use Rattle.clap.specs.Lexer.{long_of, short_of}
-use Rattle.clap.specs.Walk.{Held, Outcome, Row, Rule, Step, Text, Walk, after_flag, after_step, bundle_met, bundle_step, done, idle, long_or_other, plain, pushed, refused, settled, short_or_plain, trailing, value, walked, word_met}
+use Rattle.clap.specs.Walk.{Held, Outcome, Row, Rule, Step, Text, Walk, after_flag, after_step, bundle_met, bundle_step, idle, long_or_other, plain, pushed, refused, settled, short_or_plain, trailing, value, walked, word_met}
 use Rattle.clap.specs.Simple.{Shape, built}
 use Rattle.nandlab.specs.Positionals.{two_positionals}
 

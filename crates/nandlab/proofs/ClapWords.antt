@@ -1,9 +1,9 @@
 -- The words that a parse without fault gives to the two positionals are those of the call without
 -- the first `--`.
-use Rattle.std.proofs.Common.{◌≡◌, ◌∙◌, ◌⊎◌, ℕ, Bool, true, false, inl, inr, List, [], ◌∷◌, Option, Some, None, refl, ap, sym, subst, codes, bytes_eq}
+use Rattle.std.proofs.Common.{◌≡◌, ◌∙◌, Bool, true, false, inl, inr, List, [], ◌∷◌, Option, Some, None, refl, ap, sym, subst, codes, bytes_eq}
 use Rattle.std.specs.Prelude.{fold, if◌then◌else◌, is_some}
 use Rattle.std.proofs.lemmas.Bool.{cases_Bool}
-use Rattle.clap.specs.Walk.{Held, Step, Text, Walk, finished, first_of, idle, nothing_held, value, walked, word_met}
+use Rattle.clap.specs.Walk.{Held, Step, Text, Walk, finished, first_of, idle, nothing_held, walked, word_met}
 use Rattle.clap.specs.Simple.{built, entered, matches_of}
 use Rattle.clap.specs.Kinds.{Kinds, or_else}
 use Rattle.clap.specs.Faults.{check_fault, defaults_fault, entered_fault, fault_of, level_fault, settle_fault, step_fault, turn_fault, walk_fault, word_fault}
@@ -11,7 +11,7 @@ use Rattle.clap.specs.Walk.{settled}
 use Rattle.clap.specs.declared.error.kind.ErrorKind.TheVariants as kind
 use Rattle.nandlab.specs.Positionals.{positionals, two_positionals}
 use Rattle.nandlab.specs.Words.{without_dashes}
-use Rattle.nandlab.proofs.ClapSteps.{at, dashes, held, holds_both, holds_none, holds_word, met_other, rules, shape, walk_dashes, walk_number, walk_number_after, walk_word, walk_word_after}
+use Rattle.nandlab.proofs.ClapSteps.{at, dashes, holds_both, holds_none, holds_word, met_other, rules, shape, walk_dashes, walk_number, walk_number_after, walk_word, walk_word_after}
 
 pub or_else_first : (x y : Kinds) → or_else x y ≡ [] → x ≡ []
 or_else_first [] y e = refl

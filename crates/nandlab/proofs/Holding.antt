@@ -4,7 +4,7 @@ use Rattle.std.specs.Prelude.{IfSome}
 use Rattle.std.specs.Io.KnownBytes.{append_known}
 use Rattle.lab_outside.specs.Outside.{TookPrefix}
 use Rattle.nandlab.specs.Status.{exit_code}
-use Rattle.nandlab.specs.Words.{Words, request_of}
+use Rattle.nandlab.specs.Words.{Words, given_of, given_to, most_asked, most_read, request_of}
 use Rattle.nandlab.specs.Answer.{Answers, Holds, Leaves, Writes}
 use Rattle.nandlab.specs.declared.request.Request.{Request}
 use Rattle.nandlab.specs.declared.status.Status.{Status}
@@ -77,3 +77,14 @@ pub ends_as : (result status wanted : Status) (Grown Risen Took : Type 0)
     → (result ≡ wanted) ⊎ (result ≡ Memory)
 ends_as result status wanted Grown Risen Took (inl (same, grown)) calm e = inl (same ∙ e)
 ends_as result status wanted Grown Risen Took (inr (failed, risen, took)) calm e = absurd (calm risen)
+
+-- what a request is given is what its words are
+pub given_is : (words : Words) (request : Request) (left : Option (List ℕ)) (bytes : List ℕ) → request_of words ≡ Some request
+    → given_to words left ≡ Some bytes → given_of (most_read request) left ≡ Some bytes
+given_is words request left bytes asked given = sym (ap (λ o. given_of (most_asked o) left) asked) ∙ given
+
+-- a request that reads is given what is left
+pub left_is_given : (words : Words) (request : Request) (left : Option (List ℕ)) (most : ℕ) (bytes : List ℕ) → request_of words ≡ Some request
+    → most_read request ≡ Some most → given_to words left ≡ Some bytes → left ≡ Some bytes
+left_is_given words request left most bytes asked reads given =
+    sym (ap (λ m. given_of m left) reads) ∙ given_is words request left bytes asked given

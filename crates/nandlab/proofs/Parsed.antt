@@ -1,15 +1,15 @@
 -- What the words of a call ask for, by the parse of them.
-use Rattle.std.proofs.Common.{◌≡◌, ◌∙◌, true, List, [], Option, Some, None, refl, ap, ap₂, sym, subst, codes}
+use Rattle.std.proofs.Common.{◌≡◌, ◌∙◌, true, List, [], Option, Some, None, refl, ap, ap₂, subst, codes}
 use Rattle.clap.specs.Matches.{first_value, found_of}
 use Rattle.clap.specs.Walk.{Row, Text, first_of, rows_of}
 use Rattle.clap.specs.Simple.{App, HasMatchesOf, matches_of}
-use Rattle.clap.specs.Kinds.{HasKind, IsAmong}
+use Rattle.clap.specs.Kinds.{IsAmong}
 use Rattle.clap.specs.Faults.{fault_of, is_simple_and_free}
 use Rattle.clap.specs.declared.error.kind.ErrorKind.{ErrorKind}
 use Rattle.clap.specs.declared.parser.matches.ArgMatches.{ArgMatches}
 use Rattle.clap.proofs.WalkLemmas.{first_value-rows}
 use Rattle.nandlab.specs.Positionals.{positionals, two_positionals}
-use Rattle.nandlab.specs.Words.{plain_request, text_request, without_dashes}
+use Rattle.nandlab.specs.Words.{plain_request, text_request}
 use Rattle.nandlab.specs.declared.request.Request.{Request}
 use Rattle.nandlab.proofs.Accepted.{accepted_words}
 use Rattle.nandlab.proofs.ClapWords.{words_given}

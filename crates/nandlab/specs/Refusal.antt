@@ -3,6 +3,8 @@ use Rattle.std.specs.Prelude.{ℕ, List, ◌++◌, codes, decimal}
 use Rattle.report_model.specs.Report.{line}
 use Rattle.plan_grammar.specs.declared.kind.PlanKind.{PlanKind}
 use Rattle.plan_grammar.specs.declared.kind.PlanKind.TheVariants.{LineTooLong, BadByte, UnknownWord, WrongPlace, BadWords, BadNumber, BadSize, SpareTooSmall, OutOfChip, TooFewTableBlocks, Overlap, UnknownDevice, UnknownName, NotMultiple, TooLarge, Ended, TooLong}
+use Rattle.nandlab.specs.declared.refusal.Refusal.{Refusal}
+use Rattle.nandlab.specs.declared.refusal.Refusal.TheVariants.{Text, Memory}
 
 -- what is written for words that are not accepted
 abbrev pub usage_line : List ℕ
@@ -35,3 +37,8 @@ refusal_line at kind = line (codes "line " ++ decimal at ++ codes ": " ++ kind_n
 -- what is written for what is not built yet
 abbrev pub not_built_line : List ℕ
 not_built_line = line (codes "line 0: NotBuilt")
+
+-- a fact about the text of a refusal, where it is not one of memory
+abbrev pub IfText : Refusal → (List ℕ → Type 0) → Type 0
+IfText (Text text) P = P text
+IfText Memory P = Unit {0}

@@ -1,16 +1,19 @@
-// What is written for a request to the bytes of a plan.
-ghost use Rattle.std.specs.Prelude.{◌≡◌, ◌++◌, true, false, MatchOption, IfOk};
+// What is written for a request to the bytes that it is given.
+ghost use Rattle.std.specs.Prelude.{◌≡◌, true, false, IfOk, IfErr};
 ghost use Rattle.headline_model.specs.Headline.{IsReplayOf};
 ghost use Rattle.plan_grammar.specs.Canonical.{canonical_text};
+ghost use Rattle.plan_grammar.specs.Grammar.{IsPlan};
 ghost use Rattle.plan_grammar.specs.Meaning.{plan_of};
 ghost use Rattle.plan_replay.specs.Built.{is_built};
-ghost use Rattle.nandlab.specs.Answer.{Answers, IsTextOf, is_served};
-ghost use Rattle.nandlab.specs.Refusal.{refusal_line};
-ghost use Rattle.nandlab.specs.Words.{reads_plan};
+ghost use Rattle.made_replay.specs.Summary.{IsSummaryOf, plan_of_number};
+ghost use Rattle.nandlab.specs.Answer.{Answers, IsNoPlan, IsRefusalOf, Serves};
+ghost use Rattle.nandlab.specs.Refusal.{IfText, not_built_line, refusal_line};
+ghost use Rattle.nandlab.specs.declared.refusal.Refusal.TheVariants.{Memory};
 
-use crate::refusal::{NOT_BUILT, kind_name};
+use crate::refusal::{NOT_BUILT, Refusal, kind_name};
 use crate::request::Request;
 use crate::status::Status;
+use made_replay::made_summary;
 use nand_model::Bytes;
 use plan_replay::{can_be_run, replay_report};
 use plan_text::{Plan, PlanError, PlanKind, put_plan, read_plan};
@@ -32,68 +35,89 @@ fn refusal_text(alloc: Global, line: u32, kind: PlanKind) -> Result<Bytes, Alloc
     Bytes::from_slice(alloc, text.as_bytes())
 }
 
-// The canonical text of a plan.
-fn canonical(alloc: Global, plan: &Plan) -> Result<Bytes, AllocError>
-    ensures { IfOk result (λ text. text ≡ canonical_text plan.now) }
+// The line that refuses what is not built.
+fn not_built(alloc: Global) -> Refusal
+    ensures { IfText result (λ text. text ≡ not_built_line) }
 {
+    match Bytes::from_slice(alloc, NOT_BUILT) {
+        Ok(text) => Refusal::Text(text),
+        Err(_) => Refusal::Memory,
+    }
+}
+
+// The plan that the bytes are.
+fn plan_read(alloc: Global, bytes: &[u8]) -> Result<Plan, Refusal>
+    ensures plan { IfOk result (IsPlan bytes.now) }
+    ensures refused { IfErr result (λ refusal. IfText refusal (IsNoPlan bytes.now)) }
+{
+    match read_plan(alloc, bytes) {
+        Ok(plan) => Ok(plan),
+        Err(PlanError::Refused { line, kind }) => {
+            let text = refusal_text(alloc, line, kind)?;
+            Err(Refusal::Text(text))
+        }
+        Err(PlanError::Memory) => Err(Refusal::Memory),
+    }
+}
+
+// What `check` writes: the canonical text of the plan.
+fn checked(alloc: Global, bytes: &[u8]) -> Result<Bytes, Refusal>
+    ensures text { IfOk result (Serves Request.Check bytes.now) }
+    ensures refused { IfErr result (λ refusal. IfText refusal
+        (IsRefusalOf Request.Check bytes.now)) }
+{
+    let plan = plan_read(alloc, bytes)?;
     let mut text = Bytes::filled(alloc, 0, 0)?;
-    put_plan(&mut text, plan)?;
+    put_plan(&mut text, &plan)?;
     Ok(text)
 }
 
-// The report of a plan's replay. None comes exactly where it cannot be run.
-fn replayed(alloc: Global, plan: &Plan) -> Result<Option<Bytes>, AllocError>
-    ensures { IfOk result (λ text. MatchOption text
-        (is_built (plan_of plan.now) ≡ false)
-        (λ report. (is_built (plan_of plan.now) ≡ true)
-        × IsReplayOf (plan_of plan.now) report)) }
+// What `replay` writes: the report of the plan's replay.
+fn replayed(alloc: Global, bytes: &[u8]) -> Result<Bytes, Refusal>
+    ensures text { IfOk result (Serves Request.Replay bytes.now) }
+    ensures refused { IfErr result (λ refusal. IfText refusal
+        (IsRefusalOf Request.Replay bytes.now)) }
 {
-    if can_be_run(plan) {
-        Ok(Some(replay_report(alloc, plan)?))
-    } else {
-        Ok(None)
+    let plan = plan_read(alloc, bytes)?;
+    if !can_be_run(&plan) {
+        return Err(not_built(alloc));
+    }
+    Ok(replay_report(alloc, &plan)?)
+}
+
+// What `make` writes: the summary of the replay of the plan of a number.
+fn summed_up(alloc: Global, n: u64) -> Result<Bytes, Refusal>
+    ensures text { IfOk result (λ text. (is_built (plan_of_number n) ≡ true) × IsSummaryOf n text) }
+    ensures refused { IfErr result (λ refusal. IfText refusal
+        (λ text. (is_built (plan_of_number n) ≡ false) × (text ≡ not_built_line))) }
+{
+    match made_summary(alloc, n)? {
+        Some(text) => Ok(text),
+        None => Err(not_built(alloc)),
     }
 }
 
-// What a request writes of a plan. None comes exactly where it is not built for the plan.
-fn text_of(alloc: Global, request: Request, plan: &Plan) -> Result<Option<Bytes>, AllocError>
-    ensures { IfOk result (λ text. MatchOption text
-        (is_served request plan.now ≡ false)
-        (λ written. (is_served request plan.now ≡ true) × IsTextOf request plan.now written)) }
+// What a request writes of the bytes that it is given.
+fn served(alloc: Global, request: Request, bytes: &[u8]) -> Result<Bytes, Refusal>
+    ensures text { IfOk result (Serves request bytes.now) }
+    ensures refused { IfErr result (λ refusal. IfText refusal (IsRefusalOf request bytes.now)) }
 {
     match request {
-        Request::Check => Ok(Some(canonical(alloc, plan)?)),
-        Request::Replay => replayed(alloc, plan),
-        Request::Run => replayed(alloc, plan),
-        Request::Make(_) => Ok(None),
+        Request::Check => checked(alloc, bytes),
+        Request::Replay | Request::Run => replayed(alloc, bytes),
+        Request::Make(n) => summed_up(alloc, n),
     }
 }
 
-/// What is written for a request to these bytes, and its status: what it writes of the plan that
-/// they are, or the line that refuses them.
-pub fn answer_plan(alloc: Global, request: Request, bytes: &[u8]) -> Result<Answer, AllocError>
-    requires { reads_plan request ≡ true }
+/// What is written for a request that is given these bytes, and its status: what it writes of them,
+/// or the line that refuses them.
+pub fn answer_to(alloc: Global, request: Request, bytes: &[u8]) -> Result<Answer, AllocError>
     ensures { IfOk result (λ answer. Answers request bytes.now answer.status answer.text) }
 {
-    let plan = match read_plan(alloc, bytes) {
-        Ok(plan) => plan,
-        Err(PlanError::Refused { line, kind }) => {
-            let text = refusal_text(alloc, line, kind)?;
-            return Ok(Answer {
-                status: Status::PlanRefused,
-                text,
-            });
-        }
-        Err(PlanError::Memory) => return Err(AllocError),
+    let (status, text) = match served(alloc, request, bytes) {
+        Ok(text) => (Status::Fine, text),
+        Err(Refusal::Text(text)) => (Status::PlanRefused, text),
+        Err(Refusal::Memory) => return Err(AllocError),
     };
-    match text_of(alloc, request, &plan)? {
-        Some(text) => Ok(Answer {
-            status: Status::Fine,
-            text,
-        }),
-        None => Ok(Answer {
-            status: Status::PlanRefused,
-            text: Bytes::from_slice(alloc, NOT_BUILT)?,
-        }),
-    }
+    Ok(Answer { status, text })
 }

@@ -1,13 +1,33 @@
 // The lines that refuse a call.
 ghost use Rattle.std.specs.Prelude.{◌≡◌};
 ghost use Rattle.nandlab.specs.Refusal.{kind_name};
+ghost use Rattle.nandlab.specs.declared.refusal.Refusal.TheVariants.{Memory};
 
+use nand_model::Bytes;
 use plan_text::PlanKind;
+use std::alloc::AllocError;
+
+/// Why a request is not served.
+#[derive(Drop)]
+pub enum Refusal {
+    /// The bytes are refused, by this line.
+    Text(Bytes),
+    /// Memory ran out.
+    Memory,
+}
+
+impl From<AllocError> for Refusal {
+    ghost from_gives = { λ _ e. e ≡ Memory };
+
+    fn from(_: AllocError) -> Refusal {
+        Refusal::Memory
+    }
+}
 
 /// What is written for words that are not accepted.
 pub const USAGE: &[u8] = b"usage: nandlab check or replay or run or make N\n";
 
-/// What is written for a plan of more than 16,777,216 bytes.
+/// What is written for more bytes than a request may be given.
 pub const TOO_LONG: &[u8] = b"line 0: TooLong\n";
 
 /// What is written for what is not built yet.

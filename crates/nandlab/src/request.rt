@@ -1,6 +1,9 @@
 // What the words of a call ask for.
 ghost use Rattle.std.specs.Prelude.{◌≡◌};
-ghost use Rattle.nandlab.specs.Words.{reads_plan};
+ghost use Rattle.nandlab.specs.Words.{most_read};
+
+/// The greatest number of bytes of a plan.
+const MOST_BYTES: usize = 16_777_216;
 
 /// What the words of a call ask for.
 #[derive(Clone, Copy, Debug, PartialEq, Eq)]
@@ -16,13 +19,13 @@ pub enum Request {
 }
 
 impl Request {
-    /// Whether a plan is read for it.
-    pub fn reads_plan(self) -> bool
-        ensures { result ≡ reads_plan self }
+    /// The most bytes that it may be given. None comes where it reads nothing.
+    pub fn most_read(self) -> Option<usize>
+        ensures { result ≡ most_read self }
     {
         match self {
-            Request::Check | Request::Replay | Request::Run => true,
-            Request::Make(_) => false,
+            Request::Check | Request::Replay | Request::Run => Some(MOST_BYTES),
+            Request::Make(_) => None,
         }
     }
 }

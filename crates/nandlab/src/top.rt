@@ -1,21 +1,20 @@
 // The top call.
-ghost use Rattle.std.specs.Prelude.{◌≡◌, ◌<◌, ◌≤◌, ◌⊎◌, ℕ, List, true, false, Some, None, length, IfSome};
+ghost use Rattle.std.specs.Prelude.{◌≡◌, ◌<◌, ◌≤◌, ◌⊎◌, ℕ, List, [], None, Some, Err, length, option_map, IfOk, IfSome, OnOk};
 ghost use Rattle.std.specs.Io.KnownBytes.{IsAtEnd, append_known};
 ghost use Rattle.lab_outside.specs.Outside.{TookPrefix};
+ghost use Rattle.lab_outside.specs.declared.reading.ReadError.TheVariants.{Failed, TooLong, Memory as NoMemory};
 ghost use Rattle.nand_model.specs.Counts.{HasRisen};
-ghost use Rattle.plan_grammar.specs.Limits.{most_bytes};
-ghost use Rattle.nandlab.specs.Words.{request_of};
-ghost use Rattle.nandlab.specs.Answer.{AreRefused, AreServed, IsCalm, Leaves, ask_for_plan};
+ghost use Rattle.nandlab.specs.Words.{given_of, given_to, most_asked, most_read, request_of};
+ghost use Rattle.nandlab.specs.Answer.{AreRefused, AreServed, IsCalm, Leaves};
 
-use crate::answer::answer_plan;
-use crate::refusal::{NOT_BUILT, TOO_LONG, USAGE};
+use crate::answer::answer_to;
+use crate::refusal::{TOO_LONG, USAGE};
+use crate::request::Request;
 use crate::status::Status;
 use crate::words::request;
 use lab_outside::{ReadError, Sink, Source, read_to_end, write_all};
+use nand_model::Bytes;
 use std::alloc::Global;
-
-/// The greatest number of bytes of a plan.
-const MOST_BYTES: usize = 16_777_216;
 
 // Writes a text, and answers this status, or `WriteFault` where the sink failed.
 fn written<K: Sink>(sink: &mut K, text: &[u8], status: Status) -> Status
@@ -31,13 +30,38 @@ fn written<K: Sink>(sink: &mut K, text: &[u8], status: Status) -> Status
     }
 }
 
+// The bytes that a request is given: all that the source has left, or none where it reads nothing.
+fn given<S: Source>(alloc: Global, request: Request, source: &mut S) -> Result<Bytes, ReadError>
+    ensures count { S.faults source.old ≤ S.faults source.new }
+    ensures unread { most_read request ≡ None
+        → (S.left source.new ≡ S.left source.old) × (S.faults source.new ≡ S.faults source.old) }
+
+    ensures all { IfOk result (λ bytes. IfSome (given_of (most_read request) (S.left source.old))
+        (λ left. bytes ≡ left)) }
+    ensures end { (most : ℕ) → most_read request ≡ Some most → OnOk result
+        (S.left source.new ≡ option_map (λ _. []) (S.left source.old)) }
+    ensures too_long { result ≡ Err TooLong → (most : ℕ) × (most_read request ≡ Some most)
+        × IfSome (S.left source.old) (λ bytes. most < length bytes) }
+
+    ensures calm { OnOk result (S.faults source.new ≡ S.faults source.old) }
+    ensures calm_too_long { result ≡ Err TooLong → S.faults source.new ≡ S.faults source.old }
+    ensures calm_memory { result ≡ Err NoMemory → S.faults source.new ≡ S.faults source.old }
+    ensures risen { result ≡ Err Failed → HasRisen (S.faults source.old) (S.faults source.new) }
+{
+    match request.most_read() {
+        Some(most) => read_to_end(alloc, source, most),
+        None => Ok(Bytes::filled(alloc, 0, 0)?),
+    }
+}
+
 /// Serves the words of a call: `check` reads a plan from the source and writes its canonical text
 /// to the sink, `replay` writes the report of its replay, and `run` does what `replay` does.
+/// `make N` reads nothing, and writes the summary of the replay of the plan of the number N.
 ///
 /// Bytes that are no plan are refused with `line L: KIND`: the first line that breaks a rule, and
 /// the first rule that it breaks; `line 0: TooLong` comes as soon as more than 16,777,216 bytes have
-/// come. A plan that cannot be run yet is refused with `line 0: NotBuilt` by `replay` and `run`, and
-/// so is `make N`, which reads nothing. Other words get the usage line. It waits for nobody.
+/// come. A plan that cannot be run yet is refused with `line 0: NotBuilt` by `replay`, `run` and
+/// `make`. Other words get the usage line, and nothing is read. It waits for nobody.
 pub fn serial_top<S: Source, K: Sink>(
     alloc: Global,
     words: &Vec<String>,
@@ -48,28 +72,30 @@ pub fn serial_top<S: Source, K: Sink>(
     ensures usage { result ≡ Status.Usage → request_of words.now.items ≡ None }
     ensures refused { request_of words.now.items ≡ None → (result ≡ Status.Usage)
         ⊎ ((result ≡ Status.WriteFault) ⊎ (result ≡ Status.Memory)) }
-    ensures unread { ask_for_plan (request_of words.now.items) ≡ false
+    ensures unread { most_asked (request_of words.now.items) ≡ None
         → (S.left source.new ≡ S.left source.old) × (S.faults source.new ≡ S.faults source.old) }
 
     // The bytes.
-    ensures fine { result ≡ Status.Fine → IsAtEnd (S.left source.new)
-        × IfSome (S.left source.old) (AreServed words.now.items) }
+    ensures fine { result ≡ Status.Fine
+        → IfSome (given_to words.now.items (S.left source.old)) (AreServed words.now.items) }
+    ensures fine_at_end { result ≡ Status.Fine → (most : ℕ)
+        → most_asked (request_of words.now.items) ≡ Some most → IsAtEnd (S.left source.new) }
     ensures plan_refused { result ≡ Status.PlanRefused
-        → IfSome (S.left source.old) (AreRefused words.now.items) }
-    ensures refused_at_end { result ≡ Status.PlanRefused
-        → ask_for_plan (request_of words.now.items) ≡ true
-        → IfSome (S.left source.old)
-        (λ bytes. length bytes ≤ most_bytes → IsAtEnd (S.left source.new)) }
+        → IfSome (given_to words.now.items (S.left source.old)) (AreRefused words.now.items) }
+    ensures refused_at_end { result ≡ Status.PlanRefused → (most : ℕ)
+        → most_asked (request_of words.now.items) ≡ Some most
+        → IfSome (S.left source.old) (λ bytes. length bytes ≤ most → IsAtEnd (S.left source.new)) }
     ensures complete { IsCalm (S.faults source.old) (S.faults source.new)
         → IsCalm (K.faults sink.old) (K.faults sink.new)
-        → (bytes : List ℕ) → S.left source.old ≡ Some bytes → AreServed words.now.items bytes
-        → (result ≡ Status.Fine) ⊎ (result ≡ Status.Memory) }
+        → (bytes : List ℕ) → given_to words.now.items (S.left source.old) ≡ Some bytes
+        → AreServed words.now.items bytes → (result ≡ Status.Fine) ⊎ (result ≡ Status.Memory) }
     ensures refusing { IsCalm (S.faults source.old) (S.faults source.new)
         → IsCalm (K.faults sink.old) (K.faults sink.new)
-        → (bytes : List ℕ) → S.left source.old ≡ Some bytes → AreRefused words.now.items bytes
+        → (bytes : List ℕ) → given_to words.now.items (S.left source.old) ≡ Some bytes
+        → AreRefused words.now.items bytes
         → (result ≡ Status.PlanRefused) ⊎ (result ≡ Status.Memory) }
-    ensures written { (bytes before : List ℕ) → S.left source.old ≡ Some bytes → K.held sink.old
-        ≡ Some before
+    ensures written { (bytes before : List ℕ)
+        → given_to words.now.items (S.left source.old) ≡ Some bytes → K.held sink.old ≡ Some before
         → Leaves words.now.items bytes result before (K.held sink.new) }
 
     // The faults.
@@ -83,20 +109,15 @@ pub fn serial_top<S: Source, K: Sink>(
 {
     match request(alloc, words) {
         Ok(None) => written(sink, USAGE, Status::Usage),
-        Ok(Some(request)) => {
-            if !request.reads_plan() {
-                return written(sink, NOT_BUILT, Status::PlanRefused);
-            }
-            match read_to_end(alloc, source, MOST_BYTES) {
-                Ok(bytes) => match answer_plan(alloc, request, bytes.as_slice()) {
-                    Ok(answer) => written(sink, answer.text.as_slice(), answer.status),
-                    Err(_) => Status::Memory,
-                },
-                Err(ReadError::Failed) => Status::ReadFault,
-                Err(ReadError::TooLong) => written(sink, TOO_LONG, Status::PlanRefused),
-                Err(ReadError::Memory) => Status::Memory,
-            }
-        }
+        Ok(Some(request)) => match given(alloc, request, source) {
+            Ok(bytes) => match answer_to(alloc, request, bytes.as_slice()) {
+                Ok(answer) => written(sink, answer.text.as_slice(), answer.status),
+                Err(_) => Status::Memory,
+            },
+            Err(ReadError::Failed) => Status::ReadFault,
+            Err(ReadError::TooLong) => written(sink, TOO_LONG, Status::PlanRefused),
+            Err(ReadError::Memory) => Status::Memory,
+        },
         Err(_) => Status::Memory,
     }
 }

@@ -1,4 +1,4 @@
-use Rattle.std.proofs.Common.{◌≡◌, ◌∙◌, inl, inr, ap, map}
+use Rattle.std.proofs.Common.{◌∙◌, inl, inr, ap, map}
 use Rattle.std.specs.Prelude.{string_bytes}
 use Rattle.clap.specs.Simple.{app_of}
 use Rattle.clap.specs.Values.{kind_of}

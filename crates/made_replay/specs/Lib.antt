@@ -1,0 +1,2 @@
+pub mod AddedUp
+pub mod Summary
