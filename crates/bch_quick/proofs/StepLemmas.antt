@@ -5,14 +5,13 @@ use Rattle.std.proofs.lemmas.Nat.{xor_block, xor_comm, pow-add, pow_pos, mod_low
 use Rattle.std.proofs.Math.Nat.{mul-lt-mul_of_pos_right, mul-le-mul_right}
 use Rattle.std.proofs.Math.Seq.{take-length}
 use lib.Bits.{xor_zero_r}
-use Rattle.code_model.specs.Binary.{remainder}
+use Rattle.code_model.specs.Binary.{remainder, IsPrimitive}
 use Rattle.code_model.specs.Generator.{generator_of}
 use Rattle.code_model.proofs.BinaryLemmas.{remainder-xor, remainder-small, remainder-lt, remainder-zero}
 use Rattle.code_model.proofs.ShiftLemmas.{xor-shift}
 use Rattle.code_model.specs.Bits.{bits_of}
 use Rattle.code_model.specs.Word.{number_from}
 use Rattle.bch_register.proofs.WordLemmas.{number_of-more}
-use Rattle.code_model.proofs.Instances.{primitive_13}
 use Rattle.code_model.proofs.RootLemmas.{generator-degree}
 use Rattle.gf2_poly.proofs.DegreeLemmas.{has_degree}
 use Rattle.bch_tables.specs.Rows.{aligned}
@@ -124,9 +123,9 @@ number_of-four bytes i piece room small e =
     let d : n (4 * (i + 1)) ≡ n (k + 3) * 256 + get_or bytes (k + 3) 0 = ap n last ∙ number_of-more bytes (k + 3) (omega arith) (small (k + 3)) in
     omega arith
 
--- the whole of a body of 512 bytes
-pub taken_all : (bytes : List ℕ) → length bytes ≡ 512 → take (4 * 128) bytes ≡ bytes
-taken_all bytes e = ap (λ n. take n bytes) (sym e) ∙ take-length bytes
+-- the whole of a body
+pub taken_all : (bytes : List ℕ) (i : ℕ) → 4 * i ≡ length bytes → take (4 * i) bytes ≡ bytes
+taken_all bytes i e = ap (λ n. take n bytes) e ∙ take-length bytes
 
 -- the four highest of 32 bytes
 pub top_bytes_of : (r : ℕ) → r < 2 ^ 256 → ((r / 2 ^ 248 % 256 * 256 + r / 2 ^ 240 % 256) * 256 + r / 2 ^ 232 % 256) * 256 + r / 2 ^ 224 % 256 ≡ r / 2 ^ 224
@@ -140,15 +139,15 @@ top_bytes_of r h =
     ap₂ (λ x y. ((x % 256 * 256 + y % 256) * 256 + r / 2 ^ 232 % 256) * 256 + q % 256) a b
     ∙ ap (λ x. ((q / 2 ^ 24 % 256 * 256 + q / 2 ^ 16 % 256) * 256 + x % 256) * 256 + q % 256) c ∙ sum
 
--- the remainder by the generator for t wrong bits, out of a register
-pub parity_is : (t w n r q : ℕ) → 13 * t ≤ w → r ≡ remainder w (aligned w t) (n * 2 ^ w) → q ≡ r / 2 ^ (w - 13 * t)
-    → (q ≡ remainder (13 * t) (generator_of 13 0x201b t) (n * 2 ^ (13 * t))) × (q < 2 ^ (13 * t))
-parity_is t w n r q room er eq =
-    let d = 13 * t in
-    let g = generator_of 13 0x201b t in
-    let h = has_degree d g (generator-degree 13 0x201b primitive_13 t) in
-    let value = parity_from_register d (w - d) w g (aligned w t) n r q (omega arith) h refl er eq in
-    (value, subst (λ (x : ℕ). x < 2 ^ d) (sym value) (remainder-lt d g (n * 2 ^ d) h.0 (below_twice d g h.1)))
+-- the remainder by the generator for t wrong bits, of degree d, out of a register
+pub parity_is : (m f : ℕ) → IsPrimitive m f → (t w n d r q : ℕ) → d ≡ m * t → d ≤ w → r ≡ remainder w (aligned m f w t) (n * 2 ^ w) → q ≡ r / 2 ^ (w - d)
+    → (q ≡ remainder (m * t) (generator_of m f t) (n * 2 ^ (m * t))) × (q < 2 ^ (m * t))
+parity_is m f p t w n d r q ed room er eq =
+    let e = m * t in
+    let g = generator_of m f t in
+    let h = has_degree e g (generator-degree m f p t) in
+    let value = parity_from_register e (w - e) w g (aligned m f w t) n r q (omega arith) h refl er (eq ∙ ap (λ i. r / 2 ^ (w - i)) ed) in
+    (value, subst (λ (x : ℕ). x < 2 ^ e) (sym value) (remainder-lt e g (n * 2 ^ e) h.0 (below_twice e g h.1)))
 
 -- the bytes of a piece, moved to their places
 pub placed_bytes : (a b c d w x y z q : ℕ) → a < 256 → b < 256 → c < 256 → d < 256 → a ≡ w → b ≡ x → c ≡ y → d ≡ z → ((w * 256 + x) * 256 + y) * 256 + z ≡ q

@@ -1,15 +1,17 @@
 // Registers of three widths, which take in four bytes at a time by tables of remainders.
-ghost use Rattle.std.specs.Prelude.{◌≡◌, ◌<◌, ◌≤◌, ◌*◌, ◌+◌, ◌-◌, ◌/◌, ◌^◌, length, slice_index};
+ghost use Rattle.std.specs.Prelude.{◌≡◌, ◌<◌, ◌≤◌, ◌*◌, ◌+◌, ◌-◌, ◌/◌, ◌%◌, ◌^◌, ℕ, length, slice_index};
 ghost use Rattle.code_model.specs.Binary.{remainder};
 ghost use Rattle.code_model.specs.Bits.{bits_of, bytes_of};
-ghost use Rattle.code_model.specs.Code.{code_512, parity_number};
+ghost use Rattle.code_model.specs.Code.{parity_number};
 ghost use Rattle.code_model.specs.Generator.{generator_of};
 ghost use Rattle.code_model.specs.Word.{number_from};
-ghost use Rattle.bch_decode.specs.Answers.{step_and_parity};
-ghost use Rattle.bch_tables.specs.Rows.{aligned, AreRows, AreWideRows};
+ghost use Rattle.bch_decode.specs.Answers.{joined_word};
+ghost use Rattle.bch_solver.specs.Words.{code_over};
+ghost use Rattle.bch_tables.specs.Rows.{AreRows, AreWideRows};
 
 use bch_register::number_of;
-use bch_tables::{middle_rows, narrow_rows, wide_rows};
+use bch_solver::parity_bits;
+use bch_tables::StepCode;
 use u256::U256;
 
 // Four bytes of a body, the first the highest.
@@ -26,11 +28,9 @@ fn four_bytes(body: &[u8], i: usize) -> u32
 }
 
 // The sum of the rows of the four bytes of a number: its remainder, moved up by 64 places, by the
-// generator moved up to degree 64.
-fn narrow_sum(t: u32, rows: &[[u64; 256]; 4], top: u32) -> u64
-    requires strength { (0 < t) × (13 * t ≤ 64) }
-    requires rows { AreRows 64 t rows.now }
-    ensures { result ≡ remainder 64 (aligned 64 t) (top * 2 ^ 64) }
+// polynomial of the rows, of degree 64.
+fn narrow_sum(rows: &[[u64; 256]; 4], top: u32) -> u64
+    ensures { (f : ℕ) → AreRows 64 f rows.now → result ≡ remainder 64 f (top * 2 ^ 64) }
 {
     let mut sum: u64 = 0;
     for j in 0u32..4 {
@@ -40,28 +40,25 @@ fn narrow_sum(t: u32, rows: &[[u64; 256]; 4], top: u32) -> u64
     sum
 }
 
-// The remainder of a body, moved up by 64 places, by the generator moved up to degree 64.
-fn narrow(t: u32, body: &[u8]) -> u64
-    requires strength { (0 < t) × (t ≤ 4) }
-    requires whole { length body.now ≡ 512 }
-    ensures { result ≡ remainder 64 (aligned 64 t) (number_from 0 (bits_of body.now) * 2 ^ 64) }
+// The remainder of a body, moved up by 64 places, by the polynomial of the rows, of degree 64.
+fn narrow(rows: &[[u64; 256]; 4], body: &[u8]) -> u64
+    requires { length body.now % 4 ≡ 0 }
+    ensures { (f : ℕ) → AreRows 64 f rows.now
+        → result ≡ remainder 64 f (number_from 0 (bits_of body.now) * 2 ^ 64) }
 {
-    let rows = narrow_rows(t);
     let mut register: u64 = 0;
-    for i in 0usize..128 {
+    for i in 0..body.len() / 4 {
         let top = (register >> 32) as u32;
-        let sum = narrow_sum(t, rows, top ^ four_bytes(body, i));
+        let sum = narrow_sum(rows, top ^ four_bytes(body, i));
         register = (register << 32) ^ sum;
     }
     register
 }
 
 // The sum of the rows of the four bytes of a number: its remainder, moved up by 128 places, by the
-// generator moved up to degree 128.
-fn middle_sum(t: u32, rows: &[[u128; 256]; 4], top: u32) -> u128
-    requires strength { (0 < t) × (13 * t ≤ 128) }
-    requires rows { AreRows 128 t rows.now }
-    ensures { result ≡ remainder 128 (aligned 128 t) (top * 2 ^ 128) }
+// polynomial of the rows, of degree 128.
+fn middle_sum(rows: &[[u128; 256]; 4], top: u32) -> u128
+    ensures { (f : ℕ) → AreRows 128 f rows.now → result ≡ remainder 128 f (top * 2 ^ 128) }
 {
     let mut sum: u128 = 0;
     for j in 0u32..4 {
@@ -71,17 +68,16 @@ fn middle_sum(t: u32, rows: &[[u128; 256]; 4], top: u32) -> u128
     sum
 }
 
-// The remainder of a body, moved up by 128 places, by the generator moved up to degree 128.
-fn middle(t: u32, body: &[u8]) -> u128
-    requires strength { (5 ≤ t) × (t ≤ 9) }
-    requires whole { length body.now ≡ 512 }
-    ensures { result ≡ remainder 128 (aligned 128 t) (number_from 0 (bits_of body.now) * 2 ^ 128) }
+// The remainder of a body, moved up by 128 places, by the polynomial of the rows, of degree 128.
+fn middle(rows: &[[u128; 256]; 4], body: &[u8]) -> u128
+    requires { length body.now % 4 ≡ 0 }
+    ensures { (f : ℕ) → AreRows 128 f rows.now
+        → result ≡ remainder 128 f (number_from 0 (bits_of body.now) * 2 ^ 128) }
 {
-    let rows = middle_rows(t);
     let mut register: u128 = 0;
-    for i in 0usize..128 {
+    for i in 0..body.len() / 4 {
         let top = (register >> 96) as u32;
-        let sum = middle_sum(t, rows, top ^ four_bytes(body, i));
+        let sum = middle_sum(rows, top ^ four_bytes(body, i));
         register = (register << 32) ^ sum;
     }
     register
@@ -99,10 +95,8 @@ fn top_of(register: U256) -> u32
 }
 
 // As `narrow_sum`, for a register of 256 bits.
-fn wide_sum(t: u32, rows: &[[[u128; 2]; 256]; 4], top: u32) -> U256
-    requires strength { (0 < t) × (13 * t ≤ 256) }
-    requires rows { AreWideRows 256 t rows.now }
-    ensures { result ≡ remainder 256 (aligned 256 t) (top * 2 ^ 256) }
+fn wide_sum(rows: &[[[u128; 2]; 256]; 4], top: u32) -> U256
+    ensures { (f : ℕ) → AreWideRows 256 f rows.now → result ≡ remainder 256 f (top * 2 ^ 256) }
 {
     let mut sum = U256::from_halves(0, 0);
     for j in 0u32..4 {
@@ -114,48 +108,52 @@ fn wide_sum(t: u32, rows: &[[[u128; 2]; 256]; 4], top: u32) -> U256
 }
 
 // As `narrow`, for a register of 256 bits.
-fn wide(t: u32, body: &[u8]) -> U256
-    requires strength { (10 ≤ t) × (t ≤ 16) }
-    requires whole { length body.now ≡ 512 }
-    ensures { result ≡ remainder 256 (aligned 256 t) (number_from 0 (bits_of body.now) * 2 ^ 256) }
+fn wide(rows: &[[[u128; 2]; 256]; 4], body: &[u8]) -> U256
+    requires { length body.now % 4 ≡ 0 }
+    ensures { (f : ℕ) → AreWideRows 256 f rows.now
+        → result ≡ remainder 256 f (number_from 0 (bits_of body.now) * 2 ^ 256) }
 {
-    let rows = wide_rows(t);
     let mut register = U256::from_halves(0, 0);
-    for i in 0usize..128 {
+    for i in 0..body.len() / 4 {
         let top = top_of(register);
-        let sum = wide_sum(t, rows, top ^ four_bytes(body, i));
+        let sum = wide_sum(rows, top ^ four_bytes(body, i));
         register = (register << 32) ^ sum;
     }
     register
 }
 
 /// The parity of a body as a number.
-pub(crate) fn parity_number_quick(t: u32, body: &[u8]) -> U256
+pub(crate) fn parity_number_quick<C: StepCode>(t: u32, body: &[u8]) -> U256
     requires strength { (0 < t) × (t ≤ 16) }
-    requires whole { length body.now ≡ 512 }
-    ensures value { result ≡ parity_number (code_512 t) body.now }
-    ensures small { result < 2 ^ (13 * t) }
+    requires whole { length body.now ≡ C.STEP }
+    ensures value { result ≡ parity_number (code_over C.DEGREE C.MODULUS t C.STEP) body.now }
+    ensures small { result < 2 ^ (C.DEGREE * t) }
 {
+    let degree = parity_bits::<C>(t);
     if t <= 4 {
-        U256::from_halves(0, u128::from(narrow(t, body) >> (64 - 13 * t)))
+        U256::from_halves(
+            0,
+            u128::from(narrow(C::narrow_rows(t), body) >> (64 - degree)),
+        )
     } else if t <= 9 {
-        U256::from_halves(0, middle(t, body) >> (128 - 13 * t))
+        U256::from_halves(0, middle(C::middle_rows(t), body) >> (128 - degree))
     } else {
-        wide(t, body) >> (256 - 13 * t)
+        wide(C::wide_rows(t), body) >> (256 - degree)
     }
 }
 
 /// The remainder of the word of a step and its parity by the generator.
-pub(crate) fn remainder_quick(t: u32, step: &[u8], parity: &[u8]) -> U256
+pub(crate) fn remainder_quick<C: StepCode>(t: u32, step: &[u8], parity: &[u8]) -> U256
     requires strength { (0 < t) × (t ≤ 16) }
-    requires whole { length step.now ≡ 512 }
-    requires room { length parity.now ≡ (13 * t + 7) / 8 }
-    ensures value { result ≡ remainder (13 * t) (generator_of 13 0x201b t)
-        (number_from 0 (step_and_parity t step.now parity.now)) }
-    ensures small { result < 2 ^ (13 * t) }
+    requires whole { length step.now ≡ C.STEP }
+    requires room { length parity.now ≡ (C.DEGREE * t + 7) / 8 }
+    ensures value { let code = code_over C.DEGREE C.MODULUS t C.STEP in
+        result ≡ remainder (C.DEGREE * t) (generator_of C.DEGREE C.MODULUS t)
+        (number_from 0 (joined_word code step.now parity.now)) }
+    ensures small { result < 2 ^ (C.DEGREE * t) }
 {
-    let padding = 8 * parity.len() as u32 - 13 * t;
-    parity_number_quick(t, step) ^ (number_of(parity) >> padding)
+    let padding = 8 * parity.len() as u32 - parity_bits::<C>(t);
+    parity_number_quick::<C>(t, step) ^ (number_of(parity) >> padding)
 }
 
 /// Writes a number of `degree` bits into (degree + 7) / 8 bytes, the highest first, with 0 in the

@@ -1,13 +1,15 @@
-// A word in one run of bytes: 512 bytes of a step, and then its parity.
+// A word in one run of bytes: those of a step, and then its parity.
 ghost use Rattle.std.specs.Prelude.{◌≡◌, ◌≢◌, ◌<◌, ◌≤◌, ◌*◌, ◌+◌, ◌-◌, ◌/◌, ℕ, length, IsTrue, IfOk};
 ghost use Rattle.code_model.specs.Bits.{bit_of, bits_from};
-ghost use Rattle.code_model.specs.Code.{code_512, IsCodeWord, IsNearest};
+ghost use Rattle.code_model.specs.Code.{IsCodeWord, IsNearest};
 ghost use Rattle.code_model.specs.Word.{distance};
-ghost use Rattle.bch_decode.specs.Answers.{step_and_parity};
-ghost use Rattle.bch_solver.specs.Words.{word_of};
+ghost use Rattle.bch_decode.specs.Answers.{joined_word};
+ghost use Rattle.bch_solver.specs.Words.{code_over, word_of};
 
-use crate::encoder::parity_of_slice;
+use crate::encoder::write_parity;
 use bch_guess::likely_places;
+use bch_solver::parity_bits;
+use bch_tables::StepCode;
 
 // Whether two parities are the same but for the last bits.
 fn is_same(own: &[u8], parity: &[u8], padding: u32) -> bool
@@ -27,26 +29,27 @@ fn is_same(own: &[u8], parity: &[u8], padding: u32) -> bool
 }
 
 /// Writes the parity of a step, and tells whether it is this one.
-pub(crate) fn has_parity(t: u32, step: &[u8], parity: &[u8], own: &mut [u8]) -> bool
+pub(crate) fn has_parity<C: StepCode>(t: u32, step: &[u8], parity: &[u8], own: &mut [u8]) -> bool
     requires strength { (0 < t) × (t ≤ 16) }
-    requires whole { length step.now ≡ 512 }
-    requires parity { length parity.now ≡ (13 * t + 7) / 8 }
-    requires room { length own.old ≡ (13 * t + 7) / 8 }
-    ensures { IsTrue result
-        → IsCodeWord (code_512 t) (step_and_parity t step.now parity.now) }
+    requires whole { length step.now ≡ C.STEP }
+    requires parity { length parity.now ≡ (C.DEGREE * t + 7) / 8 }
+    requires room { length own.old ≡ (C.DEGREE * t + 7) / 8 }
+    ensures { let code = code_over C.DEGREE C.MODULUS t C.STEP in
+        IsTrue result → IsCodeWord code (joined_word code step.now parity.now) }
 {
-    parity_of_slice(t, step, own);
-    is_same(own, parity, 8 * parity.len() as u32 - 13 * t)
+    write_parity::<C>(t, step, own);
+    is_same(own, parity, 8 * parity.len() as u32 - parity_bits::<C>(t))
 }
 
 // Writes the parity of a word's step, and tells whether the word has it.
-fn is_code_word(t: u32, word: &[u8], own: &mut [u8]) -> bool
+fn is_code_word<C: StepCode>(t: u32, word: &[u8], own: &mut [u8]) -> bool
     requires strength { (0 < t) × (t ≤ 16) }
-    requires whole { length word.now ≡ 512 + (13 * t + 7) / 8 }
-    requires room { length own.old ≡ (13 * t + 7) / 8 }
-    ensures { IsTrue result → IsCodeWord (code_512 t) (word_of (code_512 t) word.now) }
+    requires whole { length word.now ≡ C.STEP + (C.DEGREE * t + 7) / 8 }
+    requires room { length own.old ≡ (C.DEGREE * t + 7) / 8 }
+    ensures { let code = code_over C.DEGREE C.MODULUS t C.STEP in
+        IsTrue result → IsCodeWord code (word_of code word.now) }
 {
-    has_parity(t, &word[..512], &word[512..], own)
+    has_parity::<C>(t, &word[..C::STEP], &word[C::STEP..], own)
 }
 
 // Turns one bit over.
@@ -80,16 +83,18 @@ fn turn_over(bytes: &mut [u8], count: usize, degrees: &[u16]) -> bool
 }
 
 // Turns over the bits of these degrees, and tests the word that comes out.
-fn is_put_right(t: u32, word: &mut [u8], degrees: &[u16], own: &mut [u8]) -> bool
+fn is_put_right<C: StepCode>(t: u32, word: &mut [u8], degrees: &[u16], own: &mut [u8]) -> bool
     requires strength { (0 < t) × (t ≤ 16) }
-    requires whole { length word.old ≡ 512 + (13 * t + 7) / 8 }
+    requires whole { length word.old ≡ C.STEP + (C.DEGREE * t + 7) / 8 }
     requires few { length degrees.now ≤ t }
-    requires room { length own.old ≡ (13 * t + 7) / 8 }
-    ensures nearest { IsTrue result → IsNearest (code_512 t)
-        (word_of (code_512 t) word.old) (word_of (code_512 t) word.new) (length degrees.now) }
-    ensures padding { (k : ℕ) → 4096 + 13 * t ≤ k → bit_of word.new k ≡ bit_of word.old k }
+    requires room { length own.old ≡ (C.DEGREE * t + 7) / 8 }
+    ensures nearest { let code = code_over C.DEGREE C.MODULUS t C.STEP in
+        IsTrue result
+        → IsNearest code (word_of code word.old) (word_of code word.new) (length degrees.now) }
+    ensures padding { (k : ℕ) → 8 * C.STEP + C.DEGREE * t ≤ k → bit_of word.new k ≡ bit_of word.old k }
 {
-    turn_over(word, 4096 + 13 * t as usize, degrees) && is_code_word(t, word, own)
+    let count = 8 * C::STEP + parity_bits::<C>(t) as usize;
+    turn_over(word, count, degrees) && is_code_word::<C>(t, word, own)
 }
 
 // What is left of a word by its own parity, in place of that parity: 0 in the padding bits.
@@ -109,23 +114,27 @@ fn take_off(own: &mut [u8], parity: &[u8], padding: u32)
 /// Ok(n): the word is the nearest code word, in which n bits were wrong, and the padding is as
 /// received. Err: nothing is known, and the word is left as it may be; the number is the greatest
 /// degree of the guess, which may lie outside the word, or 0.
-pub(crate) fn decode_guessed(t: u32, word: &mut [u8], own: &mut [u8]) -> Result<u32, u32>
+pub(crate) fn decode_guessed<C: StepCode>(
+    t: u32,
+    word: &mut [u8],
+    own: &mut [u8],
+) -> Result<u32, u32>
     requires strength { (0 < t) × (t ≤ 16) }
-    requires whole { length word.old ≡ 512 + (13 * t + 7) / 8 }
-    requires room { length own.old ≡ (13 * t + 7) / 8 }
-    ensures nearest { IfOk result (IsNearest (code_512 t)
-        (word_of (code_512 t) word.old) (word_of (code_512 t) word.new)) }
-    ensures padding { (k : ℕ) → 4096 + 13 * t ≤ k → bit_of word.new k ≡ bit_of word.old k }
+    requires whole { length word.old ≡ C.STEP + (C.DEGREE * t + 7) / 8 }
+    requires room { length own.old ≡ (C.DEGREE * t + 7) / 8 }
+    ensures nearest { let code = code_over C.DEGREE C.MODULUS t C.STEP in
+        IfOk result (IsNearest code (word_of code word.old) (word_of code word.new)) }
+    ensures padding { (k : ℕ) → 8 * C.STEP + C.DEGREE * t ≤ k → bit_of word.new k ≡ bit_of word.old k }
 {
-    let padding = 8 * own.len() as u32 - 13 * t;
-    take_off(own, &word[512..], padding);
-    match likely_places(t, 4096 + 13 * t as usize, own) {
+    let degree = parity_bits::<C>(t);
+    take_off(own, &word[C::STEP..], 8 * own.len() as u32 - degree);
+    match likely_places::<C>(t, 8 * C::STEP + degree as usize, own) {
         None => Err(0),
         Some(found) => {
             if found.count > t as usize || found.count == 0 {
                 return Err(0);
             }
-            if is_put_right(t, word, &found.places[..found.count], own) {
+            if is_put_right::<C>(t, word, &found.places[..found.count], own) {
                 Ok(found.count as u32)
             } else {
                 Err(u32::from(found.places[found.count - 1]))

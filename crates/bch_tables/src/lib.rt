@@ -1,8 +1,11 @@
-//! The remainders of bytes by the generators of the codes over steps of 512 bytes, in four tables
-//! for each number of wrong bits.
+//! What a quick code over steps is made of: the tables of a field and of a code's generators, as
+//! traits, and products by tables of powers and logarithms.
 #![tactic(auto)]
 
-mod rows;
-mod tables;
+mod code;
+mod powers;
+mod products;
 
-pub use rows::{middle_rows, narrow_rows, wide_rows};
+pub use code::StepCode;
+pub use powers::PowerTables;
+pub use products::{inverse_by_tables, product_by_tables};

@@ -1,11 +1,12 @@
-//! The field of 2^13 elements modulo x^13 + x^4 + x^3 + x + 1, with products by tables of powers
-//! and logarithms.
+//! The code over steps of 512 bytes with its tables: those of the field of 2^13 elements modulo
+//! x^13 + x^4 + x^3 + x + 1, and the remainders of bytes by the code's generators.
 #![tactic(auto)]
 
-mod field;
-mod tables;
+mod code;
+mod powers;
+mod rows;
 
-pub use field::{TableField13, likely_logarithm, power_of};
+pub use code::Steps512;
 
 #[cfg(test)]
 mod tests;

@@ -1,6 +1,7 @@
 ghost use Rattle.std.specs.Prelude.{◌<◌};
 
 use super::*;
+use bch_tables::PowerTables;
 use binary_field::FieldProducts;
 
 // Products and inverses from outside, and each logarithm of the table.
@@ -16,13 +17,14 @@ fn agrees_with_values_from_outside(rt: HostRuntime) {
     ];
     for (a, b, product) in products {
         assert!(rt; a < 8192 && b < 8192, "in the field");
-        assert_eq!(rt; TableField13::product(a, b), product, "{a} times {b}");
+        assert_eq!(rt; Steps512::product(a, b), product, "{a} times {b}");
     }
     for (a, inverse) in [(0x0001, 0x0001), (0x0002, 0x100d), (0x1fff, 0x1741)] {
         assert!(rt; 0 < a && a < 8192, "in the field");
-        assert_eq!(rt; TableField13::inverse(a), inverse, "inverse of {a}");
+        assert_eq!(rt; Steps512::inverse(a), inverse, "inverse of {a}");
     }
     for a in 1u16..8192 {
-        assert_eq!(rt; power_of(likely_logarithm(a)), a, "logarithm of {a}");
+        let n = Steps512::likely_logarithm(a);
+        assert_eq!(rt; Steps512::power_of(n), a, "logarithm of {a}");
     }
 }

@@ -1,9 +1,9 @@
-use Rattle.std.proofs.Common.{◌≡◌, ◌*◌, ◌^◌, take}
+use Rattle.std.proofs.Common.{◌≡◌, ◌*◌, ◌^◌, ℕ, take}
 use Rattle.code_model.specs.Binary.{remainder}
 use Rattle.code_model.specs.Bits.{bits_of}
 use Rattle.code_model.specs.Word.{number_from}
-use Rattle.bch_tables.specs.Rows.{aligned}
+use Rattle.bch_tables.specs.Rows.{AreRows}
 use Rattle.bch_quick.proofs.register.narrow.Given as goal
 
 abbrev pub invariant-loop-i : goal.invariant-loop-i
-invariant-loop-i l = l.register ≡ remainder 64 (aligned 64 l.t) (number_from 0 (bits_of (take (4 * l.i) l.body)) * 2 ^ 64)
+invariant-loop-i l = (f : ℕ) → AreRows 64 f l.rows → l.register ≡ remainder 64 f (number_from 0 (bits_of (take (4 * l.i) l.body)) * 2 ^ 64)

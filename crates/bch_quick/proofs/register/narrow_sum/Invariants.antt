@@ -1,7 +1,7 @@
-use Rattle.std.proofs.Common.{◌≡◌, ◌*◌, ◌%◌, ◌^◌}
+use Rattle.std.proofs.Common.{◌≡◌, ◌*◌, ◌%◌, ◌^◌, ℕ}
 use Rattle.code_model.specs.Binary.{remainder}
-use Rattle.bch_tables.specs.Rows.{aligned}
+use Rattle.bch_tables.specs.Rows.{AreRows}
 use Rattle.bch_quick.proofs.register.narrow_sum.Given as goal
 
 abbrev pub invariant-loop-j : goal.invariant-loop-j
-invariant-loop-j l = l.sum ≡ remainder 64 (aligned 64 l.t) (l.top % 2 ^ (8 * l.j) * 2 ^ 64)
+invariant-loop-j l = (f : ℕ) → AreRows 64 f l.rows → l.sum ≡ remainder 64 f (l.top % 2 ^ (8 * l.j) * 2 ^ 64)

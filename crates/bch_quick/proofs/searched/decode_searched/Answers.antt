@@ -1,61 +1,88 @@
-use Rattle.std.proofs.Common.{◌≡◌, ◌+◌, ◌*◌, ◌++◌, ◌∙◌, ℕ, List, length, take, Option, None, Some, refl, sym, ap, subst, arith}
+use Rattle.std.proofs.Common.{◌≡◌, ◌<◌, ◌+◌, ◌*◌, ◌^◌, ◌++◌, ◌∙◌, ℕ, length, sym, ap, subst, arith}
 use Rattle.std.proofs.lemmas.List.{length-append}
-use Rattle.std.proofs.Math.Seq.{take-append_seam}
 use Rattle.code_model.specs.Bits.{bit_of}
-use Rattle.code_model.specs.Code.{code_512, IsNearest, NoneNear}
-use Rattle.bch_solver.specs.Words.{code_over, word_of}
-use Rattle.bch_solver.proofs.BitsLemmas.{word_of-joined, bit_of-joined}
-use Rattle.bch_decode.specs.Answers.{step_and_parity}
+use Rattle.code_model.specs.Code.{IsNearest, NoneNear}
+use Rattle.bch_solver.specs.Words.{code_over}
+use Rattle.bch_solver.proofs.BitsLemmas.{bit_of-joined}
+use Rattle.bch_decode.specs.Answers.{joined_word}
 use Rattle.bch_decode.specs.declared.decoder.Decoded.TheVariants.{Corrected}
+use Rattle.bch_quick.proofs.Nearest.{code_over-bch, short_words, joined_word-long, nearest_only, nearest_as, word_before, copied_back}
+use Rattle.bch_quick.proofs.searched.decode_searched.Given as given
 use Rattle.bch_quick.proofs.searched.decode_searched.Goals as goal
 
-not_some : (o : Option ℕ) {d : ℕ} → o ≡ None → o ≡ Some d → ⊥
-not_some o e q = cc
+pub decode_word-requires-clause-room : goal.decode_word-requires-clause-room
+decode_word-requires-clause-room g c =
+    let len = c.requires.room in
+    let whole = c.requires.whole in
+    let step = c.STEP.ensures in
+    ap length c.joined-word.ensures ∙ length-append c.args.step.now c.args.parity.now ∙ omega arith
 
-same_some : {a b : ℕ} → Some a ≡ Some b → a ≡ b
-same_some e = cc
+pub decode_word-requires-clause-below_order : goal.decode_word-requires-clause-below_order
+decode_word-requires-clause-below_order g c =
+    subst (λ (b : ℕ). 8 * b + g.C.BinaryField.DEGREE * c.args.t < 2 ^ g.C.BinaryField.DEGREE) (sym c.STEP.ensures)
+    (short_words g.C.BinaryField.DEGREE c.args.t g.C.StepCode.STEP g.met.C.StepCode.short c.requires.strength.1)
 
--- the word that was copied in
-word_before : (t : ℕ) (bytes step parity : List ℕ) → length step ≡ 512 → bytes ≡ step ++ parity → word_of (code_over 13 0x201b t 512) bytes ≡ step_and_parity t step parity
-word_before t bytes step parity len e = ap (word_of (code_over 13 0x201b t 512)) e ∙ word_of-joined 13 0x201b t 512 step parity len
-
--- what is copied back of a buffer that begins with the decoded word
-copied_back : (word rest both : List ℕ) (end : ℕ) → length word ≡ end → both ≡ take end (word ++ rest) → both ≡ word
-copied_back word rest both end len e = e ∙ ap (λ n. take n (word ++ rest)) (sym len) ∙ take-append_seam word rest
-
-nearest_as : (t : ℕ) (w w' c c' : List ℕ) (d : ℕ) → w ≡ w' → c ≡ c' → IsNearest (code_512 t) w c d → IsNearest (code_512 t) w' c' d
-nearest_as t w w' c c' d ew ec h = subst (λ (v : List ℕ). IsNearest (code_512 t) w' v d) ec (subst (λ (v : List ℕ). IsNearest (code_512 t) v c d) ew h)
+-- no code word is near
+none : (g : given.Over) (c : goal.In-None g) → NoneNear (code_over g.C.BinaryField.DEGREE g.C.BinaryField.MODULUS c.args.t g.C.StepCode.STEP)
+    (joined_word (code_over g.C.BinaryField.DEGREE g.C.BinaryField.MODULUS c.args.t g.C.StepCode.STEP) c.args.step.now c.args.parity.now)
+none g c =
+    let m = g.C.BinaryField.DEGREE in
+    let f = g.C.BinaryField.MODULUS in
+    let t = c.args.t in
+    let step = c.args.step.now in
+    let parity = c.args.parity.now in
+    let before = word_before m f t c.STEP.result _ step parity (c.requires.whole ∙ sym c.STEP.ensures) c.joined-word.ensures in
+    subst (λ (b : ℕ). NoneNear (code_over m f t b) (joined_word (code_over m f t b) step parity)) c.STEP.ensures
+    (subst (NoneNear (code_over m f t c.STEP.result)) before c.in-None.ensures.none)
 
 pub returns-in-None-clause-decodes : goal.returns-in-None-clause-decodes
-returns-in-None-clause-decodes c =
-    subst (NoneNear (code_512 c.args.t)) (word_before c.args.t _ c.args.step.now c.args.parity.now c.requires.whole c.joined-word.ensures) c.in-None.ensures.none
+returns-in-None-clause-decodes g c = none g c
 
 pub returns-in-None-clause-finds : goal.returns-in-None-clause-finds
-returns-in-None-clause-finds c = λ word n nearest.
-    let before = word_before c.args.t _ c.args.step.now c.args.parity.now c.requires.whole c.joined-word.ensures in
-    absurd (not_some None refl (c.in-None.ensures.complete word n (subst (λ (w : List ℕ). IsNearest (code_512 c.args.t) w word n) (sym before) nearest)).0)
+returns-in-None-clause-finds g c = λ word n nearest.
+    let far = none g c word nearest.word in
+    let apart = nearest.apart in
+    let near = nearest.near in
+    absurd (omega arith)
 
 -- the bytes of step and parity at the end
-written : (c : goal.After-slice_known-in-Some-2-1) → c.part.new.step ++ c.part.new.parity ≡ c.decode_word.new.word
-written c =
-    copied_back c.decode_word.new.word _ (c.part.new.step ++ c.part.new.parity) (512 + length c.args.parity.now)
-    (c.decode_word.auto.word ∙ ap length c.joined-word.ensures ∙ length-append c.args.step.now c.args.parity.now ∙ ap (λ n. n + length c.args.parity.now) c.requires.whole) c.part.ensures
+written : (g : given.Over) (c : goal.After-slice_known-in-Some-2-1 g) → c.part.new.step ++ c.part.new.parity ≡ c.decode_word.new.word
+written g c =
+    copied_back c.decode_word.new.word _ (c.part.new.step ++ c.part.new.parity) (length c.args.step.now + length c.args.parity.now)
+    (c.decode_word.auto.word ∙ ap length c.joined-word.ensures ∙ length-append c.args.step.now c.args.parity.now) c.part.ensures
 
 pub returns-in-Some-clause-decodes : goal.returns-in-Some-clause-decodes
-returns-in-Some-clause-decodes c =
-    let before = word_before c.args.t _ c.args.step.now c.args.parity.now c.requires.whole c.joined-word.ensures in
-    let after = word_before c.args.t c.decode_word.new.word c.part.new.step c.part.new.parity (c.part.auto.step ∙ c.requires.whole) (sym (written c)) in
-    nearest_as c.args.t _ _ _ _ c.in-Some.wrong before after c.in-Some.ensures.corrected
+returns-in-Some-clause-decodes g c =
+    let m = g.C.BinaryField.DEGREE in
+    let f = g.C.BinaryField.MODULUS in
+    let t = c.args.t in
+    let step = c.args.step.now in
+    let parity = c.args.parity.now in
+    let new_step = c.part.new.step in
+    let new_parity = c.part.new.parity in
+    let b = c.STEP.result in
+    let long = c.requires.whole ∙ sym c.STEP.ensures in
+    let before = word_before m f t b _ step parity long c.joined-word.ensures in
+    let after = word_before m f t b c.decode_word.new.word new_step new_parity (c.part.auto.step ∙ long) (sym (written g c)) in
+    subst (λ (k : ℕ). IsNearest (code_over m f t k) (joined_word (code_over m f t k) step parity) (joined_word (code_over m f t k) new_step new_parity) c.in-Some.wrong) c.STEP.ensures
+    (nearest_as m f t b _ _ _ _ c.in-Some.wrong before after c.in-Some.ensures.corrected)
 
 pub returns-in-Some-clause-finds : goal.returns-in-Some-clause-finds
-returns-in-Some-clause-finds c = λ word n nearest.
-    let before = word_before c.args.t _ c.args.step.now c.args.parity.now c.requires.whole c.joined-word.ensures in
-    let after = word_before c.args.t c.decode_word.new.word c.part.new.step c.part.new.parity (c.part.auto.step ∙ c.requires.whole) (sym (written c)) in
-    let found = c.in-Some.ensures.complete word n (subst (λ (w : List ℕ). IsNearest (code_512 c.args.t) w word n) (sym before) nearest) in
-    (ap Corrected (same_some found.0), sym after ∙ found.1)
+returns-in-Some-clause-finds g c = λ word n nearest.
+    let m = g.C.BinaryField.DEGREE in
+    let f = g.C.BinaryField.MODULUS in
+    let t = c.args.t in
+    let p = g.C.BinaryField.primitive in
+    let room = c.requires.room in
+    let bch = code_over-bch m f t g.C.StepCode.STEP p g.met.C.StepCode.short c.requires.strength.1 in
+    let long = joined_word-long m f t g.C.StepCode.STEP c.args.step.now c.args.parity.now c.requires.whole (omega arith) in
+    let only = nearest_only m f t g.C.StepCode.STEP _ _ _ _ _ bch long (returns-in-Some-clause-decodes g c) nearest in
+    (ap Corrected only.0, only.1)
 
 pub returns-in-Some-clause-padding : goal.returns-in-Some-clause-padding
-returns-in-Some-clause-padding c = λ k h.
-    let same = c.in-Some.ensures.padding (8 * 512 + k) (omega arith) in
-    sym (bit_of-joined c.part.new.step c.part.new.parity 512 k (c.part.auto.step ∙ c.requires.whole)) ∙ ap (λ bytes. bit_of bytes (8 * 512 + k)) (written c) ∙ same
-    ∙ ap (λ bytes. bit_of bytes (8 * 512 + k)) c.joined-word.ensures ∙ bit_of-joined c.args.step.now c.args.parity.now 512 k c.requires.whole
+returns-in-Some-clause-padding g c = λ k h.
+    let b = c.STEP.result in
+    let long = c.requires.whole ∙ sym c.STEP.ensures in
+    let same = c.in-Some.ensures.padding (8 * b + k) (omega arith) in
+    sym (bit_of-joined c.part.new.step c.part.new.parity b k (c.part.auto.step ∙ long)) ∙ ap (λ bytes. bit_of bytes (8 * b + k)) (written g c) ∙ same
+    ∙ ap (λ bytes. bit_of bytes (8 * b + k)) c.joined-word.ensures ∙ bit_of-joined c.args.step.now c.args.parity.now b k long

@@ -1,20 +1,28 @@
-use Rattle.std.proofs.Common.{◌≡◌, ◌-◌, ◌*◌, ◌∙◌, length, take, drop, refl, sym, subst, arith}
-use Rattle.std.proofs.lemmas.List.{length-take-le, length-drop}
-use Rattle.code_model.specs.Code.{code_512, IsCodeWord}
+use Rattle.std.proofs.Common.{◌-◌, ◌+◌, ◌*◌, ◌++◌, ◌∙◌, ℕ, length, take, drop, sym, subst, arith}
+use Rattle.std.proofs.lemmas.List.{length-take-le}
+use Rattle.code_model.specs.Bits.{bits_of}
+use Rattle.code_model.specs.Code.{IsCodeWord}
+use Rattle.bch_solver.specs.Words.{code_over}
 use Rattle.bch_solver.proofs.BitsLemmas.{bits_of-body_parity}
 use Rattle.bch_quick.proofs.word.is_code_word.Goals as goal
 
 pub slice_bounds-has_parity-end : goal.slice_bounds-has_parity-end
-slice_bounds-has_parity-end c = sym (length-take-le 512 c.args.word.now (let h = c.requires.whole in omega arith))
+slice_bounds-has_parity-end g c = sym (length-take-le c.STEP.result c.args.word.now (let h = c.requires.whole in let e = c.STEP.ensures in omega arith))
 
 pub has_parity-requires-clause-whole : goal.has_parity-requires-clause-whole
-has_parity-requires-clause-whole c = length-take-le 512 c.args.word.now (let h = c.requires.whole in omega arith)
+has_parity-requires-clause-whole g c = length-take-le c.STEP.result c.args.word.now (let h = c.requires.whole in let e = c.STEP.ensures in omega arith) ∙ c.STEP.ensures
 
 pub returns : goal.returns
-returns c = λ same.
-    let t = c.args.t in
+returns g c = λ same.
+    let m = g.C.BinaryField.DEGREE in
+    let f = g.C.BinaryField.MODULUS in
+    let b = g.C.StepCode.STEP in
     let word = c.args.word.now in
     let whole = c.requires.whole in
-    subst (IsCodeWord (code_512 t))
-    (bits_of-body_parity word 512 (13 * t) (length word - 512) (omega arith) refl)
-    (c.has_parity.ensures same)
+    let first = c.STEP.ensures in
+    let second = c.STEP-2.ensures in
+    subst (λ (k : ℕ). IsCodeWord (code_over m f c.args.t b) (take (8 * k + m * c.args.t) (bits_of word))) first
+    (subst (IsCodeWord (code_over m f c.args.t b))
+    (bits_of-body_parity word c.STEP.result (m * c.args.t) (length word - c.STEP-2.result) (omega arith) (omega arith))
+    (subst (λ (k : ℕ). IsCodeWord (code_over m f c.args.t b) (bits_of (take c.STEP.result word) ++ take (m * c.args.t) (bits_of (take (length word - c.STEP-2.result) (drop k word))))) (second ∙ sym first)
+    (c.has_parity.ensures same)))

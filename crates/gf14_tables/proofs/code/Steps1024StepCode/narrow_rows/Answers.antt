@@ -1,0 +1,5 @@
+use Rattle.gf14_tables.proofs.TableLemmas.{narrow_rows_are}
+use Rattle.gf14_tables.proofs.code.Steps1024StepCode.narrow_rows.Goals as goal
+
+pub returns : goal.returns
+returns c = narrow_rows_are c.args.t c.requires.0 c.requires.1
