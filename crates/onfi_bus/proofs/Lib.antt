@@ -3,3 +3,4 @@ pub mod Taking
 pub mod Going
 pub mod Refusing
 pub mod Sending
+pub mod Runs

@@ -5,3 +5,4 @@ pub mod State
 pub mod Phrases
 pub mod Chips
 pub mod Lab
+pub mod Runs

@@ -21,10 +21,11 @@ use Rattle.onfi_bus.specs.declared.phase.Phase.{Phase}
 abbrev pub Beat : Type 0
 Beat = Cycle × Act
 
--- the number of two address cycles, and of three
+-- the number of two address cycles, the low byte first
 abbrev pub column_of : ℕ → ℕ → ℕ
 column_of low high = low + 256 * high
 
+-- the number of three address cycles, the low byte first
 abbrev pub row_of : ℕ → ℕ → ℕ → ℕ
 row_of low middle high = low + 256 * middle + 65536 * high
 
@@ -36,9 +37,11 @@ pub record Place : Type 0 where
   pub row_middle : ℕ
   pub row_high : ℕ
 
+-- the column that they name
 abbrev pub column_at : Place → ℕ
 column_at p = column_of p.column_low p.column_high
 
+-- the page that they name
 abbrev pub page_at : Place → ℕ
 page_at p = row_of p.row_low p.row_middle p.row_high
 

@@ -4,7 +4,7 @@ ghost use Rattle.std.specs.Prelude.{◌≡◌};
 use crate::transfer::{erase_by_cycles, program_by_cycles, read_by_cycles};
 use chip_sim::SimChip;
 use nand_iface::{EraseFailed, Flash, ProgramFailed};
-use nand_model::{BlockList, Geometry};
+use nand_model::{BlockList, Geometry, Tear};
 use std::alloc::AllocError;
 
 /// A simulated chip that is reached by the cycles of a bus: pages are read and programmed and
@@ -66,12 +66,24 @@ impl Flash for BusChip {
         erase_by_cycles(&mut self.chip, block)
     }
 
+    fn torn_program(&mut self, page: u32, image: &[u8], tear: &Tear) {
+        self.chip.torn_program(page, image, tear);
+    }
+
+    fn torn_erase(&mut self, block: u32, tear: &Tear) {
+        self.chip.torn_erase(block, tear);
+    }
+
     fn flip(&mut self, page: u32, bits: &BlockList) {
         self.chip.flip(page, bits);
     }
 
     fn flips(&self, page: u32, from: u32, to: u32) -> u32 {
         self.chip.flips(page, from, to)
+    }
+
+    fn torn(&self, page: u32) -> bool {
+        self.chip.torn(page)
     }
 
     fn flipped_since(&self, page: u32) -> bool {

@@ -16,3 +16,14 @@ pub enum Cycle {
 /// No list of phrases goes on with this cycle.
 #[derive(Clone, Copy, Debug, PartialEq, Eq)]
 pub struct Illegal;
+
+/// An event that a cycle does at the chip. Pages and blocks are counted from 0.
+#[derive(Clone, Copy, Debug, PartialEq, Eq)]
+pub enum BusEvent {
+    /// This page is read into the page register.
+    Read(u32),
+    /// The page register is programmed into this page.
+    Program(u32),
+    /// This block is erased.
+    Erase(u32),
+}

@@ -2,7 +2,7 @@
 use crate::chip::BusChip;
 use chip_sim::SimChip;
 use nand_iface::{EraseFailed, Flash, ProgramFailed};
-use nand_model::{BlockList, Geometry};
+use nand_model::{BlockList, Geometry, Tear};
 use std::alloc::AllocError;
 
 /// A simulated chip, plain or behind a bus.
@@ -66,6 +66,20 @@ impl Flash for LabChip {
         }
     }
 
+    fn torn_program(&mut self, page: u32, image: &[u8], tear: &Tear) {
+        match self {
+            LabChip::Plain(chip) => chip.torn_program(page, image, tear),
+            LabChip::Bus(chip) => chip.torn_program(page, image, tear),
+        }
+    }
+
+    fn torn_erase(&mut self, block: u32, tear: &Tear) {
+        match self {
+            LabChip::Plain(chip) => chip.torn_erase(block, tear),
+            LabChip::Bus(chip) => chip.torn_erase(block, tear),
+        }
+    }
+
     fn flip(&mut self, page: u32, bits: &BlockList) {
         match self {
             LabChip::Plain(chip) => chip.flip(page, bits),
@@ -77,6 +91,13 @@ impl Flash for LabChip {
         match self {
             LabChip::Plain(chip) => chip.flips(page, from, to),
             LabChip::Bus(chip) => chip.flips(page, from, to),
+        }
+    }
+
+    fn torn(&self, page: u32) -> bool {
+        match self {
+            LabChip::Plain(chip) => chip.torn(page),
+            LabChip::Bus(chip) => chip.torn(page),
         }
     }
 

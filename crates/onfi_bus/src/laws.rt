@@ -1,8 +1,9 @@
 // What one cycle at a time comes to, over whole lists of cycles.
-ghost use Rattle.std.specs.Prelude.{◌≡◌, ◌↔◌, [], ◌∷◌, ◌++◌, List, None};
+ghost use Rattle.std.specs.Prelude.{◌≡◌, ◌↔◌, ℕ, [], ◌∷◌, ◌++◌, List, None};
 ghost use Rattle.nand_model.specs.declared.geometry.Geometry.{Geometry};
 ghost use Rattle.onfi_bus.specs.Moves.{step_of};
 ghost use Rattle.onfi_bus.specs.Phrases.{Beat, IsLegal, Leads};
+ghost use Rattle.onfi_bus.specs.Runs.{AreLegal, IsFirstIllegal, cycles_of};
 ghost use Rattle.onfi_bus.specs.declared.cycle.Cycle.{Cycle};
 ghost use Rattle.onfi_bus.specs.declared.phase.Act.{Act};
 ghost use Rattle.onfi_bus.specs.declared.phase.Phase.{Phase};
@@ -19,4 +20,13 @@ pub fn cycles_are_phrases()
     ensures refused { (g : Geometry) (list : List Beat) (phase : Phase) (cycle : Cycle) →
         Leads g Idle list phase →
         ((step_of g phase cycle ≡ None) ↔ ((act : Act) → IsLegal g (list ++ (cycle, act) ∷ []) → ⊥)) }
+{}
+
+/// Cycles that begin a list of whole phrases do one thing alone, and none of them is the first
+/// illegal one.
+pub fn cycles_have_one_meaning()
+    ensures one { (g : Geometry) (one other : List Beat) → IsLegal g one → IsLegal g other →
+        cycles_of one ≡ cycles_of other → one ≡ other }
+    ensures never_both { (g : Geometry) (cycles : List Cycle) (n : ℕ) → AreLegal g cycles →
+        IsFirstIllegal g cycles n → ⊥ }
 {}

@@ -13,9 +13,9 @@ mod status;
 mod transfer;
 
 pub use chip::BusChip;
-pub use cycle::{Cycle, Illegal};
+pub use cycle::{BusEvent, Cycle, Illegal};
 pub use lab::LabChip;
-pub use laws::cycles_are_phrases;
+pub use laws::{cycles_are_phrases, cycles_have_one_meaning};
 pub use state::BusState;
 
 #[cfg(test)]

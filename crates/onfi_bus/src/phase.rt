@@ -2,7 +2,7 @@
 ghost use Rattle.std.specs.Prelude.{◌≡◌, ◌≤◌, IfSome};
 ghost use Rattle.nand_model.specs.Sizes.{page_count};
 
-use crate::cycle::Cycle;
+use crate::cycle::{BusEvent, Cycle};
 use nand_model::Geometry;
 
 /// What a column of two address cycles is for.
@@ -193,6 +193,22 @@ impl Phase {
                 }
             }
             Phase::Status => Some((Phase::Status, Act::GiveStatus)),
+            _ => None,
+        }
+    }
+}
+
+impl Act {
+    ghost use Rattle.onfi_bus.specs.Runs.{event_of};
+
+    /// The event that it is; None where it is none.
+    pub fn event(self) -> Option<BusEvent>
+        ensures { result ≡ event_of self }
+    {
+        match self {
+            Act::ReadPage(page) => Some(BusEvent::Read(page)),
+            Act::ProgramPage(page) => Some(BusEvent::Program(page)),
+            Act::EraseBlock(block) => Some(BusEvent::Erase(block)),
             _ => None,
         }
     }

@@ -1,10 +1,10 @@
 // A chip behind the cycles of a bus, one cycle at a time.
-ghost use Rattle.std.specs.Prelude.{◌≡◌, ◌≢◌, ◌≤◌, ◌<◌, ◌+◌, ◌↔◌, true, false, Some, None, IfSome, IsErr, OnErr};
+ghost use Rattle.std.specs.Prelude.{◌≡◌, ◌≢◌, ◌≤◌, ◌<◌, ◌+◌, ◌↔◌, true, false, replicate, Some, None, IfSome, IsErr, OnErr};
 ghost use Rattle.nand_model.specs.Sizes.{raw_len};
 ghost use Rattle.onfi_bus.specs.Device.{after_act, answer};
 ghost use Rattle.onfi_bus.specs.Moves.{ActFits, LookFits, NumbersFit, PhaseFits, PhaseFits-prop, changes_page};
 
-use crate::cycle::{Cycle, Illegal};
+use crate::cycle::{BusEvent, Cycle, Illegal};
 use crate::phase::{Act, Phase};
 use crate::register::Register;
 use crate::status::status;
@@ -23,12 +23,15 @@ pub struct BusState {
 }
 
 impl BusState {
-    ghost use Rattle.onfi_bus.specs.State.{device_of, failed_of, move_of, phase_of, sizes_of};
+    ghost use Rattle.onfi_bus.specs.Runs.{event_in};
+    ghost use Rattle.onfi_bus.specs.State.{device_of, failed_of, move_of, phase_of, register_of, sizes_of};
 
-    /// A bus for chips of these sizes, with no phrase under way and without a fail bit.
+    /// A bus for chips of these sizes, with no phrase under way, 0xFF throughout the page register,
+    /// and without a fail bit.
     pub fn new(g: Geometry) -> BusState
         ensures sizes { sizes_of result ≡ g }
         ensures phase { phase_of result ≡ Phase.Idle }
+        ensures register { register_of result ≡ replicate (raw_len g) 0xff }
         ensures fail_bit { failed_of result ≡ false }
     {
         BusState {
@@ -37,6 +40,14 @@ impl BusState {
             failed: false,
             register: Register::new(),
         }
+    }
+
+    /// The event that this cycle does next at the chip; None where it does none or is illegal.
+    pub fn event(&self, cycle: Cycle) -> Option<BusEvent>
+        ensures { result ≡ event_in (move_of self.now cycle) }
+    {
+        let (_, act) = self.phase.step(&self.geometry, cycle)?;
+        act.event()
     }
 
     /// Takes one cycle, which is none of the commands 10h and D0h, and gives a byte exactly where

@@ -4,6 +4,7 @@ ghost use Rattle.onfi_bus.specs.State.{sizes_of};
 
 use crate::{BusState, Cycle, Illegal};
 use chip_sim::SimChip;
+use fault_plan::WeakList;
 use nand_iface::Flash;
 use nand_model::{BlockList, Geometry};
 use std::alloc::AllocError;
@@ -30,7 +31,12 @@ fn takes<F: Flash>(
 #[test]
 fn programs_and_reads_back(rt: HostRuntime) -> Result<(), Fail> {
     let g = Geometry::new(2048, 64, 64, 8, 1, 0, 0)?;
-    let mut chip = SimChip::new(rt.alloc(), g, &BlockList::new(rt.alloc()))?;
+    let mut chip = SimChip::new(
+        rt.alloc(),
+        g,
+        &BlockList::new(rt.alloc()),
+        WeakList::new(rt.alloc()),
+    )?;
     let mut bus = BusState::new(chip.geometry());
     let rows = [
         (Cycle::Command(0x80), None),
@@ -60,7 +66,12 @@ fn programs_and_reads_back(rt: HostRuntime) -> Result<(), Fail> {
 #[test]
 fn refuses_a_confirm_after_one_address(rt: HostRuntime) -> Result<(), Fail> {
     let g = Geometry::new(2048, 64, 64, 8, 1, 0, 0)?;
-    let mut chip = SimChip::new(rt.alloc(), g, &BlockList::new(rt.alloc()))?;
+    let mut chip = SimChip::new(
+        rt.alloc(),
+        g,
+        &BlockList::new(rt.alloc()),
+        WeakList::new(rt.alloc()),
+    )?;
     let mut bus = BusState::new(chip.geometry());
     let rows = [(Cycle::Command(0x00), None), (Cycle::Address(0x00), None)];
     assert!(rt; takes(&mut bus, &mut chip, &rows)?);

@@ -1,0 +1,4 @@
+pub mod OneAfterAnother
+pub mod FirstLine
+pub mod Lines
+pub mod Answers

@@ -1,0 +1,3 @@
+pub mod Script
+pub mod Answer
+pub mod Reading
