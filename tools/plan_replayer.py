@@ -2,8 +2,8 @@
 """Replays a plan from standard input, and prints its report, or the line that the plan is refused with.
 
 A second replay beside the proved one, written from the standard and not from the code under crates/; plans are read by
-plan_reader.py. Plans with a cut, a weak place or tables on flash get `line 0: NotBuilt`. Exit status: 0, or 3 for a
-refusal. tools/mutated_plans.py compares the two programs.
+plan_reader.py. Plans with a weak place get `line 0: NotBuilt`. Exit status: 0, or 3 for a refusal.
+tools/mutated_plans.py compares the two programs.
 """
 import functools
 import sys
@@ -180,13 +180,44 @@ GOOD, WORN, RESERVED, FACTORY = range(4)
 STATE_WORDS = ('good', 'worn', 'reserved', 'factory')
 
 
+LAST = 4  # the blocks at a chip's end that may hold tables
+KINDS = {b'Bbt0': 'primary', b'1tbB': 'mirror'}
+PATTERNS = {kind: pattern for pattern, kind in KINDS.items()}
+OTHER = {'primary': 'mirror', 'mirror': 'primary'}
+ON_FLASH, FROM_FLASH = (3, 2, 3, 0), (3, 1, 1, 0)
+
+
+def done_bits(tear, page_in_block, raw):
+    """The bits of a torn page that were done."""
+    kind, _, rest = tear.partition(':')
+    if kind == 'seed':
+        return seed_bytes(int(rest), page_in_block * raw, raw)
+    done = bytearray((b'\xff' if kind == 'all' else b'\0') * raw)
+    for first, end in (map(int, span.split('-')) for span in rest.split(',') if span):
+        done[first:end] = b'\xff' * len(done[first:end])
+    return bytes(done)
+
+
+class Weak:
+    """A place that fails once it has been programmed or erased so often."""
+
+    def __init__(self, after, tear):
+        self.left, self.tear = after, tear
+
+    def fails(self):
+        self.left -= 1
+        return self.left < 0
+
+
 class Chip:
     def __init__(self, numbers):
-        self.page, self.spare, self.pages_per_block, self.blocks, t, _, self.threshold = numbers
+        self.page, self.spare, self.pages_per_block, self.blocks, t, self.bbt, self.threshold = numbers
         self.raw = self.page + self.spare
         self.code = code(t)
         self.parity_start = self.spare - self.page // 512 * self.code.length
-        self.cells, self.flips = {}, {}
+        self.cells, self.flips, self.weak = {}, {}, {}
+        self.torn, self.flipped_since = set(), set()
+        self.table_blocks = range(self.blocks - 1, self.blocks - 1 - LAST, -1) if self.bbt else ()
         self.start_boot()
 
     def start_boot(self):
@@ -194,6 +225,9 @@ class Chip:
 
     def first_page(self, block):
         return block * self.pages_per_block
+
+    def pages_of(self, block):
+        return range(self.first_page(block), self.first_page(block + 1))
 
     def marker(self):
         return b'\xff' * self.page + b'\0' + b'\xff' * (self.spare - 1)
@@ -203,11 +237,28 @@ class Chip:
 
     def program(self, page, image):
         self.cells[page] = bytes(a & b for a, b in zip(self.read(page), image))
+        self.torn.discard(page)
+        self.flipped_since.discard(page)
 
     def erase(self, block):
-        for page in range(self.first_page(block), self.first_page(block + 1)):
+        for page in self.pages_of(block):
             self.cells.pop(page, None)
             self.flips.pop(page, None)
+            self.torn.discard(page)
+            self.flipped_since.discard(page)
+
+    def tear(self, kind, place, image, tear):
+        """A program or an erase of which a part was done; a read changes nothing."""
+        pages = {'read': (), 'program': (place,), 'erase': self.pages_of(place) if kind == 'erase' else ()}[kind]
+        for number, page in enumerate(pages):
+            done, old = done_bits(tear, number, self.raw), self.read(page)
+            if kind == 'program':
+                self.cells[page] = bytes(a & (b | ~c & 0xff) for a, b, c in zip(old, image, done))
+            else:
+                self.cells[page] = bytes(a | c for a, c in zip(old, done))
+            if page not in self.torn:
+                self.torn.add(page)
+                self.flipped_since.discard(page)
 
     def flip(self, page, bits):
         cells = bytearray(self.read(page))
@@ -215,11 +266,26 @@ class Chip:
             cells[bit // 8] ^= 0x80 >> bit % 8
         self.cells[page] = bytes(cells)
         self.flips.setdefault(page, []).extend(bits)
+        self.flipped_since.add(page)
+
+    def flips_in(self, page, first, count):
+        return sum(first <= bit < first + count for bit in self.flips.get(page, ()))
 
     def is_quiet(self):
-        marker = range(8 * self.page, 8 * self.page + 8)
-        return not any(bit in marker for page, bits in self.flips.items()
-                       if page % self.pages_per_block == 0 for bit in bits)
+        if any(self.flips_in(self.first_page(block), 8 * self.page, 8) for block in range(self.blocks)):
+            return False
+        return all(self.is_quiet_table(self.first_page(block)) for block in self.table_blocks)
+
+    def is_quiet_table(self, page):
+        if page in self.torn and page in self.flipped_since:
+            return False
+        if self.bbt == 1 and self.flips_in(page, 8 * (self.page + 8), 40):
+            return False
+        for step in range(self.page // 512):
+            parity = 8 * (self.page + self.parity_start + step * self.code.length)
+            if self.flips_in(page, BODY_BITS * step, BODY_BITS) + self.flips_in(page, parity, self.code.bits) > self.code.t:
+                return False
+        return True
 
     def image(self, body, free):
         """A page in its code: marker bytes of 0xFF, the free bytes, and the parity of each step."""
@@ -243,6 +309,38 @@ class Chip:
                 greatest = max(greatest, wrong)
         return bytes(image), corrected, greatest, failed
 
+    def table_page(self, kind, version):
+        """The page of a copy of the entries."""
+        table = bytearray(self.blocks // 4)
+        for block, entry in enumerate(self.entries):
+            table[block // 4] |= ON_FLASH[entry] << 2 * (block % 4)
+        header, free = PATTERNS[kind] + bytes([version]), b'\xff' * (self.parity_start - 2)
+        if self.bbt == 1:
+            body, free = bytes(table), free[:6] + header + free[11:]
+        else:
+            body = header + bytes(table)
+        return self.image(body.ljust(self.page, b'\xff'), free)
+
+    def copy_in(self, cells):
+        """The kind, the version and the states of the copy that a page holds, if it holds one."""
+        decoded, _, _, failed = self.decode(cells)
+        header = cells[self.page + 8:self.page + 13] if self.bbt == 1 else decoded[:5]
+        if failed or header[:4] not in KINDS:
+            return None
+        table = decoded[0 if self.bbt == 1 else 5:]
+        states = [FROM_FLASH[table[block // 4] >> 2 * (block % 4) & 3] for block in range(self.blocks)]
+        return KINDS[header[:4]], header[4], states
+
+    def fairness(self, kind, place, image, before):
+        """What a torn event left in the first page of a table block, which stood so before it."""
+        block = place // self.pages_per_block if kind == 'program' else place
+        if kind == 'read' or block not in self.table_blocks or kind == 'program' and place % self.pages_per_block:
+            return 'plain'
+        after = self.copy_in(self.read(self.first_page(block)))
+        if after is None:
+            return 'missing'
+        return 'whole' if after == self.copy_in(image if kind == 'program' else before) else 'foul'
+
 
 class Reply:
     """What an operation is answered: its line, and for a page the image and the counts."""
@@ -263,7 +361,8 @@ class Device:
 
 
 def operate(device, kind, number, image):
-    """Yields each page event of an operation as (kind, place, image), and returns its reply."""
+    """Yields each page event of an operation as (kind, place, image), is sent whether it was good and what a read gave,
+    and returns its reply."""
     chip = device.chip
     if kind == 'stats':
         bad = sum(entry != GOOD for entry in device.entries())
@@ -276,16 +375,12 @@ def operate(device, kind, number, image):
     if kind == 'isbad':
         return Reply(STATE_WORDS[chip.entries[block]])
     if kind == 'mark':
-        if chip.entries[block] not in (WORN, FACTORY):
-            yield 'erase', block, None
-            yield 'program', chip.first_page(block), chip.marker()
-            chip.entries[block] |= WORN
-        return Reply('ok')
+        return Reply((yield from mark(chip, block)))
     if kind == 'rawread':
-        cells = yield 'read', place, None
+        _, cells = yield 'read', place, None
         return Reply('page raw corrected 0 greatest 0 failed 0', cells)
     if kind == 'read':
-        cells = yield 'read', place, None
+        _, cells = yield 'read', place, None
         decoded, corrected, greatest, failed = chip.decode(cells)
         word = 'uncorrectable' if failed else 'bitflips' if greatest >= chip.threshold else 'clean'
         text = 'page %s corrected %d greatest %d failed %d' % (word, corrected, greatest, failed)
@@ -294,8 +389,122 @@ def operate(device, kind, number, image):
         return Reply('bad block')
     if kind == 'rawwrite' and image[chip.page] != 0xff:
         return Reply('marker byte')
-    yield ('erase' if kind == 'erase' else 'program'), place, image
-    return Reply('ok')
+    event = 'erase' if kind == 'erase' else 'program'
+    good, _ = yield event, place, image
+    return Reply('ok' if good else event + ' failed')
+
+
+def mark(chip, block):
+    """Marks a block: its marker, its entry, and then the tables."""
+    if chip.entries[block] == RESERVED:
+        return 'reserved'
+    if chip.bbt and sum(chip.whole.values()) < 2:
+        return 'copies %d' % sum(chip.whole.values())
+    if chip.entries[block] in (WORN, FACTORY):
+        return 'ok'
+    yield 'erase', block, None
+    marked, _ = yield 'program', chip.first_page(block), chip.marker()
+    if marked or chip.bbt:
+        chip.entries[block] |= WORN
+    failed = None
+    if chip.bbt:
+        chip.version = (chip.version + 1) % 256
+        failed = yield from write_tables(chip, ['primary', 'mirror'])
+    if not marked:
+        return 'marker failed'
+    return 'table failed ' + failed if failed else 'ok'
+
+
+def write_tables(chip, left):
+    """Writes these copies of the table; a block that fails gives way to another. Returns the copy that failed for good."""
+    while left:
+        kind = left[0]
+        chip.whole[kind] = False
+        good, _ = yield 'erase', chip.places[kind], None
+        if good:
+            page = chip.first_page(chip.places[kind])
+            good, _ = yield 'program', page, chip.table_page(kind, chip.version)
+        if good:
+            chip.whole[kind], left = True, left[1:]
+            continue
+        chip.entries[chip.places[kind]] |= WORN
+        free = [block for block in chip.table_blocks
+                if chip.entries[block] == RESERVED and block != chip.places[OTHER[kind]]]
+        if not free:
+            return kind
+        chip.places[kind], chip.version = free[0], (chip.version + 1) % 256
+        left = [kind, OTHER[kind]]
+    return None
+
+
+def attach(chip):
+    """Yields the page events of an attach, and returns where the table came from."""
+    if not chip.bbt:
+        chip.version, chip.whole = 0, {}
+        chip.entries = yield from marker_table(chip)
+        return 'markers'
+    candidates = []
+    for block in chip.table_blocks:
+        _, cells = yield 'read', chip.first_page(block), None
+        if cells[chip.page] == 0xff:
+            candidates.append((block, chip.copy_in(cells)))
+    found = found_copies(candidates)
+    chip.places = places_of(chip, [block for block, _ in candidates], found)
+    primary, mirror = found.get('primary'), found.get('mirror')
+    if primary is None and mirror is None:
+        origin, left, chip.version = 'markers', ['primary', 'mirror'], 1
+        entries = yield from marker_table(chip)
+    else:
+        origin = chosen(primary, mirror)
+        chip.version, entries = found[origin][1:]
+        same = len(found) == 2 and primary[1] == mirror[1]
+        left = [] if same else [OTHER[origin]]
+    chip.entries = [entry | RESERVED * (block in chip.table_blocks) for block, entry in enumerate(entries)]
+    chip.whole = {kind: kind not in left for kind in ('primary', 'mirror')}
+    yield from write_tables(chip, left)
+    return origin
+
+
+def marker_table(chip):
+    entries = []
+    for block in range(chip.blocks):
+        _, cells = yield 'read', chip.first_page(block), None
+        entries.append(GOOD if cells[chip.page] == 0xff else FACTORY)
+    return entries
+
+
+def calls_bad(copy, block):
+    return copy is not None and copy[2][block] in (WORN, FACTORY)
+
+
+def found_copies(candidates):
+    """The first copy of each kind that no other candidate disowns, as block, version and states."""
+    found = {}
+    for block, copy in candidates:
+        disowned = any(calls_bad(other, block) for at, other in candidates if at != block)
+        if copy and not disowned:
+            found.setdefault(copy[0], (block, *copy[1:]))
+    return found
+
+
+def places_of(chip, candidates, found):
+    """The block of each copy: where it was found, or the highest one that is free for it."""
+    places = {kind: copy[0] for kind, copy in found.items()}
+    for kind in ('primary', 'mirror'):
+        if kind not in places:
+            other = places.get(OTHER[kind])
+            good = [block for block in candidates if block != other
+                    and not any(states[block] in (WORN, FACTORY) for _, _, states in found.values())]
+            places[kind] = (good + [block for block in chip.table_blocks if block != other])[0]
+    return places
+
+
+def chosen(primary, mirror):
+    """The copy that is used: the newer one by the signed difference of the versions, else the primary."""
+    if primary is None or mirror is None:
+        return 'mirror' if primary is None else 'primary'
+    difference = (primary[1] - mirror[1]) % 256
+    return 'primary' if difference < 128 else 'mirror'
 
 
 # ---------------------------------------------------------------- commands
@@ -328,6 +537,13 @@ def write_unit(device, options, page, unit):
     return (yield 'write', page, chip.image(body, spare[2:chip.parity_start])).text
 
 
+def give_up(options, block):
+    """Erases a block in which a page failed, and marks it where that is asked for."""
+    yield 'erase', block, None
+    if '-m' in options:
+        yield 'mark', block, None
+
+
 def nandwrite(device, options, data):
     chip = device.chip
     size = chip.raw if '-o' in options else chip.page
@@ -347,11 +563,15 @@ def nandwrite(device, options, data):
             answer = yield from write_unit(device, options, page, units[done])
             if answer == 'ok':
                 page, done = page + 1, done + 1
-            elif answer == 'marker byte':
+                continue
+            if answer == 'marker byte':
                 ending = ', marker byte'
-            else:
-                page, done = after, first
-                skipped += 1
+                break
+            page, done = after, first
+            failed += answer == 'program failed'
+            skipped += answer == 'bad block'
+            if answer == 'program failed':
+                yield from give_up(options, block)
     return ['nandwrite %s: pages %d, skipped %d, failed %d%s' % (device.name, done, skipped, failed, ending)]
 
 
@@ -399,6 +619,15 @@ class BlockTest:
                 answer = yield from write_unit(self.device, {}, page, body)
         return answer
 
+    def refill(self, block, pages, bodies):
+        """Fills a block, and counts why it could not be; tells whether it could."""
+        answer = yield from self.fill(block, pages, bodies)
+        if answer == 'bad block':
+            self.counts['bad'] += 1
+        elif answer != 'ok':
+            yield from self.worn(block)
+        return answer == 'ok'
+
     def worn(self, block):
         self.counts['worn'] += 1
         if '-m' in self.options:
@@ -414,8 +643,7 @@ class BlockTest:
         for page in pages if '-k' in self.options else ():
             kept.append((yield from self.read(page)))
         bodies = [seed_bytes(seed, page * chip.page, chip.page) for page in pages]
-        if (yield from self.fill(block, pages, bodies)) != 'ok':
-            self.counts['bad'] += 1
+        if not (yield from self.refill(block, pages, bodies)):
             return
         mismatched = 0
         for page, body in zip(pages, bodies):
@@ -423,9 +651,7 @@ class BlockTest:
         self.counts['mismatched'] += mismatched
         if mismatched:
             yield from self.worn(block)
-        elif kept and (yield from self.fill(block, pages, kept)) != 'ok':
-            self.counts['bad'] += 1
-        else:
+        elif not kept or (yield from self.refill(block, pages, kept)):
             self.counts['blocks'] += 1
 
 
@@ -462,7 +688,7 @@ TOOLS = {tool.__name__: tool for tool in (flash_erase, nandwrite, nanddump, nand
 class Session:
     def __init__(self, number, controller):
         self.number, self.controller = number, controller
-        self.commands, self.lines = [], []
+        self.commands, self.lines, self.finished = [], [], 0
         self.running = self.events = self.reply = None
 
     def start(self):
@@ -473,6 +699,7 @@ class Session:
         for tool, device, options, rest in self.commands:
             self.device = device
             self.lines += yield from TOOLS[tool](device, options, *rest)
+            self.finished += 1
 
     def advance(self, reply):
         """Takes the reply to the last operation, and keeps the next one; None where all is over."""
@@ -481,10 +708,10 @@ class Session:
         except StopIteration:
             self.operation = None
 
-    def step(self, cells):
+    def step(self, answer):
         """Keeps the next page event of the operation in flight, or its reply."""
         try:
-            self.event = self.events.send(cells)
+            self.event = self.events.send(answer)
         except StopIteration as end:
             self.event, self.reply = None, end.value
 
@@ -495,43 +722,62 @@ class Controller:
         self.start_boot()
 
     def start_boot(self):
-        self.notes, self.event, self.flips = [], 0, {}
+        self.notes, self.event, self.flips, self.cut, self.dark = [], 0, {}, None, False
         for chip in self.chips:
             chip.start_boot()
 
-    def next_event(self):
+    def do_event(self, chip, quiet, kind, place, image):
+        """The flips that are due, and a page event; tells whether it was good, what was read, and whether the attach is
+        still quiet."""
         self.event += 1
-        for chip, page, bits in self.flips.get(self.event, ()):
-            self.chips[chip].flip(page, bits)
+        for k, page, bits in self.flips.get(self.event, ()):
+            self.chips[k].flip(page, bits)
+        quiet = quiet and chip.is_quiet()
+        before = chip.read(chip.first_page(place)) if kind == 'erase' else None
+        weak = chip.weak.get((kind, place))
+        fails = weak is not None and weak.fails()
+        self.dark = self.cut is not None and self.cut[0] == self.event
+        if not fails and not self.dark:
+            cells = chip.read(place) if kind == 'read' else None
+            if kind == 'program':
+                chip.program(place, image)
+            elif kind == 'erase':
+                chip.erase(place)
+            return (True, cells), quiet
+        chip.tear(kind, place, image, self.cut[1] if self.dark else weak.tear)
+        self.notes.append('torn %d.%d event %d %s %d %s %s' % (
+            self.number, self.chips.index(chip), self.event, kind, place, 'cut' if self.dark else 'fault',
+            chip.fairness(kind, place, image, before)))
+        return (False, None), quiet
 
     def attach(self):
         for k, chip in enumerate(self.chips):
-            quiet = True
-            for block in range(chip.blocks):
-                self.next_event()
-                quiet = quiet and chip.is_quiet()
-                is_good = chip.read(chip.first_page(block))[chip.page] == 0xff
-                chip.entries.append(GOOD if is_good else FACTORY)
-            bad = ','.join('%df' % block for block, entry in enumerate(chip.entries) if entry) or '-'
-            self.notes.append('attach %d.%d markers version 0 copies 0 quiet %s bad %s'
-                              % (self.number, k, 'yes' if quiet else 'no', bad))
+            quiet, answer, events = True, None, attach(chip)
+            while True:
+                try:
+                    event = events.send(answer)
+                except StopIteration as end:
+                    origin = end.value
+                    break
+                answer, quiet = self.do_event(chip, quiet, *event)
+                if self.dark:
+                    return
+            bad = ','.join('%d%s' % (block, 'w' if entry == WORN else 'f')
+                           for block, entry in enumerate(chip.entries) if entry in (WORN, FACTORY)) or '-'
+            self.notes.append('attach %d.%d %s version %d copies %d quiet %s bad %s' % (
+                self.number, k, origin, chip.version, sum(chip.whole.values()), 'yes' if quiet else 'no', bad))
 
     def turn(self, session):
-        if session.operation is None:
+        if self.dark or session.operation is None:
             return
         chip = session.device.chip
         if session.events is None:
             if chip.holder is None:
                 self.begin(session, chip)
         elif session.event is not None:
-            self.next_event()
-            kind, place, image = session.event
-            cells = chip.read(place) if kind == 'read' else None
-            if kind == 'program':
-                chip.program(place, image)
-            elif kind == 'erase':
-                chip.erase(place)
-            session.step(cells)
+            answer, _ = self.do_event(chip, False, *session.event)
+            if not self.dark:
+                session.step(answer)
         else:
             self.end(session, chip)
 
@@ -600,6 +846,9 @@ class Replay:
         for block in map(int, blocks):
             chip.program(chip.first_page(block), chip.marker())
 
+    def line_weak(self, kind, place, after, tear):
+        self.controllers[-1].chips[-1].weak[kind, int(place)] = Weak(int(after), tear)
+
     def line_part(self, start, count):
         chip = self.controllers[-1].chips[-1]
         name = 'mtd%d' % len(self.devices)
@@ -623,6 +872,9 @@ class Replay:
         flips = self.controllers[controller].flips.setdefault(int(before), [])
         flips.append((k, int(page), list(map(int, bits))))
 
+    def line_cut(self, controller, event, tear):
+        self.controllers[int(controller)].cut = int(event), tear
+
     def line_session(self, controller):
         self.sessions.append(Session(len(self.sessions), self.controllers[int(controller)]))
 
@@ -637,7 +889,7 @@ class Replay:
             session.start()
         for number in self.schedule:
             self.sessions[number].controller.turn(self.sessions[number])
-        while any(session.operation is not None for session in self.sessions):
+        while any(session.operation is not None and not session.controller.dark for session in self.sessions):
             for session in self.sessions:
                 session.controller.turn(session)
         self.report.append('boot %d' % self.boot)
@@ -645,6 +897,8 @@ class Replay:
             self.report += ['controller %d' % controller.number] + controller.notes
         for session in self.sessions:
             self.report += ['session %d' % session.number] + session.lines
+            if session.operation is not None:
+                self.report.append('cut after %d' % session.finished)
         for device in self.devices:
             self.report.append('device %s corrected %d failed %d' % (device.name, device.corrected, device.failed))
         self.report.append('end boot %d' % self.boot)
@@ -656,7 +910,7 @@ def answer(plan):
     if status:
         return status, text
     lines = [line.split() for line in text.decode().splitlines()]
-    if any(first in ('cut', 'weak') or first == 'chip' and words[5] != '0' for first, *words in lines):
+    if any(first == 'weak' for first, *_ in lines):
         return 3, b'line 0: NotBuilt\n'
     replay = Replay()
     for first, *words in lines:

@@ -4,9 +4,9 @@
   tools/random_plans.py PROGRAM [--seed N] [--runs N] [--keep FOLDER]
   tools/random_plans.py --show N [--seed N]     prints the plan of run N
 
-A plan has one or two controllers, chips without tables, some factory-bad blocks, and up to three boots in which a few
-sessions share the chips by a random schedule, with flips near the events that read pages. A run depends on the seed and
-its own number alone. Exit status: 1 where a report differs.
+A plan has one or two controllers, chips with and without tables, some factory-bad blocks, and up to three boots in which
+a few sessions share the chips by a random schedule, with flips near the events that read pages and in the tables, and
+with power cuts. A run depends on the seed and its own number alone. Exit status: 1 where a report differs.
 """
 import argparse
 import pathlib
@@ -26,6 +26,8 @@ class Chip:
         self.strength = rng.choice(strengths)
         self.block = PAGES_PER_BLOCK * self.page
         self.bits = 8 * (self.page + self.spare)
+        parity = self.page // 512 * ((13 * self.strength + 7) // 8)
+        self.tables = rng.choice((0, 1, 2) if self.spare - parity >= 13 else (0, 2))
 
 
 def places(rng, chip, blocks):
@@ -58,12 +60,23 @@ def flip(rng, controllers):
     controller = rng.randrange(len(controllers))
     chip = rng.randrange(len(controllers[controller]))
     chips = controllers[controller]
-    page = rng.choice((0, 0, 0, 3, 7)) * PAGES_PER_BLOCK + rng.choice((0, 0, 0, 1, 63))
-    step = rng.randrange(chips[chip].page // 512) * 4096
-    bits = [rng.choice((step + rng.randrange(4096), rng.randrange(chips[chip].bits)))
+    page = rng.choice((0, 0, 0, 3, 6, 7)) * PAGES_PER_BLOCK + rng.choice((0, 0, 0, 1, 63))
+    step, spare = rng.randrange(chips[chip].page // 512) * 4096, 8 * chips[chip].page
+    bits = [rng.choice((step + rng.randrange(4096), rng.randrange(chips[chip].bits), rng.choice((0, spare, spare + 64))
+                        + rng.randrange(40)))
             for _ in range(rng.choice((1, 1, 2, 3, 4, 5, 8, 9, 17)))]
     before = rng.choice((1, 9, len(chips) * BLOCKS + rng.randrange(1, 30)))
     return 'flip %d.%d %d %d %s' % (controller, chip, page, before, ' '.join(map(str, bits)))
+
+
+def tear(rng):
+    first = rng.choice((0, 2040, 2048, 2056, rng.randrange(4096)))
+    return rng.choice(('none', 'all', 'seed:%d' % rng.randrange(9), 'spans:%d-%d' % (first, first + rng.randrange(1, 30))))
+
+
+def cuts(rng, controllers):
+    return ['cut %d %d %s' % (n, rng.choice((rng.randrange(1, 17), rng.randrange(16, 60))), tear(rng))
+            for n, _ in enumerate(controllers) if rng.random() < 0.4]
 
 
 def head(rng):
@@ -75,9 +88,10 @@ def head(rng):
         for _ in range(rng.choice((1, 1, 2, 3))):
             chip = Chip(rng)
             controllers[-1].append(chip)
-            lines.append('chip %d %d %d %d %d 0' % (chip.page, chip.spare, PAGES_PER_BLOCK, BLOCKS, chip.strength))
+            lines.append('chip %d %d %d %d %d %d' % (chip.page, chip.spare, PAGES_PER_BLOCK, BLOCKS, chip.strength,
+                                                     chip.tables))
             if rng.random() < 0.3:
-                lines.append('bad %d' % rng.randrange(BLOCKS))
+                lines.append('bad %s' % ' '.join(map(str, rng.sample(range(BLOCKS), rng.randrange(1, 3)))))
             cut = rng.choice((0, 3, 8))
             for start, blocks in ((0, cut), (cut, BLOCKS - cut)):
                 if blocks:
@@ -92,7 +106,7 @@ def plan(rng):
     lines += ['data %s seed:%d:%d' % (name, rng.randrange(9), rng.choice((0, 1, 2048, 4096, 6000))) for name in names]
     for _ in range(rng.choice((1, 1, 2, 3))):
         lines.append('boot')
-        lines += [flip(rng, controllers) for _ in range(rng.randrange(12))]
+        lines += [flip(rng, controllers) for _ in range(rng.choice((0, rng.randrange(12))))] + cuts(rng, controllers)
         sessions = [rng.randrange(len(controllers)) for _ in range(rng.randrange(1, 5))]
         for controller in sessions:
             lines.append('session %d' % controller)
