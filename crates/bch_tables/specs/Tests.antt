@@ -11,7 +11,8 @@ powers_pass m f a (x ∷ xs) = let rest = powers_pass m f (reduced m f (2 * a)) 
 -- from the generator g for t wrong bits on, each number is the next generator
 unfoldable pub generators_pass : ℕ → ℕ → ℕ → ℕ → List ℕ → Bool
 generators_pass m f t g [] = true
-generators_pass m f t g (x ∷ xs) = let rest = generators_pass m f (suc t) x xs in cond (nat_eq x (product g (minimal_of m f (2 * t + 1)))) rest false
+generators_pass m f t g (x ∷ xs) =
+    let rest = generators_pass m f (suc t) x xs in cond (nat_eq x (product g (minimal_of m f (2 * t + 1)))) rest false
 
 -- the generator for t wrong bits, out of a list of all from t = 1 on, moved up to degree w
 unfoldable pub modulus : ℕ → List ℕ → ℕ → ℕ → ℕ
@@ -21,7 +22,8 @@ modulus m generators w t = slice_index generators (t - 1) * 2 ^ (w - m * t)
 unfoldable pub rows_pass : {A : Type 0} → (A → ℕ) → ℕ → ℕ → List ℕ → List A → Bool
 rows_pass v w f earlier [] = true
 rows_pass v w f [] (r ∷ rs) = false
-rows_pass v w f (a ∷ earlier) (r ∷ rs) = let rest = rows_pass v w f earlier rs in cond (nat_eq (v r) (shifted w f 8 a)) rest false
+rows_pass v w f (a ∷ earlier) (r ∷ rs) =
+    let rest = rows_pass v w f earlier rs in cond (nat_eq (v r) (shifted w f 8 a)) rest false
 
 -- each table is eight steps further than the one before, and has 256 rows
 unfoldable pub tables_pass : {A : Type 0} → (A → ℕ) → ℕ → ℕ → List ℕ → List (List A) → Bool

@@ -106,6 +106,7 @@ abbrev pub with_chip : ℕ → Option Geometry → List Cycle → Result Script 
 with_chip at None so_far = Err (at, Ended)
 with_chip at (Some g) so_far = Ok (record { geometry = g; cycles = so_far })
 
+-- the whole of a script after these lines, of which the last one ended here
 abbrev pub ended : ℕ → Result ScriptLines Refusal → Result Script Refusal
 ended at (Ok script) = with_chip at script.chip script.cycles
 ended at (Err refusal) = Err refusal

@@ -1,5 +1,5 @@
 -- A whole attach without tables, block after block.
-use Rattle.std.proofs.Common.{◌≡◌, ℕ, ◌+◌, ◌<◌, ◌≤◌, Bool, true, List, [], ◌∷◌, ◌++◌, Option, Some, None, refl, ap, sym, subst, ◌∙◌, arith, zero, suc, false, add-one, add-zero}
+use Rattle.std.proofs.Common.{◌≡◌, ℕ, ◌+◌, ◌<◌, ◌≤◌, Bool, true, List, [], ◌∷◌, ◌++◌, Option, Some, None, refl, ap, sym, subst, ◌∙◌, arith, zero, suc, false, add-one}
 use Rattle.std.specs.Prelude.{◌&&◌, map, IsSome, IfSome}
 use Rattle.std.proofs.lemmas.List.{map-append}
 use Rattle.nand_model.proofs.Bounds.{bounds}

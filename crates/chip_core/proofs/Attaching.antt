@@ -1,17 +1,16 @@
 -- An attach from event to event.
-use Rattle.std.proofs.Common.{◌≡◌, ℕ, ◌+◌, ◌-◌, ◌<◌, ◌≤◌, Bool, true, false, List, [], length, Option, Some, None, refl, ap, sym, subst, ◌∙◌, arith}
+use Rattle.std.proofs.Common.{◌≡◌, ℕ, ◌+◌, ◌-◌, ◌≤◌, Bool, List, [], length, Option, Some, None, refl, ap, sym, subst, ◌∙◌, arith}
 use Rattle.std.specs.Prelude.{IsSome, IfSome, ◌&&◌, ◌==◌, is_none}
 use Rattle.std.proofs.lemmas.Option.{IfSome_then}
 use Rattle.nand_model.specs.Chip.{ChipState, Complete, FaultModel, PageEvent, ReadEvent, happens}
 use Rattle.nand_model.specs.Counts.{HasRisen}
-use Rattle.nand_model.specs.Path.{Answer, Data, Path, Over, Then, answer_to, first_event}
+use Rattle.nand_model.specs.Path.{Answer, Data, Path, Over, Then, first_event}
 use Rattle.nand_model.specs.Quiet.{is_quiet}
-use Rattle.nand_model.specs.Sizes.{raw_len}
 use Rattle.nand_model.specs.declared.geometry.Geometry.{Geometry}
 use Rattle.nand_model.specs.declared.words.Fairness.{Fairness}
 use Rattle.chip_paths.specs.Attach.{Attaching}
 use Rattle.chip_paths.specs.ChipRun.{known_at_first}
-use Rattle.chip_paths.specs.Stage.{Stage, Attaches, Rests, attach_end, attach_stage, failure_told, path_after, pending_note_after, stage_after}
+use Rattle.chip_paths.specs.Stage.{Stage, Attaches, Rests, attach_end, attach_stage, path_after}
 use Rattle.bbt_flash.specs.Attach.{attach_left, attach_sizes}
 use Rattle.bbt_flash.specs.Events.{answer_of}
 use Rattle.chip_core.specs.AttachRun.{AttachAdvances, RunFits, Watches, quiet_to_next}

@@ -6,7 +6,7 @@ use Rattle.nand_model.specs.Partitions.{Partitions}
 use Rattle.nand_model.specs.declared.geometry.Geometry.{Geometry}
 use Rattle.nand_model.specs.declared.words.Op.{Op}
 use Rattle.chip_paths.specs.ChipRun.{AtStart}
-use Rattle.chip_paths.specs.Operation.{Known, operation_path}
+use Rattle.chip_paths.specs.Operation.{operation_path}
 use Rattle.chip_paths.specs.Stage.{Rests, Works, is_resting, stage_begun}
 use Rattle.chip_core.specs.Beginning.{Begins}
 use Rattle.chip_core.specs.Knowledge.{known_in, known_with}

@@ -1,9 +1,9 @@
 -- What is judged of a failed erase, and the tables that judging fills.
-use Rattle.std.proofs.Common.{◌≡◌, ℕ, Bool, true, false, List, length, Option, Some, None, Ok, Err, Result, refl, ap, sym, subst, inl, ◌≤◌, ◌∙◌, arith}
+use Rattle.std.proofs.Common.{◌≡◌, ℕ, Bool, true, false, List, length, Option, Some, None, Ok, Err, Result, refl, ap, sym, subst, inl, ◌∙◌, arith}
 use Rattle.std.specs.Prelude.{IfOk, OnErr, OnOk, is_none}
 use Rattle.nand_model.specs.Chip.{ChipState, Complete, DoneBits, EraseCall, EraseEvent, FaultModel, failure_of, happens, saturating_increment}
 use Rattle.nand_model.specs.Page.{decoded}
-use Rattle.nand_model.specs.Path.{Answer, Failed, answer_to, good_or_failed, is_failure}
+use Rattle.nand_model.specs.Path.{Failed, good_or_failed, is_failure}
 use Rattle.nand_model.specs.Quiet.{fairness_if, fairness_of, is_table_block}
 use Rattle.nand_model.specs.Sizes.{first_page, raw_len}
 use Rattle.nand_model.specs.declared.geometry.Geometry.{Geometry}

@@ -1,12 +1,11 @@
 -- An event by its name.
-use Rattle.std.proofs.Common.{◌≡◌, ℕ, Bool, true, false, Option, Some, None, refl, ap, sym, subst, ◌∙◌}
+use Rattle.std.proofs.Common.{◌≡◌, ℕ, Bool, true, false, Option, Some, None, refl, ap, sym, subst}
 use Rattle.std.specs.Prelude.{IsSome, IfSome, is_none, is_some, not, option_map}
 use Rattle.std.proofs.lemmas.Bool.{false≢true, true≢false}
 use Rattle.chip_paths.specs.ChipRun.{name_of}
 use Rattle.nand_model.specs.Chip.{PageEvent, ReadEvent, ProgramEvent, EraseEvent}
-use Rattle.nand_model.specs.declared.words.Event.{Event}
 use Rattle.nand_model.specs.declared.words.Event.TheVariants.{Read, Program, Erase}
-use Rattle.bbt_flash.specs.Events.{image_of, is_change, is_program, is_read}
+use Rattle.bbt_flash.specs.Events.{image_of}
 
 module _ (event : Option PageEvent) where
   pub named-read : (page : ℕ) → option_map name_of event ≡ Some (Read page) → event ≡ Some (ReadEvent page)

@@ -1,6 +1,6 @@
 -- Tests of the numbers from a first one on, and how many pass.
 use Rattle.std.proofs.Common.{◌≡◌, ◌≢◌, ℕ, zero, suc, ◌+◌, ◌<◌, ◌≤◌, Bool, true, false, List, [], ◌∷◌, ◌++◌, length, refl, ap, sym, ◌∙◌, add-one, add-zero, inl, inr, arith}
-use Rattle.std.specs.Prelude.{◌&&◌, count_by, if◌then◌else◌, not, ◌==◌}
+use Rattle.std.specs.Prelude.{count_by, if◌then◌else◌, not, ◌==◌}
 use Rattle.std.specs.List.{list_all}
 use Rattle.std.proofs.lemmas.Bool.{and_from, and_parts, both_ways, cases_eq, false_from_ne_true}
 use Rattle.std.proofs.lemmas.List.Folds.{sum_by-zero}

@@ -1,10 +1,10 @@
 -- A whole operation, event after event.
 use Rattle.std.proofs.Common.{◌≡◌, ℕ, ◌-◌, ◌<◌, Bool, true, false, List, [], ◌∷◌, ◌++◌, append_assoc, append-nil, Option, Some, None, refl, ap, sym, subst, ◌∙◌, inl, arith}
-use Rattle.std.specs.Prelude.{IsSome, IfSome, is_some, option_map, ◌||◌}
-use Rattle.std.proofs.lemmas.Bool.{false≢true, true≢false}
+use Rattle.std.specs.Prelude.{IsSome, IfSome, ◌||◌}
+use Rattle.std.proofs.lemmas.Bool.{false≢true}
 use Rattle.chip_paths.specs.Attach.{Attaching}
 use Rattle.nand_model.specs.Chip.{ChipEvent, ChipState, Complete, DoneBits, EraseCall, EraseEvent, FaultModel, PageEvent, ProgramCall, ProgramEvent, ReadEvent, after_trace, failure_of, happens}
-use Rattle.chip_paths.specs.ChipRun.{AtStart, Progress, name_of}
+use Rattle.chip_paths.specs.ChipRun.{AtStart, Progress}
 use Rattle.nand_model.specs.Counts.{HasRisen}
 use Rattle.chip_paths.specs.Operation.{Finished, Known, operation_path}
 use Rattle.nand_model.specs.Partitions.{Partitions, device_of, part_of}

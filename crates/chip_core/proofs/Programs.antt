@@ -1,15 +1,15 @@
 -- How many pages a writing, an attach and a mark program at most.
-use Rattle.std.proofs.Common.{◌≡◌, ◌≢◌, ℕ, zero, suc, ◌+◌, ◌*◌, ◌-◌, ◌≤◌, Bool, true, false, List, [], ◌∷◌, ◌++◌, length, Option, Some, None, refl, ap, sym, subst, ◌∙◌, arith}
+use Rattle.std.proofs.Common.{◌≡◌, ◌≢◌, ℕ, zero, suc, ◌+◌, ◌*◌, ◌-◌, ◌≤◌, Bool, true, false, List, [], ◌∷◌, ◌++◌, length, Option, Some, None, refl, ap, sym, subst, arith}
 use Rattle.std.specs.Prelude.{not, ◌==◌}
 use Rattle.std.proofs.lemmas.Bool.{ne_eqb}
 use Rattle.nand_model.specs.Path.{Answer, Path, Over, Then, cells_of, first_event, is_good}
-use Rattle.nand_model.specs.Chip.{PageEvent, ReadEvent}
-use Rattle.nand_model.specs.Sizes.{first_page, numbers_from}
+use Rattle.nand_model.specs.Chip.{PageEvent}
+use Rattle.nand_model.specs.Sizes.{numbers_from}
 use Rattle.nand_model.specs.Table.{has_tables, table_blocks}
 use Rattle.chip_paths.specs.Attach.{Attaching, attach_by, attach_path, attaching_of, marker_table, read_first_pages, rewrite_copies, use_copy, use_found, whole_at_first, with_reserved}
 use Rattle.chip_paths.specs.Copies.{candidates, choice_of, found, places_of, rewritten, used_copy, version_found}
 use Rattle.chip_paths.specs.Stage.{path_after}
-use Rattle.chip_paths.specs.Writing.{Places, Writing, after_event, event_once, marked, most_events, moved, next_place, other_of, place_of, with_retired, with_whole, writing_after, writing_of, writing_path, writing_within, writing_step, written_by}
+use Rattle.chip_paths.specs.Writing.{Places, Writing, after_event, event_once, marked, most_events, moved, next_place, other_of, place_of, with_whole, writing_after, writing_of, writing_path, writing_within, writing_step, written_by}
 use Rattle.nand_model.specs.Table.{Copy}
 use Rattle.nand_model.specs.declared.geometry.Geometry.{Geometry}
 use Rattle.nand_model.specs.declared.words.Choice.{Choice}

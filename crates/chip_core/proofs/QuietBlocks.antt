@@ -1,8 +1,8 @@
 -- A chip is quiet where each of its blocks is, and what befalls one block leaves the others as they are.
 use Rattle.std.proofs.Common.{◌≡◌, ◌≢◌, ℕ, ◌+◌, ◌/◌, ◌<◌, ◌≤◌, Bool, true, false, List, [], ◌∷◌, All, refl, ap, sym, subst, ◌∙◌, inl, inr, arith}
-use Rattle.std.specs.Prelude.{◌==◌, ◌&&◌, ◌||◌, count_by, not}
+use Rattle.std.specs.Prelude.{◌==◌, ◌||◌, count_by, not}
 use Rattle.std.specs.List.{list_all, list_any}
-use Rattle.std.proofs.lemmas.Bool.{and_from, and_parts, cases_eq, eq-eqb, eqb-true}
+use Rattle.std.proofs.lemmas.Bool.{and_from, and_parts, eq-eqb, eqb-true}
 use Rattle.std.proofs.lemmas.List.Elements.{All-head, All-tail}
 use Rattle.std.proofs.lemmas.List.Sums.{count_by-le-length}
 use Rattle.nand_iface.proofs.FlashLemmas.{after_trace-geometry, flips-others, happens-erase_others, happens-geometry, happens-program_others, happens-torn_erase_others, happens-torn_program_others}

@@ -1,9 +1,9 @@
 -- The table in memory within an operation.
-use Rattle.std.proofs.Common.{◌≡◌, ℕ, Option, Some, None, refl, ap, sym, subst, ◌∙◌}
-use Rattle.chip_paths.specs.ChipRun.{bad_blocks_in, table_at}
+use Rattle.std.proofs.Common.{◌≡◌, Some, refl, ap, sym}
+use Rattle.chip_paths.specs.ChipRun.{table_at}
 use Rattle.chip_paths.specs.Stage.{stage_table}
 use Rattle.bbt_flash.specs.Update.{update_writing}
-use Rattle.chip_core.specs.Phase.{PhaseFits, WorkFits, known_before, phase_stage}
+use Rattle.chip_core.specs.Phase.{PhaseFits, known_before, phase_stage}
 use Rattle.chip_core.specs.Task.{HasMarked, task_left, task_progress}
 use Rattle.chip_core.specs.declared.attach_run.AttachRun.{AttachRun}
 use Rattle.chip_core.specs.declared.knowledge.Knowledge.{Knowledge}

@@ -1,11 +1,11 @@
 -- The pages in which tables stand are the first ones of the blocks in which they stand.
-use Rattle.std.proofs.Common.{◌≡◌, ◌≢◌, ℕ, ◌+◌, ◌*◌, ◌/◌, ◌%◌, ◌<◌, Bool, true, false, List, [], ◌∷◌, refl, ap, sym, ◌∙◌, arith}
-use Rattle.std.specs.Prelude.{◌==◌, ◌&&◌, ◌||◌}
+use Rattle.std.proofs.Common.{◌≡◌, ◌≢◌, ℕ, ◌/◌, ◌%◌, Bool, true, false, List, [], ◌∷◌, refl, ap, sym, ◌∙◌, arith}
+use Rattle.std.specs.Prelude.{◌==◌, ◌&&◌}
 use Rattle.std.specs.List.{list_any}
-use Rattle.std.proofs.lemmas.Bool.{eq-eqb, eqb-true, false_from_ne_true, ne_eqb}
+use Rattle.std.proofs.lemmas.Bool.{eq-eqb, eqb-true, ne_eqb}
 use Rattle.std.proofs.Math.Nat.{mul-mod_left}
 use Rattle.nand_model.proofs.Bounds.{pages-some}
-use Rattle.nand_model.specs.Quiet.{fairness_if, is_table_block, is_table_page}
+use Rattle.nand_model.specs.Quiet.{is_table_block, is_table_page}
 use Rattle.nand_model.specs.Sizes.{first_page}
 use Rattle.nand_model.specs.Table.{has_tables, table_blocks}
 use Rattle.nand_model.specs.declared.geometry.Geometry.{Geometry}

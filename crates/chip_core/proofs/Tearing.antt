@@ -1,5 +1,5 @@
 -- A chip whose next event was torn.
-use Rattle.std.proofs.Common.{◌≡◌, Option, refl, ap, sym, subst, ◌∙◌}
+use Rattle.std.proofs.Common.{◌≡◌, Option, ap, sym, subst, ◌∙◌}
 use Rattle.std.specs.Prelude.{IsSome, IfSome}
 use Rattle.nand_iface.proofs.FlashLemmas.{happens-geometry}
 use Rattle.nand_model.specs.Chip.{ChipState, FaultModel, PageEvent, PowerCut, done_bits}

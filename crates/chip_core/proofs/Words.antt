@@ -4,7 +4,7 @@ use Rattle.std.specs.Prelude.{nat_le}
 use Rattle.std.proofs.lemmas.Bool.{le-leb, leb-true}
 use Rattle.std.proofs.lemmas.Nat.{mul-le}
 use Rattle.nand_model.proofs.Bounds.{bounds}
-use Rattle.nand_model.specs.Sizes.{parity_bytes, parity_start, step_count}
+use Rattle.nand_model.specs.Sizes.{parity_bytes, step_count}
 use Rattle.nand_model.specs.declared.geometry.Geometry.{Geometry}
 use Rattle.chip_core.proofs.Numbers.{same_truth}
 

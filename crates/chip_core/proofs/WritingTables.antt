@@ -2,7 +2,7 @@
 use Rattle.std.proofs.Common.{◌≡◌, ℕ, zero, suc, ◌+◌, ◌-◌, ◌≤◌, Bool, true, false, List, [], ◌∷◌, length, Option, Some, None, refl, ap, sym, subst, ◌∙◌, arith}
 use Rattle.std.specs.Prelude.{IsSome, IfSome, is_none, if◌then◌else◌}
 use Rattle.nand_model.specs.Chip.{ChipState, FaultModel, PageEvent}
-use Rattle.nand_model.specs.Path.{Answer, Good, Path, Over, Then, answer_to, either, first_event, result_of}
+use Rattle.nand_model.specs.Path.{Answer, Good, Path, Over, Then, either, first_event, result_of}
 use Rattle.nand_model.specs.Table.{has_tables}
 use Rattle.nand_model.specs.declared.geometry.Geometry.{Geometry}
 use Rattle.nand_model.specs.declared.words.Fairness.{Fairness}
@@ -10,7 +10,7 @@ use Rattle.nand_model.specs.declared.words.Which.{Which}
 use Rattle.chip_paths.specs.ChipRun.{ends_well}
 use Rattle.chip_paths.specs.Operation.{Finished, Known, after_marker_alone, after_writing, answer, mark_reply, mark_writing, with_mark, write_tables, writing_reply}
 use Rattle.chip_paths.specs.Stage.{path_after}
-use Rattle.chip_paths.specs.Writing.{Places, Writing, after_good, marked, most_events, next_version, next_writing_event, writing_after, writing_of, writing_path, writing_within, writing_step, written_by}
+use Rattle.chip_paths.specs.Writing.{Places, Writing, after_good, marked, most_events, next_version, next_writing_event, writing_after, writing_path, writing_within, writing_step, written_by}
 use Rattle.bbt_flash.specs.Events.{answer_of}
 use Rattle.bbt_flash.specs.Update.{update_sizes, update_writing, writing_left, writing_of_both}
 use Rattle.bbt_flash.proofs.Updating.{over-after, over-event, over-result}

@@ -1,5 +1,5 @@
 -- An attach that is not over.
-use Rattle.std.specs.Prelude.{◌≡◌, ℕ, ◌≤◌, Bool, ◌&&◌, ◌==◌, List, length, Option, IfSome}
+use Rattle.std.specs.Prelude.{◌≡◌, ◌≤◌, Bool, ◌&&◌, ◌==◌, length, Option, IfSome}
 use Rattle.std.proofs.Props.{props}
 use Rattle.nand_model.specs.Chip.{ChipState, Complete, FaultModel, PageEvent, happens}
 use Rattle.nand_model.specs.Counts.{HasRisen}

@@ -271,7 +271,8 @@ pub record WritingAdvances {W : Type 0} (model : FaultModel W) (before after : C
   pub step : new ≡ writing_after before.geometry old (answer_to model before e)
 
 -- once the marker of a block was good or failed, this task is what is left of the mark
-pub record FollowsMarker (old new : Knowledge) (block : ℕ) (image : List ℕ) (marker : Bool) (task : Task) : Type 0 where
+pub record FollowsMarker (old new : Knowledge) (block : ℕ) (image : List ℕ) (marker : Bool) (task : Task)
+    : Type 0 where
   pub left : (outcome : Answer) → outcome ≡ answer_of marker
       → task_left old.geometry new.table (known_with new (table_before new.table task)) task
       ≡ after_marker old.geometry (known_with old old.table) block outcome

@@ -28,7 +28,8 @@ encoded t bytes = flat_map (unit_of t) (pieces_in 1024 bytes)
 
 -- what is read of a step and its stored parity by the nearest code word
 abbrev pub read_of : ℕ → List ℕ → List ℕ → StepRead
-read_of t step stored = read_as (code_1024 t) step stored (nearest (code_1024 t) (received_word (code_1024 t) step stored))
+read_of t step stored =
+    read_as (code_1024 t) step stored (nearest (code_1024 t) (received_word (code_1024 t) step stored))
 
 -- what is read of a unit
 abbrev pub unit_read : ℕ → List ℕ → StepRead

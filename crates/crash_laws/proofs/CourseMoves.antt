@@ -16,7 +16,8 @@ use Rattle.nand_model.specs.declared.words.Note.{Note}
 use Rattle.nand_model.specs.declared.words.Note.TheVariants.{Began, Answered, Attached, Torn}
 use Rattle.nand_model.specs.declared.words.Op.{Op}
 use Rattle.command_model.specs.Boot.{Boot, change_at}
-use Rattle.run_model.specs.Course.{Course, sizes_of, with_flip, with_flips_before, event_done, event_on, event_or_answer, with_answer, finish, chip_step, began, begin_on, begin_at, begin_step, session_step, turn_unless, turn_step, attach_first, attach_step, attach_steps, turns_taken, course_after, start_of_boot, is_idle, unattached, pending_chip, session_run, tear_at, can_begin}
+use Rattle.run_model.specs.Course.{Course, sizes_of, with_flip, with_flips_before, event_done, event_on, event_or_answer, with_answer, finish, chip_step, began, begin_on, begin_at, begin_step, session_step, turn_unless, turn_step, attach_first, attach_step, attach_steps, turns_taken, course_after, start_of_boot, is_idle, unattached, pending_chip, session_run, can_begin}
+use Rattle.nand_model.specs.Cuts.{tear_at}
 use Rattle.command_model.specs.Session.{next_op}
 use Rattle.run_model.specs.History.{notes_of_chip, notes_of_chip_from, is_chip}
 use Rattle.run_model.specs.Run.{is_fair}

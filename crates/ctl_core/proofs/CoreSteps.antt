@@ -10,7 +10,8 @@ use Rattle.nand_model.specs.Chip.{PageEvent}
 use Rattle.chip_paths.specs.Operation.{Known}
 use Rattle.chip_paths.specs.ChipRun.{ChipRun, Pending, next_chip_event}
 use Rattle.nand_model.specs.declared.words.CutAt.{CutAt}
-use Rattle.run_model.specs.Course.{Course, tear_at, attach_step, attach_first, chip_step, event_or_answer, with_answer, course_after, is_idle, unattached}
+use Rattle.run_model.specs.Course.{Course, attach_step, attach_first, chip_step, event_or_answer, with_answer, course_after, is_idle, unattached}
+use Rattle.nand_model.specs.Cuts.{tear_at}
 use Rattle.command_model.specs.Boot.{change_at}
 use Rattle.run_laws.specs.Turns.{busy_turns}
 use Rattle.run_laws.proofs.AttachTurns.{attach_is_step}

@@ -13,7 +13,8 @@ use Rattle.nand_model.specs.Partitions.{Partitions, device_of, chip_of}
 use Rattle.chip_paths.specs.Operation.{Known, Finished}
 use Rattle.chip_paths.specs.ChipRun.{ChipRun, Pending, next_chip_event, advanced, torn_at, attach_notes, notes_of_advance, notes_of_cut, with_pending, with_finished, finished_by}
 use Rattle.command_model.specs.Boot.{Boot, change_at}
-use Rattle.run_model.specs.Course.{Course, session_run, pending_chip, unattached, is_pending_of, began, finish, with_answer, is_free, is_free_at, can_begin, is_idle, tear_at, with_flips_before, event_done, event_on, event_step, event_or_answer, chip_step, begin_on, begin_at, begin_step, session_step, turn_unless, turn_step, attach_first, attach_step}
+use Rattle.run_model.specs.Course.{Course, session_run, pending_chip, unattached, is_pending_of, began, finish, with_answer, is_free, is_free_at, can_begin, is_idle, with_flips_before, event_done, event_on, event_step, event_or_answer, chip_step, begin_on, begin_at, begin_step, session_step, turn_unless, turn_step, attach_first, attach_step}
+use Rattle.nand_model.specs.Cuts.{tear_at}
 use Rattle.command_model.specs.Session.{next_op}
 use Rattle.chip_paths.specs.Stage.{stage_by, failure_told, is_attached}
 use Rattle.run_laws.proofs.Places.{position_none}

@@ -12,7 +12,8 @@ use Rattle.chip_paths.specs.Operation.{Known, Finished}
 use Rattle.nand_model.specs.Partitions.{device_of, chip_of}
 use Rattle.chip_paths.specs.ChipRun.{ChipRun, Pending, next_chip_event, finished_by, answered_by, advanced, torn_at, torn_by, with_flips}
 use Rattle.command_model.specs.Boot.{Boot, change_at}
-use Rattle.run_model.specs.Course.{Course, tear_at, event_done, with_flip, with_flips_before, session_run, pending_chip, unattached, is_idle, with_answer, finish, event_or_answer, chip_step, began, begin_on, begin_at, begin_step, session_step, turn_unless, turn_step}
+use Rattle.run_model.specs.Course.{Course, event_done, with_flip, with_flips_before, session_run, pending_chip, unattached, is_idle, with_answer, finish, event_or_answer, chip_step, began, begin_on, begin_at, begin_step, session_step, turn_unless, turn_step}
+use Rattle.nand_model.specs.Cuts.{tear_at}
 use Rattle.command_model.specs.Session.{next_op}
 use Rattle.run_laws.proofs.Places.{position_none}
 use Rattle.nand_model.specs.Flips.{due_flips}

@@ -16,7 +16,8 @@ use Rattle.nand_model.specs.Partitions.{Partitions, part_of, device_of, chip_of,
 use Rattle.chip_paths.specs.Operation.{Finished}
 use Rattle.chip_paths.specs.ChipRun.{ChipRun, Pending}
 use Rattle.nand_model.specs.declared.words.CutAt.{CutAt}
-use Rattle.run_model.specs.Course.{Course, tear_at, session_run, pending_chip, can_begin, is_free_at, is_free, is_idle}
+use Rattle.run_model.specs.Course.{Course, session_run, pending_chip, can_begin, is_free_at, is_free, is_idle}
+use Rattle.nand_model.specs.Cuts.{tear_at}
 use Rattle.command_model.specs.Session.{SessionRun, next_op, next_op_of, is_finished}
 use Rattle.command_model.specs.Boot.{change_at}
 use Rattle.run_laws.proofs.Courses.{Holds}

@@ -8,8 +8,7 @@ use Rattle.nand_model.specs.declared.tear.Tear.{Tear}
 use Rattle.nand_model.specs.declared.words.CutAt.{CutAt}
 use Rattle.nand_model.specs.declared.words.Flip.{Flip}
 use Rattle.command_model.specs.Boot.{change_at}
-use Rattle.run_model.specs.Course.{tear_at}
-use Rattle.fault_plan.specs.BootFaults.{tear_at as tear_of}
+use Rattle.nand_model.specs.Cuts.{tear_at}
 use Rattle.ctl_core.specs.declared.board.Board.{Board}
 use Rattle.ctl_core.specs.declared.board.Slot.{Slot}
 use Rattle.ctl_core.specs.SlotState.{SlotState, slot_after, notes_after}
@@ -18,13 +17,9 @@ use Rattle.ctl_core.specs.Flips.{slot_flips_before}
 use Rattle.ctl_core.proofs.Places.{mapped_set}
 
 -- the tear that the faults lend is that of the course
-pub lent_tear : (cut : Option CutAt) (n : ℕ) (lent : Option (Bor Tear)) (o : Option Tear) → option_copied lent ≡ tear_of cut n → option_copied lent ≡ o
+pub lent_tear : (cut : Option CutAt) (n : ℕ) (lent : Option (Bor Tear)) (o : Option Tear) → option_copied lent ≡ tear_at cut n → option_copied lent ≡ o
     → tear_at cut n ≡ o
-lent_tear cut n lent o h i = same cut ∙ sym h ∙ i
-  where
-    same : (cut : Option CutAt) → tear_at cut n ≡ tear_of cut n
-    same None = refl
-    same (Some at) = refl
+lent_tear cut n lent o h i = sym h ∙ i
 
 -- the flips that were due are made, and then chip k did its event
 pub did_event : {F C : Type 0} {flash : Ghosts F} (flips : List Flip) (cut : Option CutAt) (k : ℕ) (x : SlotState flash.FaultState) (e : PageEvent)

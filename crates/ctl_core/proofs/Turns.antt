@@ -14,7 +14,8 @@ use Rattle.nand_model.specs.Partitions.{device_of, chip_of}
 use Rattle.chip_paths.specs.ChipRun.{ChipRun, Pending, name_of, next_chip_event}
 use Rattle.chip_core.specs.Torn.{tear_told}
 use Rattle.run_laws.proofs.Sessions.{number_stays}
-use Rattle.run_model.specs.Course.{finish, Course, event_done, tear_at, session_run, pending_chip, unattached, turn_step, attach_step, with_flips_before, sizes_of}
+use Rattle.run_model.specs.Course.{finish, Course, event_done, session_run, pending_chip, unattached, turn_step, attach_step, with_flips_before, sizes_of}
+use Rattle.nand_model.specs.Cuts.{tear_at}
 use Rattle.command_model.specs.Boot.{Boot, change_at, AreAscending}
 use Rattle.command_model.specs.Session.{SessionRun, next_op, next_op_of, with_reply}
 use Rattle.chip_paths.specs.Stage.{Stage, Attaches, Rests, Works, stage_event, failure_told, finished_in}

@@ -4,7 +4,8 @@ use Rattle.nand_iface.specs.declared.flash.Flash.{Ghosts}
 use Rattle.nand_model.specs.Chip.{PageEvent}
 use Rattle.nand_model.specs.declared.words.Flip.{Flip}
 use Rattle.nand_model.specs.declared.words.CutAt.{CutAt}
-use Rattle.run_model.specs.Course.{Course, unattached, course_after, tear_at}
+use Rattle.run_model.specs.Course.{Course, unattached, course_after}
+use Rattle.nand_model.specs.Cuts.{tear_at}
 use Rattle.command_model.specs.Boot.{change_at}
 use Rattle.run_laws.specs.Turns.{busy_turns}
 use Rattle.chip_core.specs.Chip.{chip_state, chip_stage, chip_page_room, chip_bits, chip_pending_note}

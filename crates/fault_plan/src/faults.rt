@@ -1,7 +1,7 @@
 // The flips and the cut of a controller in a boot.
 ghost use Rattle.std.specs.Prelude.{◌≡◌, ◌++◌, ◌∷◌, [], ◌<◌, ◌≤◌, length, slice_get, option_copied, OnOk, OnErr, IfSome, None};
 ghost use Rattle.fault_plan.specs.Due.{first_due};
-ghost use Rattle.fault_plan.specs.BootFaults.{tear_at};
+ghost use Rattle.nand_model.specs.Cuts.{tear_at};
 
 use nand_model::{CutAt, Flip, Tear};
 use std::alloc::{AllocError, Global};

@@ -5,6 +5,7 @@ pub mod Seeds
 pub mod Counts
 pub mod Page
 pub mod Chip
+pub mod Cuts
 pub mod Flips
 pub mod Table
 pub mod Path

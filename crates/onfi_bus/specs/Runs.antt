@@ -69,7 +69,8 @@ module _ {W : Type 0} (model : FaultModel W) where
 
   -- these cycles are the first ones of whole phrases, which do these events, give these bytes, and
   -- make of a chip another
-  pub record HaveRun (old new : ChipState W) (cycles : List Cycle) (events : List BusEvent) (bytes : List ℕ) : Type 0 where
+  pub record HaveRun (old new : ChipState W) (cycles : List Cycle) (events : List BusEvent) (bytes : List ℕ)
+      : Type 0 where
     pub list : List Beat
     pub cycles_are : cycles_of list ≡ cycles
     pub legal : IsLegal old.geometry list

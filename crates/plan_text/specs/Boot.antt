@@ -40,7 +40,9 @@ with_parts partitions parts = record partitions { parts = partitions.parts ++ pa
 
 -- each partition of a chip has a block, and all of its blocks are the chip's
 abbrev pub HasPartsWithin : ChipLines → Type 0
-HasPartsWithin chip = All (λ (p : PartLine). LiesWithin chip.geometry.blocks (record { chip = 0; start = p.start; count = p.count })) chip.parts
+HasPartsWithin chip =
+    All (λ (p : PartLine). LiesWithin chip.geometry.blocks (record { chip = 0; start = p.start; count = p.count }))
+    chip.parts
 
 -- the flips of a controller among these lines
 abbrev pub flips_for : ℕ → List FaultLine → List Flip

@@ -71,4 +71,5 @@ pub record IsKept (plan : PlanLines) (commands : List (List (List Command))) : T
 
 -- a chip that can be made: its bad blocks are there, and no two of its weak places are the same
 abbrev pub IsMadeChip : ChipLines → Type 0
-IsMadeChip chip = All (λ block. block < chip.geometry.blocks) (bad_blocks chip) × (are_apart (weak_places chip) ≡ true)
+IsMadeChip chip = All (λ block. block < chip.geometry.blocks) (bad_blocks chip)
+    × (are_apart (weak_places chip) ≡ true)

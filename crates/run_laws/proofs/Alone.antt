@@ -12,7 +12,7 @@ use Rattle.nand_model.specs.Path.{Answer, GoesAlong, answers_of, answer_to, is_f
 use Rattle.nand_model.specs.Partitions.{Partitions, device_of, chip_of}
 use Rattle.chip_paths.specs.ChipRun.{torn_notes}
 use Rattle.command_model.specs.Boot.{Boot}
-use Rattle.run_model.specs.Course.{tear_at}
+use Rattle.nand_model.specs.Cuts.{tear_at}
 use Rattle.run_model.specs.History.{LastChips, events_in, notes_of_event, notes_of_trace, is_chip, note_chip, last_after, notes_of_chip_from}
 use Rattle.run_model.specs.Log.{Log, befalls, torn_by_cut}
 use Rattle.run_model.specs.Laws.{ops_in, replies_in, IsCalm}

@@ -13,7 +13,8 @@ use Rattle.chip_paths.specs.Attach.{attach_path}
 use Rattle.chip_paths.specs.Operation.{Known}
 use Rattle.chip_paths.specs.ChipRun.{ChipRun, Pending, next_event_by}
 use Rattle.command_model.specs.Boot.{Boot}
-use Rattle.run_model.specs.Course.{Course, unattached, tear_at, with_flips_before, event_done, event_on, event_or_answer, chip_step, attach_first, course_after}
+use Rattle.run_model.specs.Course.{Course, unattached, with_flips_before, event_done, event_on, event_or_answer, chip_step, attach_first, course_after}
+use Rattle.nand_model.specs.Cuts.{tear_at}
 use Rattle.run_model.specs.History.{notes_of_chip, events_in}
 use Rattle.run_laws.specs.Turns.{AttachIsStep}
 use Rattle.run_laws.proofs.Traces.{geometry_after}

@@ -16,7 +16,8 @@ use Rattle.chip_paths.specs.Operation.{Known}
 use Rattle.nand_model.specs.Quiet.{is_quiet, fairness_of}
 use Rattle.chip_paths.specs.ChipRun.{ChipRun, name_of, Pending, next_event_by, next_chip_event, pending_after, known_once_over, attach_notes_of, answered_by, torn_by, attach_notes_by, advanced, torn_at}
 use Rattle.command_model.specs.Boot.{Boot, change_at}
-use Rattle.run_model.specs.Course.{Course, with_flips_before, tear_at, event_done, event_on, sizes_of}
+use Rattle.run_model.specs.Course.{Course, with_flips_before, event_done, event_on, sizes_of}
+use Rattle.nand_model.specs.Cuts.{tear_at}
 use Rattle.command_model.specs.Session.{SessionRun, exchanges_of}
 use Rattle.run_model.specs.History.{LastChips, AreOfChips, notes_of_chip, notes_of_event, events_in}
 use Rattle.run_model.specs.Log.{Log, due_events, torn_by_cut, befalls}

@@ -4,7 +4,7 @@ use Rattle.std.specs.Prelude.{if◌then◌else◌, ◌==◌}
 use Rattle.std.proofs.lemmas.Bool.{eq-eqb, ne_eqb}
 use Rattle.nand_model.specs.Chip.{ChipEvent, PageEvent}
 use Rattle.command_model.specs.Boot.{Boot}
-use Rattle.run_model.specs.Course.{tear_at}
+use Rattle.nand_model.specs.Cuts.{tear_at}
 use Rattle.run_model.specs.Log.{Log, due_events, torn_by_cut, befalls}
 
 -- the event itself, on its own chip

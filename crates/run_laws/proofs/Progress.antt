@@ -17,7 +17,8 @@ use Rattle.nand_model.specs.Partitions.{device_of, chip_of, command_device}
 use Rattle.chip_paths.specs.ChipRun.{ChipRun, Pending, finished_by, next_chip_event}
 use Rattle.command_model.specs.Command.{Script, End, Ask, Next, Do, Over, after_replies, next_in, next_step, script_of}
 use Rattle.command_model.specs.Boot.{Boot}
-use Rattle.run_model.specs.Course.{Course, session_run, finish, with_answer, tear_at, with_flips_before, event_done, event_on, event_or_answer, chip_step, began, begin_on, begin_at, begin_step, session_step, turn_unless, turn_step, attach_first, attach_step, attach_steps, course_after, start_of_boot, sizes_of, is_idle, is_free, is_free_at, can_begin, unattached, pending_chip, is_pending_of}
+use Rattle.run_model.specs.Course.{Course, session_run, finish, with_answer, with_flips_before, event_done, event_on, event_or_answer, chip_step, began, begin_on, begin_at, begin_step, session_step, turn_unless, turn_step, attach_first, attach_step, attach_steps, course_after, start_of_boot, sizes_of, is_idle, is_free, is_free_at, can_begin, unattached, pending_chip, is_pending_of}
+use Rattle.nand_model.specs.Cuts.{tear_at}
 use Rattle.command_model.specs.Session.{SessionRun, without_finished, with_reply, replied, next_op_of, op_of_next, next_op, is_finished}
 use Rattle.run_model.specs.History.{notes_of_chip, IsThere}
 use Rattle.run_model.specs.Run.{HaveOneNumberEach}

@@ -13,7 +13,8 @@ use Rattle.chip_paths.specs.Operation.{Known, Finished}
 use Rattle.nand_model.specs.Partitions.{device_of, chip_of}
 use Rattle.chip_paths.specs.ChipRun.{ChipRun, Pending, next_event_by, next_chip_event, finished_by}
 use Rattle.command_model.specs.Boot.{Boot}
-use Rattle.run_model.specs.Course.{Course, can_begin, is_free_at, is_free, is_idle, is_pending_of, pending_chip, unattached, began, session_run, tear_at, with_flips_before, with_answer, finish, event_done, event_on, event_or_answer, chip_step, begin_on, begin_at, begin_step, session_step, turn_unless, turn_step, sizes_of}
+use Rattle.run_model.specs.Course.{Course, can_begin, is_free_at, is_free, is_idle, is_pending_of, pending_chip, unattached, began, session_run, with_flips_before, with_answer, finish, event_done, event_on, event_or_answer, chip_step, begin_on, begin_at, begin_step, session_step, turn_unless, turn_step, sizes_of}
+use Rattle.nand_model.specs.Cuts.{tear_at}
 use Rattle.command_model.specs.Session.{next_op}
 use Rattle.run_laws.specs.Turns.{IsStep, Begins, DoesEvent, Answers, TurnIsStep, busy_turns, BusyTurnsSuffice}
 use Rattle.run_laws.proofs.Paths.{result_by}

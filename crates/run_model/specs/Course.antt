@@ -12,7 +12,7 @@ use Rattle.nand_model.specs.Flips.{due_flips}
 use Rattle.nand_model.specs.Chip.{FaultModel, PageEvent, done_bits, ChipState}
 use Rattle.nand_model.specs.declared.words.Note.{Note}
 use Rattle.nand_model.specs.declared.tear.Tear.{Tear}
-use Rattle.nand_model.specs.declared.words.CutAt.{CutAt}
+use Rattle.nand_model.specs.Cuts.{tear_at}
 use Rattle.nand_model.specs.declared.words.Op.{Op}
 use Rattle.nand_model.specs.declared.words.Note.TheVariants.{Began, Answered}
 use Rattle.nand_model.specs.declared.geometry.Geometry.{Geometry}
@@ -26,11 +26,6 @@ pub record Course (W : Type 0) : Type 0 where
   pub events : ℕ
   pub dark : Bool
   pub notes : List Note
-
--- the cut's tear, where the cut names this event
-abbrev pub tear_at : Option CutAt → ℕ → Option Tear
-tear_at None n = None
-tear_at (Some cut) n = if cut.event == n then Some cut.tear else None
 
 -- a session with this number
 abbrev pub session_run : {W : Type 0} → Course W → ℕ → Option SessionRun

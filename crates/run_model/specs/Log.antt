@@ -6,7 +6,8 @@ use Rattle.nand_model.specs.Sizes.{raw_len}
 use Rattle.nand_model.specs.Flips.{due_flips}
 use Rattle.nand_model.specs.Chip.{ChipState, FaultModel, ChipEvent, Complete, PowerCut, Flipped, PageEvent, done_bits, after_trace}
 use Rattle.command_model.specs.Boot.{Boot}
-use Rattle.run_model.specs.Course.{Course, end_states, tear_at}
+use Rattle.run_model.specs.Course.{Course, end_states}
+use Rattle.nand_model.specs.Cuts.{tear_at}
 use Rattle.run_model.specs.History.{ChipBoot, numbered_of, trace_of}
 
 -- a page event and the chip on which it was done. The n-th of a boot has number n

@@ -1,7 +1,7 @@
 -- When a controller can be started.
-use Rattle.std.specs.Prelude.{ℕ, List, All, ◌≡◌, slice_get, Some, ◌≤◌, length, None}
+use Rattle.std.specs.Prelude.{ℕ, List, All, ◌≡◌, slice_get, Some, ◌≤◌, length}
 use Rattle.nand_model.specs.Chip.{ChipState}
-use Rattle.command_model.specs.Boot.{Boot, AreAscending}
+use Rattle.command_model.specs.Boot.{Boot}
 use Rattle.run_model.specs.Course.{sizes_of}
 use Rattle.command_model.specs.Cost.{sessions_cost}
 use Rattle.command_model.specs.Runnable.{Fits}
@@ -19,10 +19,6 @@ boot_cost boot starts = sessions_cost (sizes_of boot starts) boot.sessions
 -- each command of a boot of these chips can be run
 abbrev pub CanRunBoot : {W : Type 0} → Boot → List (ChipState W) → Type 0
 CanRunBoot boot starts = All (λ (s : ℕ × List Command). All (λ c. Fits (sizes_of boot starts c) c) s.1) boot.sessions
-
--- a chip without tables
-abbrev pub IsPlain : {W : Type 0} → ChipState W → Type 0
-IsPlain s = s.geometry.bbt ≡ 0
 
 -- a partition lies on a chip that is there
 abbrev pub IsOnChip : {W : Type 0} → List (ChipState W) → Part → Type 0
@@ -42,16 +38,3 @@ IsOnFlash {W} starts flip = (s : ChipState W) × (slice_get starts flip.chip ≡
 pub record AreFewFlips (flips : List Flip) : Type 0 where
   pub count : length flips ≤ 65536
   pub bits : All (λ (flip : Flip). length flip.bits ≤ 32768) flips
-
--- a controller of chips in these states can be started on its part of a boot
-pub record CanStart {W : Type 0} (boot : Boot) (starts : List (ChipState W)) : Type 0 where
-  pub few : length starts ≤ 8
-  pub plain : All IsPlain starts
-  pub parts : All (IsOnChip starts) boot.partitions.parts
-  pub flips : All (IsOnFlash starts) boot.flips
-  pub few_flips : AreFewFlips boot.flips
-  pub uncut : boot.cut ≡ None
-  pub devices : All (λ (s : ℕ × List Command). All (IsOfDevice boot.partitions) s.1) boot.sessions
-  pub runnable : CanRunBoot boot starts
-  pub ascending : AreAscending boot.sessions
-  pub cheap : boot_cost boot starts ≤ 16777216

@@ -11,7 +11,8 @@ use Rattle.chip_paths.specs.ChipRun.{ChipRun, Pending, finished_by, next_chip_ev
 use Rattle.chip_paths.specs.Operation.{Finished, Known}
 use Rattle.nand_model.specs.Partitions.{device_of, chip_of}
 use Rattle.command_model.specs.Boot.{Boot}
-use Rattle.run_model.specs.Course.{Course, attach_first, attach_step, begin_at, begin_on, begin_step, began, chip_step, event_done, event_on, event_or_answer, finish, is_idle, pending_chip, session_run, session_step, tear_at, turn_step, turn_unless, unattached, with_answer, with_flips_before}
+use Rattle.run_model.specs.Course.{Course, attach_first, attach_step, begin_at, begin_on, begin_step, began, chip_step, event_done, event_on, event_or_answer, finish, is_idle, pending_chip, session_run, session_step, turn_step, turn_unless, unattached, with_answer, with_flips_before}
+use Rattle.nand_model.specs.Cuts.{tear_at}
 use Rattle.command_model.specs.Session.{next_op}
 use Rattle.run_laws.proofs.Places.{position_is}
 

@@ -14,7 +14,8 @@ use Rattle.chip_paths.specs.Attach.{attach_path}
 use Rattle.chip_paths.specs.Operation.{Known}
 use Rattle.chip_paths.specs.ChipRun.{ChipRun, chip_at_start, next_event_by, next_chip_event, answered_by, advanced, with_flips}
 use Rattle.command_model.specs.Boot.{Boot, change_at}
-use Rattle.run_model.specs.Course.{Course, unattached, tear_at, with_flip, with_flips_before, with_answer, event_done, event_on, event_or_answer, chip_step, attach_first, attach_step, attach_steps, start_of_boot, sizes_of, course_after}
+use Rattle.run_model.specs.Course.{Course, unattached, with_flip, with_flips_before, with_answer, event_done, event_on, event_or_answer, chip_step, attach_first, attach_step, attach_steps, start_of_boot, sizes_of, course_after}
+use Rattle.nand_model.specs.Cuts.{tear_at}
 use Rattle.run_laws.proofs.Traces.{geometry_after}
 use Rattle.run_laws.proofs.Places.{change_here, change_elsewhere, position_is}
 use Rattle.run_laws.proofs.Courses.{Rest, rest, rest_of, due_rest}

@@ -9,7 +9,8 @@ use Rattle.nand_model.specs.Chip.{ChipState, FaultModel, PageEvent}
 use Rattle.chip_paths.specs.Operation.{Known}
 use Rattle.chip_paths.specs.ChipRun.{ChipRun, next_chip_event}
 use Rattle.command_model.specs.Boot.{Boot}
-use Rattle.run_model.specs.Course.{Course, unattached, tear_at, with_flips_before, with_answer, event_done, event_on, event_or_answer, chip_step, attach_first, attach_step, attach_steps, turn_step, turns_taken, start_of_boot, is_idle, sizes_of, course_after}
+use Rattle.run_model.specs.Course.{Course, unattached, with_flips_before, with_answer, event_done, event_on, event_or_answer, chip_step, attach_first, attach_step, attach_steps, turn_step, turns_taken, start_of_boot, is_idle, sizes_of, course_after}
+use Rattle.nand_model.specs.Cuts.{tear_at}
 use Rattle.command_model.specs.Session.{SessionRun}
 use Rattle.run_model.specs.Run.{HaveOneNumberEach}
 use Rattle.run_laws.specs.Turns.{IsStep, Begins, DoesEvent, Answers, busy_turns}

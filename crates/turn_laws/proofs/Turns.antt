@@ -14,7 +14,8 @@ use Rattle.chip_paths.specs.Operation.{Known, Finished, operation_path}
 use Rattle.nand_model.specs.Partitions.{device_of, chip_of}
 use Rattle.chip_paths.specs.ChipRun.{ChipRun, Pending, next_event_by, next_chip_event, with_pending, with_finished, with_flips, answered_by, pending_after, advanced}
 use Rattle.command_model.specs.Boot.{Boot}
-use Rattle.run_model.specs.Course.{Course, can_begin, is_free_at, is_free, is_idle, is_pending_of, pending_chip, unattached, began, session_run, tear_at, with_flip, with_flips_before, with_answer, finish, event_done, event_on, event_or_answer, chip_step, begin_on, begin_at, begin_step, session_step, turn_unless, turn_step, sizes_of}
+use Rattle.run_model.specs.Course.{Course, can_begin, is_free_at, is_free, is_idle, is_pending_of, pending_chip, unattached, began, session_run, with_flip, with_flips_before, with_answer, finish, event_done, event_on, event_or_answer, chip_step, begin_on, begin_at, begin_step, session_step, turn_unless, turn_step, sizes_of}
+use Rattle.nand_model.specs.Cuts.{tear_at}
 use Rattle.command_model.specs.Session.{SessionRun, next_op, next_op_of}
 use Rattle.run_model.specs.History.{notes_of_chip, events_in}
 use Rattle.run_model.specs.Run.{HaveOneNumberEach}

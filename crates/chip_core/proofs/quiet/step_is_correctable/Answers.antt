@@ -1,4 +1,4 @@
-use Rattle.std.proofs.Common.{◌≡◌, ◌+◌, ◌-◌, ◌*◌, ◌^◌, ◌≤◌, ◌∙◌, min, arith}
+use Rattle.std.proofs.Common.{◌+◌, ◌-◌, ◌*◌, ◌^◌, ◌∙◌, min, arith}
 use Rattle.nand_model.specs.Flips.{flips_between}
 use Rattle.nand_model.proofs.Bounds.{bounds}
 use Rattle.nand_model.specs.Sizes.{parity_bytes, parity_start}

@@ -1,6 +1,6 @@
-use Rattle.std.proofs.Common.{◌≡◌, ◌≤◌, ◌+◌, ◌%◌, ◌∙◌, [], refl, ap, sym, subst, arith}
+use Rattle.std.proofs.Common.{◌≡◌, ◌∙◌, refl, ap, arith}
 use Rattle.chip_paths.specs.Operation.{Known}
-use Rattle.chip_paths.specs.Writing.{Places, marked, next_version}
+use Rattle.chip_paths.specs.Writing.{marked, next_version}
 use Rattle.bbt_flash.specs.Copies.{places_in}
 use Rattle.bbt_flash.specs.Update.{update_writing, writing_of_both}
 use Rattle.chip_core.specs.Knowledge.{known_with}

@@ -1,6 +1,5 @@
-use Rattle.std.proofs.Common.{◌≡◌, ◌*◌, ◌∙◌, ℕ, List, length, ap, sym, arith}
+use Rattle.std.proofs.Common.{◌≡◌, ◌*◌, ◌∙◌, ℕ, List, length, ap, arith}
 use Rattle.nand_model.specs.Chip.{PageEvent, ProgramEvent}
-use Rattle.nand_model.specs.Page.{marker_image}
 use Rattle.nand_model.specs.declared.geometry.Geometry.{Geometry}
 use Rattle.bbt_flash.proofs.Sizes.{first_page-small, first_page-there}
 use Rattle.chip_core.specs.Task.{marker_event}

@@ -1,5 +1,5 @@
-use Rattle.std.proofs.Common.{◌≡◌, ◌*◌, ◌∙◌, ℕ, List, length, ap, sym, subst, arith}
-use Rattle.nand_model.specs.Chip.{PageEvent, ProgramEvent}
+use Rattle.std.proofs.Common.{◌≡◌, ◌*◌, ◌∙◌, ℕ, List, length, ap, subst, arith}
+use Rattle.nand_model.specs.Chip.{ProgramEvent}
 use Rattle.bbt_flash.proofs.Sizes.{first_page-small, first_page-there}
 use Rattle.chip_core.specs.Torn.{IsTorn}
 use Rattle.chip_core.proofs.Imaging.{refilled}

@@ -1,4 +1,4 @@
-use Rattle.std.proofs.Common.{◌≡◌, ◌<◌, ◌∙◌, ◌/◌, refl, ap, sym, subst}
+use Rattle.std.proofs.Common.{◌<◌, ◌∙◌, ◌/◌, refl, ap, sym, subst}
 use Rattle.nand_model.specs.Sizes.{page_count}
 use Rattle.nand_model.specs.declared.geometry.Geometry.{Geometry}
 use Rattle.nand_iface.proofs.FlashLemmas.{after_trace-geometry}

@@ -1,4 +1,4 @@
-use Rattle.std.proofs.Common.{◌≡◌, ◌∙◌, ap, sym, subst, ◌<◌}
+use Rattle.std.proofs.Common.{◌∙◌, ap}
 use Rattle.nand_model.specs.declared.geometry.Geometry.{Geometry}
 use Rattle.chip_core.proofs.attach_run.AttachRun.into_finding.Goals as goal
 

@@ -1,4 +1,4 @@
-use Rattle.std.proofs.Common.{◌≡◌, ◌<◌, ◌/◌, ◌∙◌, Some, refl, ap, sym, subst}
+use Rattle.std.proofs.Common.{◌<◌, ◌∙◌, sym, subst}
 use Rattle.nand_model.specs.Chip.{EraseEvent, done_bits}
 use Rattle.nand_model.specs.Path.{first_event}
 use Rattle.nand_model.specs.Sizes.{raw_len}

@@ -1,17 +1,16 @@
-use Rattle.std.proofs.Common.{◌≡◌, ◌≤◌, ◌+◌, ◌∙◌, Option, refl, ap, sym, subst, arith}
+use Rattle.std.proofs.Common.{◌≡◌, ◌≤◌, ◌+◌, ◌∙◌, ap, sym, subst, arith}
 use Rattle.std.specs.Prelude.{IsSome, IfSome, is_some}
 use Rattle.std.proofs.lemmas.Option.{IfSome_then}
 use Rattle.nand_model.specs.Chip.{Complete, happens}
 use Rattle.nand_model.specs.Counts.{HasRisen}
 use Rattle.nand_model.specs.Path.{answer_to, first_event, is_failure}
 use Rattle.nand_model.specs.Quiet.{is_quiet}
-use Rattle.nand_model.specs.declared.words.Fairness.{Fairness}
 use Rattle.nand_model.specs.declared.geometry.Geometry.{Geometry}
 use Rattle.chip_paths.specs.Stage.{failure_told, pending_note_after, stage_after}
 use Rattle.bbt_flash.specs.Attach.{attach_left}
-use Rattle.chip_core.specs.Chip.{chip_pending_note, chip_stage, chip_state}
-use Rattle.chip_core.specs.Phase.{AttachGoesOn, PhaseFits, WorkFits, phase_stage, programs_left}
-use Rattle.chip_core.specs.Task.{Advances, TaskFits, programs_of, task_event}
+use Rattle.chip_core.specs.Chip.{chip_pending_note, chip_stage}
+use Rattle.chip_core.specs.Phase.{AttachGoesOn, PhaseFits, WorkFits, programs_left}
+use Rattle.chip_core.specs.Task.{TaskFits, programs_of, task_event}
 use Rattle.chip_core.specs.Sums.{AreSmall, place_of, stats_in}
 use Rattle.chip_core.specs.declared.phase.Phase.{Phase}
 use Rattle.chip_core.specs.declared.phase.Phase.TheVariants.{Working}

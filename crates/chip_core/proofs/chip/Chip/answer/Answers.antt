@@ -1,8 +1,5 @@
 use Rattle.std.proofs.Common.{◌≡◌, ap, sym, subst, refl, ◌∙◌, arith}
-use Rattle.chip_paths.specs.Operation.{Finished}
 use Rattle.chip_paths.specs.Stage.{Rests}
-use Rattle.chip_core.specs.Chip.{chip_stage}
-use Rattle.chip_core.specs.Knowledge.{known_in}
 use Rattle.chip_core.specs.Phase.{KnowsQuiet, PhaseFits, phase_stage, programs_left}
 use Rattle.chip_core.specs.declared.phase.Phase.TheVariants.{Working}
 use Rattle.chip_core.specs.declared.task.Task.TheVariants.{Decoded, Marked, Writing}

@@ -1,16 +1,14 @@
-use Rattle.std.proofs.Common.{◌≡◌, ◌≤◌, ◌+◌, ◌∙◌, Option, Some, None, refl, ap, sym, subst, arith, length}
-use Rattle.std.specs.Prelude.{IsSome, IfSome, is_some, option_map}
-use Rattle.chip_paths.specs.ChipRun.{name_of}
+use Rattle.std.proofs.Common.{◌≡◌, ◌∙◌, Some, refl, ap, sym, subst, arith}
+use Rattle.std.specs.Prelude.{IsSome, is_some}
 use Rattle.chip_paths.specs.Stage.{Rests}
-use Rattle.nand_model.specs.Chip.{ChipState}
 use Rattle.nand_model.specs.Path.{first_event}
 use Rattle.nand_model.specs.declared.geometry.Geometry.{Geometry}
 use Rattle.bbt_flash.specs.Attach.{attach_left}
-use Rattle.chip_core.specs.AttachRun.{AttachAdvances, RunFits, attaching_found}
+use Rattle.chip_core.specs.AttachRun.{RunFits, attaching_found}
 use Rattle.chip_core.specs.Phase.{KnowsQuiet, PhaseFits, pending_note_in, phase_stage, programs_left}
 use Rattle.chip_core.proofs.Answering.{known_found}
 use Rattle.chip_core.proofs.Attaching.{advanced-sizes, comes-to-rest, goes-on}
-use Rattle.chip_core.proofs.Named.{from_some, is_named, is_unnamed}
+use Rattle.chip_core.proofs.Named.{is_named, is_unnamed}
 use Rattle.chip_core.proofs.chip.Chip.attach_on.Goals as goal
 
 pub advance-told-requires-clause-fits : goal.advance-told-requires-clause-fits

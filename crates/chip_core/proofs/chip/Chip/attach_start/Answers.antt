@@ -1,4 +1,4 @@
-use Rattle.std.proofs.Common.{◌∙◌, ℕ, List, length, true, ap, sym, subst}
+use Rattle.std.proofs.Common.{◌∙◌, List, length, true, ap, sym, subst}
 use Rattle.nand_model.specs.Chip.{ChipState}
 use Rattle.nand_model.specs.declared.geometry.Geometry.{Geometry}
 use Rattle.chip_paths.specs.Attach.{attach_path}

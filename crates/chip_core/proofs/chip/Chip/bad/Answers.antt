@@ -1,4 +1,4 @@
-use Rattle.std.proofs.Common.{◌≡◌, ◌∙◌, ap, sym}
+use Rattle.std.proofs.Common.{◌∙◌, ap, sym}
 use Rattle.chip_paths.specs.ChipRun.{bad_blocks_in}
 use Rattle.chip_core.proofs.TableNow.{table-now}
 use Rattle.chip_core.proofs.chip.Chip.bad.Goals as goal

@@ -1,4 +1,4 @@
-use Rattle.std.proofs.Common.{◌≡◌, ◌∙◌, ap, arith}
+use Rattle.std.proofs.Common.{◌∙◌, ap, arith}
 use Rattle.nand_iface.proofs.FlashLemmas.{after_trace-geometry}
 use Rattle.nand_model.specs.Chip.{ChipState, flip_events}
 use Rattle.chip_core.proofs.chip.Chip.flip.Goals as goal

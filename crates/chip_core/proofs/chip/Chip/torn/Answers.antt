@@ -1,24 +1,18 @@
-use Rattle.std.proofs.Common.{◌≡◌, ◌≤◌, ◌+◌, ◌∙◌, refl, ap, sym, subst, arith}
-use Rattle.std.specs.Prelude.{IsSome, IfSome}
+use Rattle.std.proofs.Common.{◌≡◌, ◌≤◌, ◌+◌, ◌∙◌, sym, subst, arith}
 use Rattle.std.proofs.lemmas.Option.{IfSome_then}
-use Rattle.nand_iface.proofs.FlashLemmas.{happens-geometry}
-use Rattle.nand_model.specs.Chip.{ChipState, PowerCut, done_bits}
 use Rattle.nand_model.specs.Path.{first_event}
 use Rattle.nand_model.specs.Quiet.{is_quiet}
-use Rattle.nand_model.specs.Sizes.{raw_len}
 use Rattle.nand_model.specs.declared.geometry.Geometry.{Geometry}
 use Rattle.chip_paths.specs.Stage.{Attaches}
 use Rattle.bbt_flash.specs.Attach.{attach_left}
 use Rattle.chip_core.specs.AttachRun.{RunFits}
-use Rattle.chip_core.specs.Chip.{chip_stage, chip_state}
-use Rattle.chip_core.specs.Phase.{AttachFits, PhaseFits, WorkFits, phase_stage, programs_left}
-use Rattle.chip_core.specs.Task.{TaskFits, task_event}
-use Rattle.chip_core.specs.Torn.{IsTorn, stage_torn, state_torn, tear_told}
+use Rattle.chip_core.specs.Phase.{PhaseFits, WorkFits, phase_stage, programs_left}
+use Rattle.chip_core.specs.Task.{task_event}
+use Rattle.chip_core.specs.Torn.{stage_torn, state_torn, tear_told}
 use Rattle.chip_core.specs.declared.phase.Phase.{Phase}
 use Rattle.chip_core.specs.declared.phase.Phase.TheVariants.{Attaching, Working}
 use Rattle.chip_core.proofs.Advancing.{attach_fits, attach_has_event, attach_watches, of_attach, working_has_event}
 use Rattle.chip_core.proofs.Attaching.{quiet-seen}
-use Rattle.chip_core.proofs.Named.{from_some}
 use Rattle.chip_core.proofs.Tearing.{of_work, torn-sizes, work-stays}
 use Rattle.chip_core.proofs.chip.Chip.torn.Goals as goal
 

@@ -1,4 +1,4 @@
-use Rattle.std.proofs.Common.{◌≡◌, ◌∙◌, ap}
+use Rattle.std.proofs.Common.{◌∙◌, ap}
 use Rattle.nand_model.specs.Chip.{ChipState, EraseEvent}
 use Rattle.nand_model.specs.Quiet.{fairness_if, fairness_of, is_table_block}
 use Rattle.nand_model.specs.Sizes.{first_page}

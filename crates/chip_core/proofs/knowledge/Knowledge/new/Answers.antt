@@ -1,5 +1,4 @@
-use Rattle.std.proofs.Common.{◌<◌, length, ap, ◌∙◌, arith}
-use Rattle.std.proofs.lemmas.List.{length-replicate}
+use Rattle.std.proofs.Common.{arith}
 use Rattle.nand_model.proofs.Bounds.{bounds}
 use Rattle.chip_core.proofs.knowledge.Knowledge.new.Goals as goal
 

@@ -1,4 +1,4 @@
-use Rattle.std.proofs.Common.{◌≡◌, ◌∙◌, ap}
+use Rattle.std.proofs.Common.{◌∙◌, ap}
 use Rattle.chip_paths.specs.Operation.{mark_reply, writing_reply}
 use Rattle.bbt_flash.specs.Events.{answer_of}
 use Rattle.chip_core.specs.Sums.{stats_in}

@@ -1,4 +1,4 @@
-use Rattle.std.proofs.Common.{◌≡◌, ◌≤◌, ◌+◌, ◌∙◌, Some, refl, ap, sym, arith}
+use Rattle.std.proofs.Common.{◌∙◌, Some, refl, ap, sym, arith}
 use Rattle.chip_paths.specs.Stage.{path_after}
 use Rattle.chip_paths.specs.Writing.{next_writing_event, writing_after}
 use Rattle.nand_model.specs.Chip.{EraseEvent}

@@ -1,5 +1,4 @@
-use Rattle.std.proofs.Common.{◌≡◌, ◌≤◌, ◌+◌, ◌-◌, ◌∙◌, ℕ, List, length, Option, Some, ap, sym, arith}
-use Rattle.std.specs.Prelude.{IfSome}
+use Rattle.std.proofs.Common.{◌≡◌, ◌-◌, ◌∙◌, ℕ, List, length, Some, ap, sym, arith}
 use Rattle.chip_paths.specs.Stage.{path_after}
 use Rattle.chip_paths.specs.Writing.{next_writing_event, writing_after}
 use Rattle.nand_model.specs.Chip.{PageEvent, ProgramEvent}

@@ -1,4 +1,4 @@
-use Rattle.std.proofs.Common.{◌≡◌, ◌∙◌, ℕ, List, length, Some, ap, sym}
+use Rattle.std.proofs.Common.{◌≡◌, ◌∙◌, Some, ap, sym}
 use Rattle.std.specs.Prelude.{option_map}
 use Rattle.chip_paths.specs.ChipRun.{name_of}
 use Rattle.chip_paths.specs.Writing.{next_writing_event}

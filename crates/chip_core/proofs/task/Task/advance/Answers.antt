@@ -1,4 +1,4 @@
-use Rattle.std.proofs.Common.{◌≡◌, ◌∙◌, ℕ, List, ap, sym, subst}
+use Rattle.std.proofs.Common.{ap, subst}
 use Rattle.std.specs.Prelude.{IfSome}
 use Rattle.chip_paths.specs.Writing.{next_writing_event}
 use Rattle.nand_model.specs.declared.geometry.Geometry.{Geometry}

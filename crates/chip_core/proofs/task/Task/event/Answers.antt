@@ -1,4 +1,4 @@
-use Rattle.std.proofs.Common.{◌≡◌, ◌∙◌, arith, ap, sym, subst, option_map}
+use Rattle.std.proofs.Common.{◌∙◌, arith, ap, sym, subst, option_map}
 use Rattle.chip_paths.specs.ChipRun.{name_of}
 use Rattle.chip_paths.specs.Writing.{next_writing_event}
 use Rattle.nand_model.specs.declared.geometry.Geometry.{Geometry}
