@@ -1,7 +1,6 @@
 // The replay of a plan, added up.
-ghost use Rattle.std.specs.Prelude.{◌≡◌, true, IfOk};
+ghost use Rattle.std.specs.Prelude.{IfOk};
 ghost use Rattle.plan_grammar.specs.Meaning.{plan_of};
-ghost use Rattle.plan_replay.specs.Built.{is_built};
 ghost use Rattle.made_replay.specs.AddedUp.{AreTotalsOf};
 
 use crate::boot::add_boot;
@@ -23,7 +22,6 @@ pub struct Totals {
 /// one before it left, by the boot's schedule and then rounds of all its sessions. Gives what the
 /// answers add up to, and the bad blocks after the last boot. No text of a report is made.
 pub fn replay_totals(alloc: Global, plan: &Plan) -> Result<Totals, AllocError>
-    requires { is_built (plan_of plan.now) ≡ true }
     ensures { IfOk result (AreTotalsOf (plan_of plan.now)) }
 {
     let mut totals = Totals {

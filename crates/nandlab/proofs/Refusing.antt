@@ -1,44 +1,37 @@
 -- A request is served for bytes, or refused, and never both.
-use Rattle.std.proofs.Common.{◌≡◌, ◌∙◌, ◌<◌, ◌+◌, ◌++◌, ◌⊎◌, inl, inr, ℕ, arith, true, List, [], ◌∷◌, length, Option, Some, refl, ap, sym, subst, codes}
+use Rattle.std.proofs.Common.{◌≡◌, ◌∙◌, ◌<◌, ◌+◌, ◌++◌, ℕ, arith, List, [], ◌∷◌, length, Option, Some, refl, ap, sym, subst, codes}
 use Rattle.std.specs.Prelude.{decimal}
 use Rattle.std.proofs.lemmas.Fmt.{decimal_digit}
-use Rattle.std.proofs.lemmas.Bool.{both_ways}
 use Rattle.report_model.specs.Report.{line}
 use Rattle.plan_grammar.specs.Grammar.{TooLong}
 use Rattle.plan_grammar.specs.Limits.{most_bytes}
-use Rattle.plan_grammar.specs.Meaning.{plan_of}
 use Rattle.plan_grammar.specs.declared.kind.PlanKind.TheVariants.{TooLong as TooManyBytes}
 use Rattle.plan_grammar.specs.declared.lines.PlanLines.{PlanLines}
-use Rattle.plan_grammar.proofs.OneReading.{never_both, one_plan}
-use Rattle.plan_replay.specs.Built.{is_built}
-use Rattle.made_replay.specs.Summary.{plan_of_number}
+use Rattle.plan_grammar.proofs.OneReading.{never_both}
 use Rattle.nandlab.specs.Words.{most_read}
-use Rattle.nandlab.specs.Answer.{Answers, CanBeRun, IsNoPlan, IsRefusalOf, IsTaken, IsUnbuilt, Serves}
+use Rattle.nandlab.specs.Answer.{Answers, AreSomePlan, IsNoPlan, IsRefusalOf, IsTaken, Serves}
 use Rattle.nandlab.specs.Refusal.{refusal_line}
 use Rattle.nandlab.specs.declared.request.Request.{Request}
 use Rattle.nandlab.specs.declared.request.Request.TheVariants.{Check, Replay, Run, Make}
 use Rattle.nandlab.specs.declared.status.Status.{Status}
 use Rattle.nandlab.specs.declared.status.Status.TheVariants.{Fine, Usage, PlanRefused, ReadFault, WriteFault, Memory}
 
--- what can be run is not refused
-run_or_not : (bytes text : List ℕ) → CanBeRun bytes → IsNoPlan bytes text ⊎ IsUnbuilt bytes text → ⊥
-run_or_not bytes text (plan, form, built) (inl (at, kind, refused, same)) = never_both bytes plan at kind form refused
-run_or_not bytes text (plan, form, built) (inr (other, other_form, not, same)) =
-    both_ways (is_built (plan_of other)) not
-    (subst (λ (p : PlanLines). is_built (plan_of p) ≡ true) (one_plan bytes plan other form other_form) built)
+-- what is a plan is not refused
+plan_or_not : (bytes text : List ℕ) → AreSomePlan bytes → IsNoPlan bytes text → ⊥
+plan_or_not bytes text (plan, form) (at, kind, refused, same) = never_both bytes plan at kind form refused
 
 pub taken_or_refused : (request : Request) (bytes text : List ℕ) → IsTaken request bytes → IsRefusalOf request bytes text → ⊥
-taken_or_refused Check bytes text (plan, form) (at, kind, refused, same) = never_both bytes plan at kind form refused
-taken_or_refused Replay bytes text taken refused = run_or_not bytes text taken refused
-taken_or_refused Run bytes text taken refused = run_or_not bytes text taken refused
-taken_or_refused (Make n) bytes text taken (not, same) = both_ways (is_built (plan_of_number n)) not taken
+taken_or_refused Check bytes text taken refused = plan_or_not bytes text taken refused
+taken_or_refused Replay bytes text taken refused = plan_or_not bytes text taken refused
+taken_or_refused Run bytes text taken refused = plan_or_not bytes text taken refused
+taken_or_refused (Make n) bytes text taken refused = refused
 
 -- what is served is taken
 pub served_is_taken : (request : Request) (bytes text : List ℕ) → Serves request bytes text → IsTaken request bytes
 served_is_taken Check bytes text (plan, form, same) = (plan, form)
-served_is_taken Replay bytes text (plan, form, built, report) = (plan, form, built)
-served_is_taken Run bytes text (plan, form, built, report) = (plan, form, built)
-served_is_taken (Make n) bytes text (built, summary) = built
+served_is_taken Replay bytes text (plan, form, report) = (plan, form)
+served_is_taken Run bytes text (plan, form, report) = (plan, form)
+served_is_taken (Make n) bytes text summary = tt
 
 -- what is answered to bytes that are taken, and to bytes that are refused
 pub answer_is_fine : (request : Request) (bytes : List ℕ) (status : Status) (text : List ℕ) → IsTaken request bytes
@@ -88,8 +81,8 @@ long_plan bytes most same long =
 pub long_is_refused : (request : Request) (bytes : List ℕ) (most : ℕ) → most_read request ≡ Some most → most < length bytes
     → IsRefusalOf request bytes too_long_line
 long_is_refused Check bytes most same long = long_plan bytes most same long
-long_is_refused Replay bytes most same long = inl (long_plan bytes most same long)
-long_is_refused Run bytes most same long = inl (long_plan bytes most same long)
+long_is_refused Replay bytes most same long = long_plan bytes most same long
+long_is_refused Run bytes most same long = long_plan bytes most same long
 long_is_refused (Make n) bytes most same long = absurd (cc same)
 
 -- words ask for one thing

@@ -1,5 +1,5 @@
 -- What a call writes, by its words and the bytes that it is given.
-use Rattle.std.specs.Prelude.{◌≡◌, ◌⊎◌, ℕ, true, false, List, ◌++◌, take, Option, Some, None}
+use Rattle.std.specs.Prelude.{◌≡◌, ℕ, List, ◌++◌, take, Option, Some, None, ⊤}
 use Rattle.nand_model.specs.Counts.{HasRisen}
 use Rattle.headline_model.specs.Headline.{IsReplayOf}
 use Rattle.plan_grammar.specs.Grammar.{IsPlan, IsRefused}
@@ -7,53 +7,46 @@ use Rattle.plan_grammar.specs.Canonical.{canonical_text}
 use Rattle.plan_grammar.specs.Meaning.{plan_of}
 use Rattle.plan_grammar.specs.declared.kind.PlanKind.{PlanKind}
 use Rattle.plan_grammar.specs.declared.lines.PlanLines.{PlanLines}
-use Rattle.plan_replay.specs.Built.{is_built}
-use Rattle.made_replay.specs.Summary.{IsSummaryOf, plan_of_number}
+use Rattle.made_replay.specs.Summary.{IsSummaryOf}
 use Rattle.nandlab.specs.Words.{Words, request_of}
-use Rattle.nandlab.specs.Refusal.{not_built_line, refusal_line, usage_line}
+use Rattle.nandlab.specs.Refusal.{refusal_line, usage_line}
 use Rattle.nandlab.specs.declared.request.Request.{Request}
 use Rattle.nandlab.specs.declared.request.Request.TheVariants.{Check, Replay, Run, Make}
 use Rattle.nandlab.specs.declared.status.Status.{Status}
 use Rattle.nandlab.specs.declared.status.Status.TheVariants.{Fine, Usage, PlanRefused, ReadFault, WriteFault, Memory}
 
--- the bytes are a plan that can be run
-abbrev pub CanBeRun : List ℕ → Type 0
-CanBeRun bytes = (plan : PlanLines) × IsPlan bytes plan × (is_built (plan_of plan) ≡ true)
+-- the bytes are a plan
+abbrev pub AreSomePlan : List ℕ → Type 0
+AreSomePlan bytes = (plan : PlanLines) × IsPlan bytes plan
 
--- the bytes are such a plan, and the text is the report of its replay
+-- they are, and the text is the report of its replay
 abbrev pub IsReportFor : List ℕ → List ℕ → Type 0
-IsReportFor bytes text =
-    (plan : PlanLines) × IsPlan bytes plan × (is_built (plan_of plan) ≡ true) × IsReplayOf (plan_of plan) text
+IsReportFor bytes text = (plan : PlanLines) × IsPlan bytes plan × IsReplayOf (plan_of plan) text
 
 -- the bytes are no plan, and the text says by which line and which kind
 abbrev pub IsNoPlan : List ℕ → List ℕ → Type 0
 IsNoPlan bytes text = (at : ℕ) × (kind : PlanKind) × IsRefused bytes at kind × (text ≡ refusal_line at kind)
 
--- the bytes are a plan that cannot be run yet, and the text says so
-abbrev pub IsUnbuilt : List ℕ → List ℕ → Type 0
-IsUnbuilt bytes text =
-    (plan : PlanLines) × IsPlan bytes plan × (is_built (plan_of plan) ≡ false) × (text ≡ not_built_line)
-
 -- the bytes are taken for the request; of those that it reads none for, any are
 abbrev pub IsTaken : Request → List ℕ → Type 0
-IsTaken Check bytes = (plan : PlanLines) × IsPlan bytes plan
-IsTaken Replay bytes = CanBeRun bytes
-IsTaken Run bytes = CanBeRun bytes
-IsTaken (Make n) bytes = is_built (plan_of_number n) ≡ true
+IsTaken Check bytes = AreSomePlan bytes
+IsTaken Replay bytes = AreSomePlan bytes
+IsTaken Run bytes = AreSomePlan bytes
+IsTaken (Make n) bytes = ⊤
 
 -- they are taken, and the text is what the request writes of them
 abbrev pub Serves : Request → List ℕ → List ℕ → Type 0
 Serves Check bytes text = (plan : PlanLines) × IsPlan bytes plan × (text ≡ canonical_text plan)
 Serves Replay bytes text = IsReportFor bytes text
 Serves Run bytes text = IsReportFor bytes text
-Serves (Make n) bytes text = (is_built (plan_of_number n) ≡ true) × IsSummaryOf n text
+Serves (Make n) bytes text = IsSummaryOf n text
 
 -- they are refused, and the text says why
 abbrev pub IsRefusalOf : Request → List ℕ → List ℕ → Type 0
 IsRefusalOf Check bytes text = IsNoPlan bytes text
-IsRefusalOf Replay bytes text = IsNoPlan bytes text ⊎ IsUnbuilt bytes text
-IsRefusalOf Run bytes text = IsNoPlan bytes text ⊎ IsUnbuilt bytes text
-IsRefusalOf (Make n) bytes text = (is_built (plan_of_number n) ≡ false) × (text ≡ not_built_line)
+IsRefusalOf Replay bytes text = IsNoPlan bytes text
+IsRefusalOf Run bytes text = IsNoPlan bytes text
+IsRefusalOf (Make n) bytes text = ⊥
 
 -- what is written for a request that is given these bytes
 abbrev pub Answers : Request → List ℕ → Status → List ℕ → Type 0

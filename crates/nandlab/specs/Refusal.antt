@@ -34,10 +34,6 @@ kind_name TooLong = codes "TooLong"
 abbrev pub refusal_line : ℕ → PlanKind → List ℕ
 refusal_line at kind = line (codes "line " ++ decimal at ++ codes ": " ++ kind_name kind)
 
--- what is written for what is not built yet
-abbrev pub not_built_line : List ℕ
-not_built_line = line (codes "line 0: NotBuilt")
-
 -- a fact about the text of a refusal, where it is not one of memory
 abbrev pub IfText : Refusal → (List ℕ → Type 0) → Type 0
 IfText (Text text) P = P text

@@ -1,21 +1,19 @@
 // What is written for a request to the bytes that it is given.
-ghost use Rattle.std.specs.Prelude.{◌≡◌, true, false, IfOk, IfErr};
+ghost use Rattle.std.specs.Prelude.{◌≡◌, IfOk, IfErr};
 ghost use Rattle.headline_model.specs.Headline.{IsReplayOf};
 ghost use Rattle.plan_grammar.specs.Canonical.{canonical_text};
 ghost use Rattle.plan_grammar.specs.Grammar.{IsPlan};
 ghost use Rattle.plan_grammar.specs.Meaning.{plan_of};
-ghost use Rattle.plan_replay.specs.Built.{is_built};
-ghost use Rattle.made_replay.specs.Summary.{IsSummaryOf, plan_of_number};
 ghost use Rattle.nandlab.specs.Answer.{Answers, IsNoPlan, IsRefusalOf, Serves};
-ghost use Rattle.nandlab.specs.Refusal.{IfText, not_built_line, refusal_line};
+ghost use Rattle.nandlab.specs.Refusal.{IfText, refusal_line};
 ghost use Rattle.nandlab.specs.declared.refusal.Refusal.TheVariants.{Memory};
 
-use crate::refusal::{NOT_BUILT, Refusal, kind_name};
+use crate::refusal::{Refusal, kind_name};
 use crate::request::Request;
 use crate::status::Status;
 use made_replay::made_summary;
 use nand_model::Bytes;
-use plan_replay::{can_be_run, replay_report};
+use plan_replay::replay_report;
 use plan_text::{Plan, PlanError, PlanKind, put_plan, read_plan};
 use std::alloc::{AllocError, Global};
 
@@ -33,16 +31,6 @@ fn refusal_text(alloc: Global, line: u32, kind: PlanKind) -> Result<Bytes, Alloc
     let name = kind_name(kind);
     let text = format!(in alloc; "line {line}: {name}\n")?;
     Bytes::from_slice(alloc, text.as_bytes())
-}
-
-// The line that refuses what is not built.
-fn not_built(alloc: Global) -> Refusal
-    ensures { IfText result (λ text. text ≡ not_built_line) }
-{
-    match Bytes::from_slice(alloc, NOT_BUILT) {
-        Ok(text) => Refusal::Text(text),
-        Err(_) => Refusal::Memory,
-    }
 }
 
 // The plan that the bytes are.
@@ -79,22 +67,7 @@ fn replayed(alloc: Global, bytes: &[u8]) -> Result<Bytes, Refusal>
         (IsRefusalOf Request.Replay bytes.now)) }
 {
     let plan = plan_read(alloc, bytes)?;
-    if !can_be_run(&plan) {
-        return Err(not_built(alloc));
-    }
     Ok(replay_report(alloc, &plan)?)
-}
-
-// What `make` writes: the summary of the replay of the plan of a number.
-fn summed_up(alloc: Global, n: u64) -> Result<Bytes, Refusal>
-    ensures text { IfOk result (λ text. (is_built (plan_of_number n) ≡ true) × IsSummaryOf n text) }
-    ensures refused { IfErr result (λ refusal. IfText refusal
-        (λ text. (is_built (plan_of_number n) ≡ false) × (text ≡ not_built_line))) }
-{
-    match made_summary(alloc, n)? {
-        Some(text) => Ok(text),
-        None => Err(not_built(alloc)),
-    }
 }
 
 // What a request writes of the bytes that it is given.
@@ -105,7 +78,7 @@ fn served(alloc: Global, request: Request, bytes: &[u8]) -> Result<Bytes, Refusa
     match request {
         Request::Check => checked(alloc, bytes),
         Request::Replay | Request::Run => replayed(alloc, bytes),
-        Request::Make(n) => summed_up(alloc, n),
+        Request::Make(n) => Ok(made_summary(alloc, n)?),
     }
 }
 

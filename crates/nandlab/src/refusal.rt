@@ -30,9 +30,6 @@ pub const USAGE: &[u8] = b"usage: nandlab check or replay or run or make N\n";
 /// What is written for more bytes than a request may be given.
 pub const TOO_LONG: &[u8] = b"line 0: TooLong\n";
 
-/// What is written for what is not built yet.
-pub const NOT_BUILT: &[u8] = b"line 0: NotBuilt\n";
-
 /// The name of a kind.
 pub fn kind_name(kind: PlanKind) -> &'static str
     ensures { result.now ≡ kind_name kind }

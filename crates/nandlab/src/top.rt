@@ -60,8 +60,7 @@ fn given<S: Source>(alloc: Global, request: Request, source: &mut S) -> Result<B
 ///
 /// Bytes that are no plan are refused with `line L: KIND`: the first line that breaks a rule, and
 /// the first rule that it breaks; `line 0: TooLong` comes as soon as more than 16,777,216 bytes have
-/// come. A plan that cannot be run yet is refused with `line 0: NotBuilt` by `replay`, `run` and
-/// `make`. Other words get the usage line, and nothing is read. It waits for nobody.
+/// come. Other words get the usage line, and nothing is read. It waits for nobody.
 pub fn serial_top<S: Source, K: Sink>(
     alloc: Global,
     words: &Vec<String>,

@@ -1,4 +1,3 @@
-mod Runnable
 mod Own
 mod Starts
 mod Ended

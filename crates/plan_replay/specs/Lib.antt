@@ -1,3 +1,2 @@
-pub mod Built
 pub mod Ends
 pub mod Boots

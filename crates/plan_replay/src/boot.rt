@@ -1,8 +1,7 @@
 // A boot of all controllers.
-ghost use Rattle.std.specs.Prelude.{◌≡◌, ◌<◌, true, length, map, IfOk};
+ghost use Rattle.std.specs.Prelude.{◌≡◌, ◌<◌, length, map, IfOk};
 ghost use Rattle.chip_sim.specs.State.{sim_state};
 ghost use Rattle.plan_grammar.specs.Meaning.{plan_of};
-ghost use Rattle.plan_replay.specs.Built.{is_built};
 ghost use Rattle.plan_replay.specs.Boots.{AllHaveSizes, EndBoot, GoThroughBoot, states_left};
 
 use crate::controller::{EndedController, run_controller};
@@ -27,7 +26,6 @@ fn run_controllers(
     flashes: Flashes,
 ) -> Result<ItemList<EndedController>, AllocError>
     requires boots { boot < length (plan_of plan.now).boots }
-    requires built { is_built (plan_of plan.now) ≡ true }
     requires sizes { AllHaveSizes (plan_of plan.now) (map (map sim_state) flashes) }
     ensures { IfOk result (λ ends. GoThroughBoot (plan_of plan.now) boot
         (map (map sim_state) flashes) ends out.old out.new) }
@@ -64,7 +62,6 @@ pub fn run_boot(
     flashes: Flashes,
 ) -> Result<Flashes, AllocError>
     requires boots { boot < length (plan_of plan.now).boots }
-    requires built { is_built (plan_of plan.now) ≡ true }
     requires sizes { AllHaveSizes (plan_of plan.now) (map (map sim_state) flashes) }
     ensures { IfOk result (λ left. EndBoot (plan_of plan.now) boot (map (map sim_state) flashes)
         (map (map sim_state) left) out.old out.new) }

@@ -1,12 +1,11 @@
 // A controller that goes through a boot.
-ghost use Rattle.std.specs.Prelude.{◌≡◌, ◌<◌, ◌++◌, true, length, map, IfOk};
+ghost use Rattle.std.specs.Prelude.{◌≡◌, ◌<◌, ◌++◌, length, map, IfOk};
 ghost use Rattle.nand_model.specs.Chip.{SimFaults};
 ghost use Rattle.run_model.specs.Course.{Course};
 ghost use Rattle.chip_sim.specs.State.{sim_state};
 ghost use Rattle.plan_grammar.specs.Meaning.{plan_of};
 ghost use Rattle.plan_laws.specs.Ready.{HaveSizes, boot_at, chips_at, part_at};
 ghost use Rattle.headline_laws.specs.Replays.{own_schedule};
-ghost use Rattle.plan_replay.specs.Built.{is_built};
 ghost use Rattle.plan_replay.specs.Ends.{notes_text};
 ghost use Rattle.plan_replay.specs.Boots.{EndsReplay, EndsBoot, notes_of};
 
@@ -49,7 +48,6 @@ fn replayed(
 ) -> Result<Ended<SimChip>, AllocError>
     requires boots { boot < length (plan_of plan.now).boots }
     requires controllers { controller < length (plan_of plan.now).controllers }
-    requires built { is_built (plan_of plan.now) ≡ true }
     requires sizes { HaveSizes (chips_at (plan_of plan.now) controller) (map sim_state flashes) }
     ensures { IfOk result (λ ended. EndsReplay (part_at (plan_of plan.now) boot controller)
         (map sim_state flashes) (own_schedule (boot_at (plan_of plan.now) boot) controller)
@@ -74,7 +72,6 @@ pub fn go_through(
 ) -> Result<(EndedController, History), AllocError>
     requires boots { boot < length (plan_of plan.now).boots }
     requires controllers { controller < length (plan_of plan.now).controllers }
-    requires built { is_built (plan_of plan.now) ≡ true }
     requires sizes { HaveSizes (chips_at (plan_of plan.now) controller) (map sim_state flashes) }
     ensures ends { IfOk result (λ both. (course : Course SimFaults)
         × EndsBoot (plan_of plan.now) boot controller (map sim_state flashes) course both.0) }
@@ -109,7 +106,6 @@ pub fn run_controller(
 ) -> Result<EndedController, AllocError>
     requires boots { boot < length (plan_of plan.now).boots }
     requires controllers { controller < length (plan_of plan.now).controllers }
-    requires built { is_built (plan_of plan.now) ≡ true }
     requires sizes { HaveSizes (chips_at (plan_of plan.now) controller) (map sim_state flashes) }
     ensures ends { IfOk result (λ ended. (course : Course SimFaults)
         × EndsBoot (plan_of plan.now) boot controller (map sim_state flashes) course ended) }

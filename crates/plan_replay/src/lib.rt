@@ -3,7 +3,6 @@
 #![tactic(auto)]
 
 mod boot;
-mod built;
 mod controller;
 mod devices;
 mod replay;
@@ -13,6 +12,5 @@ mod sessions;
 mod tests;
 
 pub use boot::Flashes;
-pub use built::can_be_run;
 pub use controller::{EndedController, go_through};
 pub use replay::{new_flashes, replay_report};

@@ -1,10 +1,9 @@
 // The replay of a plan.
-ghost use Rattle.std.specs.Prelude.{◌≡◌, true, map, IfOk};
+ghost use Rattle.std.specs.Prelude.{◌≡◌, map, IfOk};
 ghost use Rattle.chip_sim.specs.State.{sim_state};
 ghost use Rattle.plan_model.specs.Plan.{new_chips};
 ghost use Rattle.plan_grammar.specs.Meaning.{plan_of};
 ghost use Rattle.headline_model.specs.Headline.{IsReplayOf};
-ghost use Rattle.plan_replay.specs.Built.{is_built};
 
 use crate::boot::{Flashes, run_boot};
 use nand_model::Bytes;
@@ -13,7 +12,6 @@ use std::alloc::{AllocError, Global};
 
 /// The new chips of each controller of a plan.
 pub fn new_flashes(alloc: Global, plan: &Plan) -> Result<Flashes, AllocError>
-    requires { is_built (plan_of plan.now) ≡ true }
     ensures { IfOk result (λ flashes. map (map sim_state) flashes
         ≡ map new_chips (plan_of plan.now).controllers) }
 {
@@ -28,7 +26,6 @@ pub fn new_flashes(alloc: Global, plan: &Plan) -> Result<Flashes, AllocError>
 /// one before it left, by the boot's schedule and then rounds of all its sessions. Gives the text
 /// of the plan's report (the format is this project's own).
 pub fn replay_report(alloc: Global, plan: &Plan) -> Result<Bytes, AllocError>
-    requires { is_built (plan_of plan.now) ≡ true }
     ensures { IfOk result (IsReplayOf (plan_of plan.now)) }
 {
     let mut out = Bytes::with_room(alloc, 0)?;

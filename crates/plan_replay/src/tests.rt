@@ -1,5 +1,5 @@
 // Whole plans and their reports, from the examples and the rules of the formats.
-use crate::{can_be_run, replay_report};
+use crate::replay_report;
 use nand_model::Bytes;
 use plan_text::read_plan;
 use std::alloc::{AllocError, Global};
@@ -95,36 +95,20 @@ device mtd2 corrected 0 failed 0
 end boot 1
 ";
 
-const TABLES: &str = "nandlab 1\ncontroller\nchip 2048 64 64 16 4 1\npart 0 12\nboot\n";
-
-const WEAK: &str =
-    "nandlab 1\ncontroller\nchip 2048 64 64 16 4 0\nweak erase 1 0 none\npart 0 16\nboot\n";
-
-const CUT: &str = "nandlab 1\ncontroller\nchip 2048 64 64 16 4 0\npart 0 16\nboot\ncut 0 1 none\n";
-
-// The report of a plan that was read; none where it cannot be run.
-fn report_of(alloc: Global, text: &str) -> Result<Option<Bytes>, AllocError> {
+// The report of a plan.
+fn report_of(alloc: Global, text: &str) -> Result<Bytes, AllocError> {
     let Ok(plan) = read_plan(alloc, text.as_bytes()) else {
         return Err(AllocError);
     };
-    if can_be_run(&plan) {
-        Ok(Some(replay_report(alloc, &plan)?))
-    } else {
-        Ok(None)
-    }
+    replay_report(alloc, &plan)
 }
 
 #[test]
 fn reports_of_plans(rt: HostRuntime) -> Result<(), Fail> {
     let alloc = rt.alloc();
     for (plan, report) in [(HELD, HELD_REPORT), (TWO, TWO_REPORT)] {
-        let Some(text) = report_of(alloc, plan)? else {
-            panic!(rt; "not run");
-        };
+        let text = report_of(alloc, plan)?;
         assert_eq!(rt; text.as_slice(), report.as_bytes());
-    }
-    for plan in [TABLES, WEAK, CUT] {
-        assert!(rt; report_of(alloc, plan)?.is_none());
     }
     Ok(())
 }
