@@ -2,8 +2,7 @@
 """Replays a plan from standard input, and prints its report, or the line that the plan is refused with.
 
 A second replay beside the proved one, written from the standard and not from the code under crates/; plans are read by
-plan_reader.py. Plans with a weak place get `line 0: NotBuilt`. Exit status: 0, or 3 for a refusal.
-tools/mutated_plans.py compares the two programs.
+plan_reader.py. Exit status: 0, or 3 for a refusal. tools/mutated_plans.py compares the two programs.
 """
 import functools
 import sys
@@ -909,11 +908,9 @@ def answer(plan):
     status, text = plan_reader.answer(plan)
     if status:
         return status, text
-    lines = [line.split() for line in text.decode().splitlines()]
-    if any(first == 'weak' for first, *_ in lines):
-        return 3, b'line 0: NotBuilt\n'
     replay = Replay()
-    for first, *words in lines:
+    for line in text.decode().splitlines():
+        first, *words = line.split()
         replay.line(first, words)
     replay.run()
     return 0, '\n'.join(replay.report + ['']).encode()
