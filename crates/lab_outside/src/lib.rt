@@ -1,8 +1,9 @@
 //! The outside of a run: sources of bytes and sinks of bytes, in memory and over std's readers and
-//! writers.
+//! writers, and the gates that sessions on threads pass.
 #![tactic(auto)]
 
 mod calls;
+mod gate;
 mod mem_sink;
 mod mem_source;
 mod outside;
@@ -13,6 +14,7 @@ mod std_source;
 mod tests;
 mod writing;
 
+pub use gate::{Gate, HoldGate, OpenGate};
 pub use mem_sink::MemSink;
 pub use mem_source::MemSource;
 pub use outside::{Failed, Sink, Source};

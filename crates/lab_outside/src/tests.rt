@@ -1,12 +1,14 @@
 // Sources and sinks at work, with a failing call in mid-stream.
 use crate::{
-    Failed, MemSink, MemSource, ReadError, Sink, Source, StdSink, StdSource, read_to_end, write_all,
+    Failed, Gate, HoldGate, MemSink, MemSource, ReadError, Sink, Source, StdSink, StdSource,
+    read_to_end, write_all,
 };
 use nand_model::{BlockList, Bytes};
 use std::alloc::{AllocError, Global};
-use std::io;
 use std::io::{Read, Write};
 use std::test::Fail;
+use std::thread::Threads;
+use std::{io, thread};
 
 const TEXT: &[u8] = b"nandlab 1\n";
 
@@ -159,4 +161,33 @@ fn writer_as_a_sink(rt: HostRuntime) {
     }
     assert_eq!(rt; sink.write(b""), Ok(0));
     assert_eq!(rt; writer.taken.as_slice(), b"repreprep".as_slice());
+}
+
+// Two passes of a session, as its worker makes them.
+fn pass_twice(gate: &HoldGate, session: u32) {
+    gate.pass(session, 0);
+    gate.pass(session, 1);
+}
+
+// Whether a session gives up where these pass one after the other on one thread.
+fn gives_up(looks: u64, sessions: [u32; 2]) -> bool {
+    let gate = HoldGate::new(0, 1, looks);
+    pass_twice(&gate, sessions[0]);
+    pass_twice(&gate, sessions[1]);
+    gate.gave_up()
+}
+
+// Whether a session gives up where two pass on threads of their own.
+fn gives_up_beside<R: Threads + Sync>(rt: &R, looks: u64) -> bool {
+    let gate = HoldGate::new(0, 1, looks);
+    thread::join(rt, || pass_twice(&gate, 0), || pass_twice(&gate, 1));
+    gate.gave_up()
+}
+
+#[test]
+fn sessions_that_meet_at_a_gate(rt: HostRuntime) {
+    let one_thread = (gives_up(100, [0, 1]), gives_up(100, [1, 0]));
+    assert_eq!(rt; one_thread, (true, true));
+    assert_eq!(rt; gives_up(100, [2, 3]), false);
+    assert_eq!(rt; gives_up_beside(&rt, 100_000_000), false);
 }
