@@ -8,7 +8,7 @@ ghost use Rattle.chip_core.specs.Begin.{CanBegin, HasDevice};
 ghost use Rattle.chip_core.specs.Chip.{chip_stage, chip_state};
 ghost use Rattle.chip_core.specs.Sums.{AreSmall};
 
-use chip_core::{Chip, Fairness, Flash, Op, PageCode, Parts, Reply, Stats, perform};
+use chip_core::{Chip, Fairness, Flash, Op, PageCode, Parts, Reply, Stats, attach, perform};
 use nand_iface::PageKind;
 use nand_model::{BlockList, Bytes, Geometry, Part};
 use std::alloc::{AllocError, Global};
@@ -110,8 +110,8 @@ fn fills_places(g: &Geometry, body: &[u8], free: &[u8]) -> bool
     body.len() == g.page as usize && 2 + free.len() == g.parity_start() as usize
 }
 
-// Whether a chip takes the operation.
-fn can_begin<F: Flash, C: PageCode>(chip: &Chip<F, C>, parts: &Parts, op: &Op) -> bool
+/// Whether a chip takes the operation.
+pub fn can_begin<F: Flash, C: PageCode>(chip: &Chip<F, C>, parts: &Parts, op: &Op) -> bool
     ensures { IsTrue result →
         CanBegin (chip_state chip.now).geometry parts.now (chip_stage chip.now) op.now }
 {
@@ -152,8 +152,8 @@ fn op_for<F: Flash, C: PageCode>(
     Ok(op)
 }
 
-/// Performs an operation, and tells its reply in short; or flips bits.
-pub fn reply_to<F: Flash, C: PageCode>(
+// Performs an operation, and tells its reply in short; or flips bits.
+fn reply_to<F: Flash, C: PageCode>(
     chip: &mut Chip<F, C>,
     alloc: Global,
     parts: &Parts,
@@ -170,8 +170,41 @@ pub fn reply_to<F: Flash, C: PageCode>(
     Ok(in_short(&perform(chip, parts, &op)?))
 }
 
-/// Begins an operation.
-pub fn begin<F: Flash, C: PageCode>(
+/// Performs operations on a chip without tables, and gives the place of the first one whose reply is
+/// another than the one beside it, with that reply.
+pub fn first_other_reply<F: Flash, C: PageCode>(
+    alloc: Global,
+    flash: F,
+    code: C,
+    rows: &[(Ask, Told)],
+) -> Result<Option<(usize, Told)>, Fail>
+    requires { (F.state flash).geometry.bbt ≡ 0 }
+{
+    let parts = one_device(alloc)?;
+    let mut chip = attach(alloc, flash, code)?;
+    first_other_of(&mut chip, alloc, &parts, rows)
+}
+
+// The same of a chip that is attached.
+fn first_other_of<F: Flash, C: PageCode>(
+    chip: &mut Chip<F, C>,
+    alloc: Global,
+    parts: &Parts,
+    rows: &[(Ask, Told)],
+) -> Result<Option<(usize, Told)>, Fail>
+    requires { is_resting (chip_stage chip.old) ≡ true }
+{
+    for (place, (ask, want)) in rows.iter().enumerate() {
+        let told = reply_to(chip, alloc, parts, *ask)?;
+        if told != *want {
+            return Ok(Some((place, told)));
+        }
+    }
+    Ok(None)
+}
+
+// Begins an operation.
+fn begin<F: Flash, C: PageCode>(
     chip: &mut Chip<F, C>,
     alloc: Global,
     parts: &Parts,
@@ -184,8 +217,23 @@ pub fn begin<F: Flash, C: PageCode>(
     Ok(())
 }
 
-/// Does the first event of an operation, and gives what is told of its failure.
+/// Does the first event of an operation on a chip without tables, and gives what is told of its
+/// failure.
 pub fn told_of_failure<F: Flash, C: PageCode>(
+    alloc: Global,
+    flash: F,
+    code: C,
+    ask: Ask,
+) -> Result<Option<Fairness>, Fail>
+    requires { (F.state flash).geometry.bbt ≡ 0 }
+{
+    let parts = one_device(alloc)?;
+    let mut chip = attach(alloc, flash, code)?;
+    failure_of(&mut chip, alloc, &parts, ask)
+}
+
+// The same of a chip that is attached.
+fn failure_of<F: Flash, C: PageCode>(
     chip: &mut Chip<F, C>,
     alloc: Global,
     parts: &Parts,

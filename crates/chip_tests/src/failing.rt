@@ -4,8 +4,8 @@ ghost use Rattle.chip_sim.specs.State.{sim_state};
 
 use crate::asking::Ask::{Erase, IsBad, RawRead, RawWrite, Read, Stats, Write};
 use crate::asking::Told::{Counts, Done, Page, ProgramFailed, State};
-use crate::asking::{one_device, reply_to, told_of_failure};
-use chip_core::{Fairness, attach};
+use crate::asking::{first_other_reply, told_of_failure};
+use chip_core::Fairness;
 use chip_sim::SimChip;
 use ecc_page::EccPage;
 use fault_plan::{Weak, WeakKind, WeakList};
@@ -32,9 +32,6 @@ fn worn_chip(alloc: Global, after: u32) -> Result<SimChip, Fail>
 
 #[test]
 fn answers_failures(rt: HostRuntime) -> Result<(), Fail> {
-    let alloc = rt.alloc();
-    let parts = one_device(alloc)?;
-    let mut chip = attach(alloc, worn_chip(alloc, 0)?, EccPage)?;
     let rows = [
         (Write(0, 0x3c), Done),
         (Write(1, 0x3c), ProgramFailed),
@@ -48,19 +45,17 @@ fn answers_failures(rt: HostRuntime) -> Result<(), Fail> {
         (RawRead(1), Page(Raw, 0, 0, 0, 0xff)),
         (Stats, Counts(0, 0, 0)),
     ];
-    for (ask, want) in rows {
-        assert_eq!(rt; reply_to(&mut chip, alloc, &parts, ask)?, want);
-    }
+    let alloc = rt.alloc();
+    let other = first_other_reply(alloc, worn_chip(alloc, 0)?, EccPage, &rows)?;
+    assert_eq!(rt; other, None);
     Ok(())
 }
 
 #[test]
 fn tells_failures(rt: HostRuntime) -> Result<(), Fail> {
     let alloc = rt.alloc();
-    let parts = one_device(alloc)?;
     for (after, want) in [(0, Some(Fairness::Plain)), (1, None)] {
-        let mut chip = attach(alloc, worn_chip(alloc, after)?, EccPage)?;
-        let told = told_of_failure(&mut chip, alloc, &parts, Write(1, 0x3c))?;
+        let told = told_of_failure(alloc, worn_chip(alloc, after)?, EccPage, Write(1, 0x3c))?;
         assert_eq!(rt; told, want);
     }
     Ok(())

@@ -5,7 +5,7 @@ ghost use Rattle.chip_core.specs.Chip.{chip_state};
 
 use crate::asking::Ask::{Erase, Flip, IsBad, Mark, RawRead, RawWrite, Read, Stats, Write};
 use crate::asking::Told::{BadBlock, Counts, Done, MarkerByte, OutOfRange, Page, State};
-use crate::asking::{flip_all, one_device, reply_to};
+use crate::asking::{first_other_reply, flip_all};
 use chip_core::{Chip, Event, Flash, Note, PageCode, attach};
 use chip_sim::SimChip;
 use ecc_page::EccPage;
@@ -28,9 +28,6 @@ fn small_chip(alloc: Global) -> Result<SimChip, Fail>
 
 #[test]
 fn performs_operations(rt: HostRuntime) -> Result<(), Fail> {
-    let alloc = rt.alloc();
-    let parts = one_device(alloc)?;
-    let mut chip = attach(alloc, small_chip(alloc)?, EccPage)?;
     let rows = [
         (IsBad(0), State(0)),
         (IsBad(1), State(3)),
@@ -89,9 +86,9 @@ fn performs_operations(rt: HostRuntime) -> Result<(), Fail> {
         (RawWrite(63, 0xfe, 0xff), BadBlock),
         (Stats, Counts(7, 1, 2)),
     ];
-    for (ask, want) in rows {
-        assert_eq!(rt; reply_to(&mut chip, alloc, &parts, ask)?, want);
-    }
+    let alloc = rt.alloc();
+    let other = first_other_reply(alloc, small_chip(alloc)?, EccPage, &rows)?;
+    assert_eq!(rt; other, None);
     Ok(())
 }
 
@@ -130,11 +127,24 @@ fn stopped<F: Flash, C: PageCode>(chip: Chip<F, C>) -> Result<F, AllocError>
     Ok(chip.stop())
 }
 
+// What a chip without tables tells after its attach, and after it handed out its note. It was stopped
+// at the start of an attach before.
+fn moments_of<F: Flash, C: PageCode>(
+    alloc: Global,
+    flash: F,
+    code: C,
+) -> Result<(Moment, Moment), Fail>
+    requires { (F.state flash).geometry.bbt ≡ 0 }
+{
+    let starting = Chip::attach_start(alloc, flash, code)?;
+    let mut chip = attach(alloc, stopped(starting)?, code)?;
+    let first = moment_of(&mut chip);
+    Ok((first, moment_of(&mut chip)))
+}
+
 #[test]
 fn tells_its_stage(rt: HostRuntime) -> Result<(), Fail> {
     let alloc = rt.alloc();
-    let starting = Chip::attach_start(alloc, small_chip(alloc)?, EccPage)?;
-    let mut chip = attach(alloc, stopped(starting)?, EccPage)?;
     let first = Moment {
         next_event: None,
         attached: true,
@@ -143,23 +153,26 @@ fn tells_its_stage(rt: HostRuntime) -> Result<(), Fail> {
         corrected: 0,
         quiet: Some(true),
     };
-    assert_eq!(rt; moment_of(&mut chip), first);
     let second = Moment {
         quiet: None,
         ..first
     };
-    assert_eq!(rt; moment_of(&mut chip), second);
+    let told = moments_of(alloc, small_chip(alloc)?, EccPage)?;
+    assert_eq!(rt; told, (first, second));
     Ok(())
 }
 
-// A chip that is attached, of which a bit of a page is flipped after so many events.
-fn attached_with_flip(
+// What a chip of eight blocks tells after its attach, of which a bit of a page is flipped after so
+// many events.
+fn moment_after_flip<F: Flash, C: PageCode>(
     alloc: Global,
+    flash: F,
+    code: C,
     page: u32,
     bit: u32,
     events: u32,
-) -> Result<Chip<SimChip, EccPage>, Fail> {
-    let mut chip = Chip::attach_start(alloc, small_chip(alloc)?, EccPage)?;
+) -> Result<Moment, Fail> {
+    let mut chip = Chip::attach_start(alloc, flash, code)?;
     for done in 0..9 {
         if done == events {
             flip_all(&mut chip, alloc, page, &[bit])?;
@@ -168,7 +181,7 @@ fn attached_with_flip(
             let _ = chip.advance();
         }
     }
-    Ok(chip)
+    Ok(moment_of(&mut chip))
 }
 
 #[test]
@@ -185,8 +198,7 @@ fn attach_tells_of_flips(rt: HostRuntime) -> Result<(), Fail> {
         (257, 16384, 0, true, 1),
     ];
     for (page, bit, events, quiet, bad) in rows {
-        let mut chip = attached_with_flip(alloc, page, bit, events)?;
-        let told = moment_of(&mut chip);
+        let told = moment_after_flip(alloc, small_chip(alloc)?, EccPage, page, bit, events)?;
         assert_eq!(rt; (told.quiet, told.bad), (Some(quiet), bad));
     }
     Ok(())
