@@ -1,1 +1,2 @@
+pub mod ByEvent
 pub mod Due

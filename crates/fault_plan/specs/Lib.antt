@@ -1,3 +1,4 @@
 pub mod BootFaults
+pub mod ByEvent
 pub mod Due
 pub mod WeakPlaces

@@ -5,6 +5,7 @@ ghost use Rattle.nand_model.specs.Cuts.{tear_at};
 
 use nand_model::{CutAt, Flip, Tear};
 use std::alloc::{AllocError, Global};
+use std::collections::BTreeSet;
 use std::marker::Model;
 
 /// The faults of a controller in a boot: its flips, in the order of the plan's lines, and at most
@@ -12,15 +13,20 @@ use std::marker::Model;
 #[derive(Drop)]
 pub struct Faults {
     flips: Vec<Flip>,
+    // Of each flip its event and its place in the list, so that an event finds its own flips alone.
+    by_event: BTreeSet<(u32, usize)>,
     cut: Option<CutAt>,
 }
 
 impl Model for Faults {
     ghost use Rattle.fault_plan.specs.BootFaults.{BootFaults};
+    ghost use Rattle.fault_plan.specs.ByEvent.{AreByEvent};
 
     ghost Value = { BootFaults };
 
     ghost view = { λ f. record { flips = f.flips.items; cut = f.cut } };
+
+    ghost invariant = { λ f. AreByEvent f.flips.items f.by_event };
 }
 
 impl Faults {
@@ -30,6 +36,7 @@ impl Faults {
     {
         Faults {
             flips: Vec::new(alloc),
+            by_event: BTreeSet::new(alloc),
             cut: None,
         }
     }
@@ -40,7 +47,9 @@ impl Faults {
             { flips = self.old.flips ++ flip ∷ [] }) }
         ensures err { OnErr result (self.new ≡ self.old) }
     {
-        self.flips.push(flip)?;
+        self.flips.reserve(1)?;
+        self.by_event.insert((flip.before, self.flips.len()))?;
+        self.flips.push_reserved(flip);
         Ok(())
     }
 
@@ -75,12 +84,10 @@ impl Faults {
         ensures first { result ≡ first_due self.now.flips event from }
         ensures within { IfSome result (λ n. (from ≤ n) × (n < length self.now.flips)) }
     {
-        for n in from..self.flips.len() {
-            if self.flips[n].before == event {
-                return Some(n);
-            }
+        match self.by_event.range((event, from)..).next() {
+            Some(&(of, n)) if of == event => Some(n),
+            _ => None,
         }
-        None
     }
 
     /// Lends the flip at place `n`, counted from 0.
