@@ -1,0 +1,10 @@
+pub mod Sound
+pub mod Counting
+pub mod Writings
+pub mod Attaches
+pub mod Operations
+pub mod Steps
+pub mod Standing
+pub mod Moments
+pub mod Finding
+pub mod Boots
