@@ -28,9 +28,9 @@ WORDS = ('-N', '-m', '-n', '-o', '-p', '-s', '-l', '-k', '--bb=padbad', '--bb=du
          'hex:', 'hex:0', 'hex:aB', 'seed:1:2048', 'seed:1:', 'seed:1:18446744073709551616', 'program', 'erase', 'img',
          'a_name_of_more_than_thirty_two_letters', '1d', '#', '#x', 'x#', '0X10', '0x', '+1', '-1', '0x1G')
 LINES = ('nandlab 1', 'controller', 'chip 2048 64 64 8 1 0', 'chip 2048 64 64 16 4 1', 'chip 4096 224 128 8 16 2 5',
-         'bad 1', 'bad 5 6 7', 'bad 12 13 14', 'weak program 5 0 none', 'weak erase 5 1 seed:3', 'part 0 0', 'part 1 2',
-         'part 3 1', 'data d hex:00ff', 'data img fill:00:2048', 'data e seed:1:4096', 'boot', 'flip 0.0 0 1 0',
-         'cut 0 1 all', 'cut 0x0 2 spans:0-8', 'session 0', 'session 1', 'schedule 0', 'schedule 0 0 1',
+         'bad 1', 'bad 5 6 7', 'bad 12 13 14', 'weak program 5 0 none', 'weak erase 5 1 seed:3', 'bus', 'part 0 0',
+         'part 1 2', 'part 3 1', 'data d hex:00ff', 'data img fill:00:2048', 'data e seed:1:4096', 'boot',
+         'flip 0.0 0 1 0', 'cut 0 1 all', 'cut 0x0 2 spans:0-8', 'session 0', 'session 1', 'schedule 0', 'schedule 0 0 1',
          'flash_erase -N mtd0 0 0', 'flash_erase mtd0 1 1', 'nandwrite -m -p mtd0 d', 'nandwrite -o mtd0 e',
          'nandwrite -n -p -s 2048 mtd0 d', 'nanddump -l 2048 mtd0', 'nanddump --bb=skipbad -o mtd0',
          'nandtest -k -m mtd0', 'nandtest -p 31 -s 1 mtd0', 'nandtest -l 131072 -o 131072 mtd0', 'markbad mtd0 1',

@@ -96,7 +96,7 @@ class Chip:
         self.page, self.spare = page, spare
         self.pages_per_block, self.blocks, self.bbt = pages_per_block, blocks, bbt
         self.block_bytes = pages_per_block * page
-        self.has_parts = False
+        self.has_parts = self.has_bus = False
         self.bad, self.used = set(), set()
         self.weak = {'program': set(), 'erase': set()}
 
@@ -216,7 +216,7 @@ class Reader:
     def place_bad(self):
         return self.in_head() and self.has_chip() and not self.controllers[-1][-1].has_parts
 
-    place_weak = place_bad
+    place_weak = place_bus = place_bad
 
     def place_part(self):
         return self.in_head() and self.has_chip()
@@ -288,6 +288,12 @@ class Reader:
         need(place not in chip.weak[kind], 'Overlap')
         chip.weak[kind].add(place)
         self.put('weak', kind, place, after, torn)
+
+    def line_bus(self, words):
+        chip = self.controllers[-1][-1]
+        need(not words and not chip.has_bus, 'BadWords')
+        chip.has_bus = True
+        self.put('bus')
 
     def line_part(self, words):
         need(len(words) == 2, 'BadWords')
@@ -483,7 +489,8 @@ class Reader:
             getattr(self, 'line_' + first)(rest)
 
 
-LINES = ('nandlab', 'controller', 'chip', 'bad', 'weak', 'part', 'data', 'boot', 'flip', 'cut', 'session', 'schedule')
+LINES = ('nandlab', 'controller', 'chip', 'bad', 'weak', 'bus', 'part', 'data', 'boot', 'flip', 'cut', 'session',
+         'schedule')
 
 
 def answer(plan):

@@ -848,6 +848,9 @@ class Replay:
     def line_weak(self, kind, place, after, tear):
         self.controllers[-1].chips[-1].weak[kind, int(place)] = Weak(int(after), tear)
 
+    def line_bus(self):
+        pass    # a chip behind a bus does what it does without one
+
     def line_part(self, start, count):
         chip = self.controllers[-1].chips[-1]
         name = 'mtd%d' % len(self.devices)

@@ -4,9 +4,10 @@
   tools/random_plans.py PROGRAM [--seed N] [--runs N] [--keep FOLDER]
   tools/random_plans.py --show N [--seed N]     prints the plan of run N
 
-A plan has one or two controllers, chips with and without tables, some factory-bad blocks, and up to three boots in which
-a few sessions share the chips by a random schedule, with flips near the events that read pages and in the tables, and
-with power cuts. A run depends on the seed and its own number alone. Exit status: 1 where a report differs.
+A plan has one or two controllers, chips with and without tables, some factory-bad blocks, some chips behind a bus, and
+up to three boots in which a few sessions share the chips by a random schedule, with flips near the events that read
+pages and in the tables, and with power cuts. A run depends on the seed and its own number alone. Exit status: 1 where a
+report differs.
 """
 import argparse
 import pathlib
@@ -92,6 +93,8 @@ def head(rng):
                                                      chip.tables))
             if rng.random() < 0.3:
                 lines.append('bad %s' % ' '.join(map(str, rng.sample(range(BLOCKS), rng.randrange(1, 3)))))
+            if rng.random() < 0.3:
+                lines.append('bus')
             cut = rng.choice((0, 3, 8))
             for start, blocks in ((0, cut), (cut, BLOCKS - cut)):
                 if blocks:

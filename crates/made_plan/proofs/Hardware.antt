@@ -37,7 +37,7 @@ high_part = record { start = 14; count = 14 }
 
 -- a chip with some of its partitions
 abbrev chip_with : List PartLine → ChipLines
-chip_with parts = record { geometry = made_geometry; defects = []; parts = parts }
+chip_with parts = record { geometry = made_geometry; details = []; parts = parts }
 
 -- whole controllers, and then one of some whole chips and others
 abbrev grown : (controllers chips : ℕ) → List ChipLines → List (List ChipLines)

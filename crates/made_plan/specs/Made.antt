@@ -34,7 +34,7 @@ abbrev pub made_chip : ChipLines
 made_chip =
     record {
       geometry = made_geometry;
-      defects = [];
+      details = [];
       parts = record { start = 0; count = 14 } ∷ record { start = 14; count = 14 } ∷ [];
     }
 

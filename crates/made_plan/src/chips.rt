@@ -36,7 +36,7 @@ fn made_chip(alloc: Global) -> Result<ChipLines, AllocError>
     })?;
     Ok(ChipLines {
         geometry: made_geometry(),
-        defects: ItemList::new(alloc),
+        details: ItemList::new(alloc),
         parts,
     })
 }

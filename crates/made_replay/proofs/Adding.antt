@@ -7,7 +7,7 @@ use Rattle.std.proofs.lemmas.List.Sums.{sum_by_push}
 use Rattle.nand_model.specs.Chip.{ChipState, SimFaults}
 use Rattle.nand_model.specs.declared.words.Note.{Note}
 use Rattle.run_model.specs.Course.{Course}
-use Rattle.chip_sim.specs.State.{sim_state}
+use Rattle.onfi_bus.specs.Lab.{lab_state}
 use Rattle.plan_model.specs.Plan.{PlanData}
 use Rattle.plan_laws.specs.Ready.{HaveSizes, boot_at, chips_at}
 use Rattle.report_model.specs.Report.{boot_text}
@@ -49,7 +49,7 @@ module _ (plan : PlanData) (n : ℕ) (starts rest later left : States) (own : Li
     (h : IsOnTheWay plan n starts rest left before sums bad) (split : rest ≡ own ∷ later) (sizes : AllHaveSizes plan starts) where
   -- how many went through
   count : length left ≡ length h.ends
-  count = ap length h.left_are ∙ length-map h.ends (λ (ended : EndedController). map sim_state ended.flashes)
+  count = ap length h.left_are ∙ length-map h.ends (λ (ended : EndedController). map lab_state ended.flashes)
 
   -- the next controller is there
   pub next_is : length left < length plan.controllers
@@ -65,7 +65,7 @@ module _ (plan : PlanData) (n : ℕ) (starts rest later left : States) (own : Li
 
   -- it goes through the boot, and is added up
   pub next_added : (ended : EndedController) (after : States) (more : Sums) (k : ℕ) → k ≡ length left
-      → (course : Course SimFaults) × EndsBoot plan n k own course ended → after ≡ left ++ map sim_state ended.flashes ∷ []
+      → (course : Course SimFaults) × EndsBoot plan n k own course ended → after ≡ left ++ map lab_state ended.flashes ∷ []
       → ((earlier : List Note) → sums ≡ sums_of earlier → more ≡ sums_of (earlier ++ notes_of ended)) → ended.bad < 2 ^ 32
       → IsOnTheWay plan n starts later after before more (bad + ended.bad)
   next_added ended after more k place went left_is added small = record {
@@ -73,8 +73,8 @@ module _ (plan : PlanData) (n : ℕ) (starts rest later left : States) (own : Li
     ends = h.ends ++ ended ∷ [];
     way = next_through plan n starts rest later own h.ends [] h.text h.way split ended (h.text ++ notes_text (length h.ends) (notes_of ended))
         (subst (λ i. (course : Course SimFaults) × EndsBoot plan n i own course ended) (place ∙ count) went) refl;
-    left_are = left_is ∙ ap (λ states. states ++ map sim_state ended.flashes ∷ []) h.left_are
-        ∙ sym (map_push (λ (e : EndedController). map sim_state e.flashes) h.ends ended);
+    left_are = left_is ∙ ap (λ states. states ++ map lab_state ended.flashes ∷ []) h.left_are
+        ∙ sym (map_push (λ (e : EndedController). map lab_state e.flashes) h.ends ended);
     sums_are = λ earlier same.
         added (earlier ++ notes_joined h.ends) (h.sums_are earlier same)
         ∙ ap sums_of (append_assoc earlier (notes_joined h.ends) (notes_of ended) ∙ ap (λ notes. earlier ++ notes) (sym one_more));

@@ -1,6 +1,6 @@
 // A boot of all controllers, whose answers are added up.
 ghost use Rattle.std.specs.Prelude.{◌≡◌, ◌<◌, ◌≤◌, ◌+◌, ◌*◌, ◌^◌, length, map, IfOk};
-ghost use Rattle.chip_sim.specs.State.{sim_state};
+ghost use Rattle.onfi_bus.specs.Lab.{lab_state};
 ghost use Rattle.plan_grammar.specs.Meaning.{plan_of};
 ghost use Rattle.plan_replay.specs.Boots.{AllHaveSizes};
 ghost use Rattle.made_replay.specs.AddedUp.{AddsUpBoot};
@@ -38,9 +38,9 @@ pub fn add_boot(
     flashes: Flashes,
 ) -> Result<Left, AllocError>
     requires boots { boot < length (plan_of plan.now).boots }
-    requires sizes { AllHaveSizes (plan_of plan.now) (map (map sim_state) flashes) }
-    ensures { IfOk result (λ left. AddsUpBoot (plan_of plan.now) boot (map (map sim_state) flashes)
-        (map (map sim_state) left.flashes) sums.old sums.new left.bad_blocks) }
+    requires sizes { AllHaveSizes (plan_of plan.now) (map (map lab_state) flashes) }
+    ensures { IfOk result (λ left. AddsUpBoot (plan_of plan.now) boot (map (map lab_state) flashes)
+        (map (map lab_state) left.flashes) sums.old sums.new left.bad_blocks) }
 {
     plan.was_read();
     let mut left = Left {

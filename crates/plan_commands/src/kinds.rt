@@ -7,7 +7,7 @@ use plan_grammar::LineKind;
 
 // The kind of a command's line: one of the last seven of the table.
 fn command_kind(word: &[u8]) -> Option<LineKind>
-    ensures { result ≡ meaning_in (drop 12 first_words) word.now }
+    ensures { result ≡ meaning_in (drop 13 first_words) word.now }
 {
     if word == b"flash_erase".as_slice() {
         Some(LineKind::FlashErase)
@@ -28,9 +28,9 @@ fn command_kind(word: &[u8]) -> Option<LineKind>
     }
 }
 
-// The kind of a line from the first data on: one behind the first six of the table.
+// The kind of a line from the first data on: one behind the first seven of the table.
 fn kind_from_data(word: &[u8]) -> Option<LineKind>
-    ensures { result ≡ meaning_in (drop 6 first_words) word.now }
+    ensures { result ≡ meaning_in (drop 7 first_words) word.now }
 {
     if word == b"data".as_slice() {
         Some(LineKind::Data)
@@ -63,6 +63,8 @@ pub fn line_kind(word: &[u8]) -> Option<LineKind>
         Some(LineKind::Bad)
     } else if word == b"weak".as_slice() {
         Some(LineKind::Weak)
+    } else if word == b"bus".as_slice() {
+        Some(LineKind::Bus)
     } else if word == b"part".as_slice() {
         Some(LineKind::Part)
     } else {

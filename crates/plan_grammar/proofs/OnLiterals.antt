@@ -4,7 +4,7 @@ use Rattle.std.specs.Fmt.{digits}
 use Rattle.hex.proofs.OnLiterals.{hex_on_literals}
 use Rattle.plan_grammar.specs.Forms.{one_word, two_words, three_words, four_words, number, small_number, positive_number, numbers, small_numbers, after_front, halves, span_from, spans_from, tear, fill_piece, seed_piece, hex_piece, piece, pieces, is_name, byte_of, device_number, chip_numbers}
 use Rattle.plan_grammar.specs.Options.{with_option, option_word, last_option, options_from}
-use Rattle.plan_grammar.specs.Hardware.{last_chip, header_line, controller_line, geometry, sizes, chip_line, open_chip, bad_line, weak_words, weak_form, weak_line, part_words, part_form, part_line}
+use Rattle.plan_grammar.specs.Hardware.{last_chip, header_line, controller_line, geometry, sizes, chip_line, open_chip, bad_line, weak_words, weak_form, weak_line, bus_line, part_words, part_form, part_line}
 use Rattle.plan_grammar.specs.Payloads.{data_words, data_form, data_line}
 use Rattle.plan_grammar.specs.Faults.{boot_line, open_boot, flip_words, flip_form, flip_line, cut_words, cut_form, cut_line}
 use Rattle.plan_grammar.specs.Sessions.{running_boot, session_form, session_line, schedule_line}
@@ -32,7 +32,7 @@ unfolding last_chip header_line controller_line geometry sizes chip_line open_ch
 hardware = tt
 
 unfoldable hardware_more : ⊤
-unfolding weak_line part_words part_form part_line
+unfolding weak_line bus_line part_words part_form part_line
 hardware_more = tt
 
 unfoldable payloads : ⊤

@@ -2,7 +2,7 @@
 use Rattle.std.proofs.Common.{◌++◌, ◌≡◌, List, [], Result, Ok, Err, refl, ℕ}
 use Rattle.std.specs.Prelude.{codes}
 use Rattle.plan_grammar.specs.declared.kind.PlanKind.{PlanKind}
-use Rattle.plan_grammar.specs.declared.kind.PlanKind.TheVariants.{BadNumber, OutOfChip, TooFewTableBlocks, UnknownDevice, TooLarge, Ended}
+use Rattle.plan_grammar.specs.declared.kind.PlanKind.TheVariants.{BadWords, BadNumber, OutOfChip, TooFewTableBlocks, UnknownDevice, TooLarge, Ended}
 use Rattle.plan_grammar.specs.declared.lines.PlanLines.{PlanLines}
 use Rattle.plan_grammar.specs.Canonical.{canonical_text}
 use Rattle.plan_grammar.proofs.OnLiterals.{plans_on_literals}
@@ -43,6 +43,17 @@ pub device_that_is_not_there : answer
     (head ++ codes "part 0 16\nboot\nsession 0\nisbad mtd7 0") ≡ refused 7 UnknownDevice
 unfolding plans_on_literals
 device_that_is_not_there = refl
+
+pub two_buses_of_one_chip : answer
+    (head ++ codes "bus\nbad 1\nbus\npart 0 16\nboot") ≡ refused 6 BadWords
+unfolding plans_on_literals
+two_buses_of_one_chip = refl
+
+pub bus_in_the_order_read : text_of (answer
+    (head ++ codes "weak program 0x380 1 none\nbus # by cycles\npart 0 16\nboot"))
+    ≡ Ok (codes "nandlab 1\ncontroller\nchip 2048 64 64 16 4 1 3\nweak program 896 1 none\nbus\npart 0 16\nboot\n")
+unfolding plans_on_literals
+bus_in_the_order_read = refl
 
 pub spans_that_go_back : answer
     (head ++ codes "part 0 16\nboot\ncut 0 1 spans:8-4") ≡ refused 6 BadNumber

@@ -18,8 +18,8 @@ use Rattle.plan_grammar.specs.declared.lines.PartLine.{PartLine}
 use Rattle.plan_grammar.specs.declared.lines.DataLine.{DataLine}
 use Rattle.plan_grammar.specs.declared.lines.Piece.{Piece}
 use Rattle.plan_grammar.specs.declared.lines.Piece.TheVariants.{Fill, Seed, Hex}
-use Rattle.plan_grammar.specs.declared.lines.DefectLine.{DefectLine}
-use Rattle.plan_grammar.specs.declared.lines.DefectLine.TheVariants.{Bad, Weak as WeakAt}
+use Rattle.plan_grammar.specs.declared.lines.DetailLine.{DetailLine}
+use Rattle.plan_grammar.specs.declared.lines.DetailLine.TheVariants.{Bad, Weak as WeakAt, Bus}
 use Rattle.plan_grammar.specs.declared.lines.BootLines.{BootLines}
 use Rattle.plan_grammar.specs.declared.lines.FaultLine.{FaultLine}
 use Rattle.plan_grammar.specs.declared.lines.FaultLine.TheVariants.{Flip as FlipOf, Cut as CutOf}
@@ -58,11 +58,12 @@ abbrev pub weak_kind_text : WeakKind → List ℕ
 weak_kind_text Program = codes "program"
 weak_kind_text Erase = codes "erase"
 
--- the words of a line of bad blocks or of a weak place
-abbrev pub defect_words : DefectLine → List (List ℕ)
-defect_words (Bad blocks) = codes "bad" ∷ decimals blocks
-defect_words (WeakAt weak) = codes "weak" ∷ weak_kind_text weak.kind ∷ decimal weak.at ∷ decimal weak.after
+-- the words of a line of bad blocks, of a weak place or of a bus
+abbrev pub detail_words : DetailLine → List (List ℕ)
+detail_words (Bad blocks) = codes "bad" ∷ decimals blocks
+detail_words (WeakAt weak) = codes "weak" ∷ weak_kind_text weak.kind ∷ decimal weak.at ∷ decimal weak.after
     ∷ tear_text weak.tear ∷ []
+detail_words Bus = codes "bus" ∷ []
 
 -- the words of a partition's line
 abbrev pub part_words : PartLine → List (List ℕ)
@@ -70,7 +71,7 @@ part_words part = codes "part" ∷ decimals (part.start ∷ part.count ∷ [])
 
 -- the lines of a chip
 abbrev pub chip_lines : ChipLines → List (List (List ℕ))
-chip_lines chip = chip_words chip.geometry ∷ map defect_words chip.defects ++ map part_words chip.parts
+chip_lines chip = chip_words chip.geometry ∷ map detail_words chip.details ++ map part_words chip.parts
 
 -- the lines of a controller
 abbrev pub controller_lines : List ChipLines → List (List (List ℕ))

@@ -1,4 +1,4 @@
--- What the lines so far name: chips, their bad blocks and weak places, devices, data.
+-- What the lines so far name: chips, their bad blocks, weak places and buses, devices, data.
 use Rattle.std.specs.Prelude.{ℕ, ◌+◌, ◌-◌, Bool, true, false, not, ◌&&◌, ◌==◌, nat_lt, bytes_eq, List, [], ◌∷◌, ◌++◌, flat_map, sum_by, count_by, find, slice_get, Option}
 use Rattle.std.specs.List.{list_any}
 use Rattle.nand_model.specs.Sizes.{numbers_from, page_count}
@@ -11,27 +11,39 @@ use Rattle.plan_grammar.specs.declared.lines.ChipLines.{ChipLines}
 use Rattle.plan_grammar.specs.declared.lines.PartLine.{PartLine}
 use Rattle.plan_grammar.specs.declared.lines.DataLine.{DataLine}
 use Rattle.plan_grammar.specs.declared.lines.Piece.{Piece}
-use Rattle.plan_grammar.specs.declared.lines.DefectLine.{DefectLine}
-use Rattle.plan_grammar.specs.declared.lines.DefectLine.TheVariants.{Bad, Weak as WeakAt}
+use Rattle.plan_grammar.specs.declared.lines.DetailLine.{DetailLine}
+use Rattle.plan_grammar.specs.declared.lines.DetailLine.TheVariants.{Bad, Weak as WeakAt, Bus}
 use Rattle.plan_grammar.specs.Forms.{piece_length, piece_bytes}
 
 -- the bad blocks of a line
-abbrev pub bad_in : DefectLine → List ℕ
+abbrev pub bad_in : DetailLine → List ℕ
 bad_in (Bad blocks) = blocks
 bad_in (WeakAt weak) = []
+bad_in Bus = []
 
 -- the bad blocks of a chip
 abbrev pub bad_blocks : ChipLines → List ℕ
-bad_blocks chip = flat_map bad_in chip.defects
+bad_blocks chip = flat_map bad_in chip.details
 
 -- the weak places of a line
-abbrev pub weak_in : DefectLine → List Weak
+abbrev pub weak_in : DetailLine → List Weak
 weak_in (Bad blocks) = []
 weak_in (WeakAt weak) = weak ∷ []
+weak_in Bus = []
 
 -- the weak places of a chip
 abbrev pub weak_places : ChipLines → List Weak
-weak_places chip = flat_map weak_in chip.defects
+weak_places chip = flat_map weak_in chip.details
+
+-- the line that puts a chip behind a bus
+abbrev pub is_bus : DetailLine → Bool
+is_bus (Bad blocks) = false
+is_bus (WeakAt weak) = false
+is_bus Bus = true
+
+-- a chip is behind a bus
+abbrev pub has_bus : ChipLines → Bool
+has_bus chip = list_any is_bus chip.details
 
 -- the kind of a weak page
 abbrev pub is_program : WeakKind → Bool

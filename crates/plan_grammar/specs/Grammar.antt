@@ -5,13 +5,13 @@ use Rattle.lab_text.specs.Text.{lines_of, words_of, longest_line}
 use Rattle.plan_grammar.specs.declared.kind.PlanKind.{PlanKind}
 use Rattle.plan_grammar.specs.declared.kind.PlanKind.TheVariants.{LineTooLong, BadByte, UnknownWord, Ended as NoBoot, TooLong as TooManyBytes}
 use Rattle.plan_grammar.specs.declared.words.LineKind.{LineKind}
-use Rattle.plan_grammar.specs.declared.words.LineKind.TheVariants.{Header, Controller, Chip, Bad, Weak, Part, Data, Boot, Flip, Cut, Session, Schedule, FlashErase, NandWrite, NandDump, NandTest, MarkBad, IsBad, Stats}
+use Rattle.plan_grammar.specs.declared.words.LineKind.TheVariants.{Header, Controller, Chip, Bad, Weak, Bus, Part, Data, Boot, Flip, Cut, Session, Schedule, FlashErase, NandWrite, NandDump, NandTest, MarkBad, IsBad, Stats}
 use Rattle.plan_grammar.specs.declared.lines.PlanLines.{PlanLines}
 use Rattle.plan_grammar.specs.Limits.{most_bytes}
 use Rattle.plan_grammar.specs.Rules.{◌>>=◌, rule, there}
 use Rattle.plan_grammar.specs.Forms.{is_allowed}
 use Rattle.plan_grammar.specs.Options.{Meaning, meaning_in}
-use Rattle.plan_grammar.specs.Hardware.{header_line, controller_line, chip_line, bad_line, weak_line, part_line}
+use Rattle.plan_grammar.specs.Hardware.{header_line, controller_line, chip_line, bad_line, weak_line, bus_line, part_line}
 use Rattle.plan_grammar.specs.Payloads.{data_line}
 use Rattle.plan_grammar.specs.Faults.{boot_line, flip_line, cut_line}
 use Rattle.plan_grammar.specs.Sessions.{session_line, schedule_line}
@@ -25,6 +25,7 @@ first_words =
     ∷ record { word = codes "chip"; means = Chip }
     ∷ record { word = codes "bad"; means = Bad }
     ∷ record { word = codes "weak"; means = Weak }
+    ∷ record { word = codes "bus"; means = Bus }
     ∷ record { word = codes "part"; means = Part }
     ∷ record { word = codes "data"; means = Data }
     ∷ record { word = codes "boot"; means = Boot }
@@ -48,6 +49,7 @@ line_by_kind Controller plan words = controller_line plan words
 line_by_kind Chip plan words = chip_line plan words
 line_by_kind Bad plan words = bad_line plan words
 line_by_kind Weak plan words = weak_line plan words
+line_by_kind Bus plan words = bus_line plan words
 line_by_kind Part plan words = part_line plan words
 line_by_kind Data plan words = data_line plan words
 line_by_kind Boot plan words = boot_line plan words

@@ -13,12 +13,12 @@ use Rattle.plan_grammar.specs.declared.kind.PlanKind.TheVariants.{WrongPlace, Ba
 use Rattle.plan_grammar.specs.declared.lines.PlanLines.{PlanLines}
 use Rattle.plan_grammar.specs.declared.lines.ChipLines.{ChipLines}
 use Rattle.plan_grammar.specs.declared.lines.PartLine.{PartLine}
-use Rattle.plan_grammar.specs.declared.lines.DefectLine.{DefectLine}
-use Rattle.plan_grammar.specs.declared.lines.DefectLine.TheVariants.{Bad, Weak as WeakAt}
+use Rattle.plan_grammar.specs.declared.lines.DetailLine.{DetailLine}
+use Rattle.plan_grammar.specs.declared.lines.DetailLine.TheVariants.{Bad, Weak as WeakAt, Bus}
 use Rattle.plan_grammar.specs.Limits.{most_controllers, most_chips, most_pages, most_bad_table_blocks}
 use Rattle.plan_grammar.specs.Rules.{◌>>=◌, rule, there, is_empty, last_of, with_last}
 use Rattle.plan_grammar.specs.Forms.{two_words, four_words, small_number, small_numbers, tear, weak_kind}
-use Rattle.plan_grammar.specs.Devices.{bad_blocks, is_weak, are_different, bad_table_blocks, share_block, all_pages}
+use Rattle.plan_grammar.specs.Devices.{bad_blocks, is_weak, has_bus, are_different, bad_table_blocks, share_block, all_pages}
 
 -- no data and no boot yet
 abbrev pub is_hardware : PlanLines → Bool
@@ -51,10 +51,10 @@ with_chip chip plan = record plan { controllers = with_last (λ chips. chips ++ 
 abbrev pub with_last_chip : (ChipLines → ChipLines) → PlanLines → PlanLines
 with_last_chip change plan = record plan { controllers = with_last (with_last change) plan.controllers }
 
--- the plan with one more line of what is wrong with the last chip
-abbrev pub with_defect : DefectLine → PlanLines → PlanLines
-with_defect defect plan = with_last_chip (λ (chip : ChipLines). record chip {
-  defects = chip.defects ++ defect
+-- the plan with one more line that tells more of the last chip
+abbrev pub with_detail : DetailLine → PlanLines → PlanLines
+with_detail detail plan = with_last_chip (λ (chip : ChipLines). record chip {
+  details = chip.details ++ detail
       ∷ [];
 }) plan
 
@@ -132,9 +132,9 @@ chip_line plan words = do
   numbers ← small_numbers words
   g ← sizes numbers
   _ ← rule (nat_lt (length chips) most_chips && nat_le (all_pages plan + page_count g) most_pages) TooLarge
-  Ok (with_chip (record { geometry = g; defects = []; parts = [] }) plan)
+  Ok (with_chip (record { geometry = g; details = []; parts = [] }) plan)
 
--- the chip whose lines of bad blocks and weak places may stand here: it has no partition yet
+-- the chip of which lines may tell more here: it has no partition yet
 unfoldable pub open_chip : PlanLines → Result ChipLines PlanKind
 open_chip plan = do
   _ ← rule (is_hardware plan) WrongPlace
@@ -155,7 +155,7 @@ bad_line plan words = do
   _ ← rule (list_all (λ b. nat_lt b chip.geometry.blocks) blocks) OutOfChip
   _ ← rule (leaves_table_blocks chip.geometry (bad_blocks chip ++ blocks)) TooFewTableBlocks
   _ ← rule (are_different (bad_blocks chip ++ blocks)) Overlap
-  Ok (with_defect (Bad blocks) plan)
+  Ok (with_detail (Bad blocks) plan)
 
 -- the places of a kind: pages or blocks
 abbrev pub place_count : Geometry → WeakKind → ℕ
@@ -170,7 +170,7 @@ weak_words chip plan kind at after torn = do
   bits ← tear torn
   _ ← rule (nat_lt place (place_count chip.geometry kind)) OutOfChip
   _ ← rule (not (is_weak chip kind place)) Overlap
-  Ok (with_defect (WeakAt (record { kind = kind; at = place; after = calls; tear = bits })) plan)
+  Ok (with_detail (WeakAt (record { kind = kind; at = place; after = calls; tear = bits })) plan)
 
 -- a weak place has four words
 unfoldable pub weak_form : ChipLines → PlanLines → List (List ℕ) → Result PlanLines PlanKind
@@ -184,6 +184,14 @@ unfoldable pub weak_line : PlanLines → List (List ℕ) → Result PlanLines Pl
 weak_line plan words = do
   chip ← open_chip plan
   weak_form chip plan words
+
+-- `bus`, after a chip, before its parts, at most once
+unfoldable pub bus_line : PlanLines → List (List ℕ) → Result PlanLines PlanKind
+bus_line plan words = do
+  chip ← open_chip plan
+  _ ← rule (is_empty words) BadWords
+  _ ← rule (not (has_bus chip)) BadWords
+  Ok (with_detail Bus plan)
 
 -- a count of 0 means to the end
 abbrev pub part_in_force : ChipLines → (start count : ℕ) → PartLine

@@ -10,7 +10,7 @@ mod words;
 pub use kind::PlanKind;
 pub use laws::{bytes_have_a_reading, bytes_have_one_reading};
 pub use lines::{
-    BootLines, ChipLines, CommandLine, DataLine, DefectLine, FaultLine, PartLine, Piece, PlanLines,
+    BootLines, ChipLines, CommandLine, DataLine, DetailLine, FaultLine, PartLine, Piece, PlanLines,
     SessionLines,
 };
 pub use words::{LineKind, OptionKind, Options};

@@ -1,13 +1,15 @@
 // The lines of a plan as data, in the order in which they stand.
 use nand_model::{BadMode, BlockList, Bytes, CutAt, Flip, Geometry, ItemList, Weak};
 
-/// A line of what is wrong with a chip.
+/// A line that tells more of a chip than its sizes.
 #[derive(Drop)]
-pub enum DefectLine {
+pub enum DetailLine {
     /// Factory-bad blocks.
     Bad(BlockList),
     /// A weak place.
     Weak(Weak),
+    /// The chip is reached by the cycles of a bus.
+    Bus,
 }
 
 /// A partition: its first block and its number of blocks.
@@ -22,8 +24,8 @@ pub struct PartLine {
 pub struct ChipLines {
     /// Its sizes, with the threshold in force.
     pub geometry: Geometry,
-    /// Its factory-bad blocks and weak places.
-    pub defects: ItemList<DefectLine>,
+    /// Its factory-bad blocks, its weak places and whether it is behind a bus.
+    pub details: ItemList<DetailLine>,
     /// Its partitions.
     pub parts: ItemList<PartLine>,
 }

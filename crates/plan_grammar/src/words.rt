@@ -9,6 +9,7 @@ pub enum LineKind {
     Chip,
     Bad,
     Weak,
+    Bus,
     Part,
     Data,
     Boot,

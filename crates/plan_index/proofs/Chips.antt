@@ -9,7 +9,7 @@ use Rattle.nand_model.specs.Sizes.{page_count, numbers_from}
 use Rattle.nand_model.specs.declared.geometry.Geometry.{Geometry}
 use Rattle.nand_model.specs.declared.words.WeakKind.TheVariants.{Program, Erase}
 use Rattle.plan_grammar.specs.declared.lines.ChipLines.{ChipLines}
-use Rattle.plan_grammar.specs.declared.lines.DefectLine.{DefectLine}
+use Rattle.plan_grammar.specs.declared.lines.DetailLine.{DetailLine}
 use Rattle.plan_grammar.specs.declared.lines.PartLine.{PartLine}
 use Rattle.plan_grammar.specs.Devices.{has_number, bad_table_blocks, is_weak}
 use Rattle.plan_grammar.specs.Hardware.{leaves_table_blocks}
@@ -68,15 +68,15 @@ count_none zero = refl
 count_none (suc n) = count_none n ∙ sym (sum_by-cons (λ (flag : Bool). cond flag 1 0) false (replicate n false) ∙ omega arith)
 
 -- a chip without lines of its own has no marks
-pub marked_none : (chip : ChipLines) (marks : ChipMarks) → chip.defects ≡ [] → chip.parts ≡ [] →
+pub marked_none : (chip : ChipLines) (marks : ChipMarks) → chip.details ≡ [] → chip.parts ≡ [] →
     marks.bad.items ≡ replicate chip.geometry.blocks false → marks.programs.items ≡ replicate (page_count chip.geometry) false →
     marks.erases.items ≡ replicate chip.geometry.blocks false → marks.used.items ≡ replicate chip.geometry.blocks false →
-    marks.weak_programs ≡ 0 → IsMarked chip marks
-marked_none chip marks defects parts bad programs erases used weak =
-    let with_none : ChipLines = record { geometry = chip.geometry; defects = []; parts = [] } in
+    marks.weak_programs ≡ 0 → marks.bus ≡ false → IsMarked chip marks
+marked_none chip marks details parts bad programs erases used weak bus =
+    let with_none : ChipLines = record { geometry = chip.geometry; details = []; parts = [] } in
     let same : with_none ≡ chip =
-    ap (λ (ds : List DefectLine). record with_none { defects = ds }) (sym defects)
-    ∙ ap (λ (ps : List PartLine). record { geometry = chip.geometry; defects = chip.defects; parts = ps }) (sym parts) in
+    ap (λ (ds : List DetailLine). record with_none { details = ds }) (sym details)
+    ∙ ap (λ (ps : List PartLine). record { geometry = chip.geometry; details = chip.details; parts = ps }) (sym parts) in
     subst (λ (c : ChipLines). IsMarked c marks) same (record {
       bad = tells_none marks.bad.items chip.geometry.blocks (has_number []) bad (λ n. refl);
       different = refl;
@@ -86,4 +86,5 @@ marked_none chip marks defects parts bad programs erases used weak =
       filled = refl;
       weak = weak;
       counted = count_none (page_count chip.geometry) ∙ ap (count_by (λ (flag : Bool). flag)) (sym programs);
+      bus = bus;
     })

@@ -6,3 +6,5 @@ pub mod WeakPlaces
 pub mod Parts
 pub mod LastItems
 pub mod DataPlaces
+pub mod Buses
+pub mod BadBlocks

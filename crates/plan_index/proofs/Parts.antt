@@ -77,9 +77,9 @@ pub marked_part : (chip : ChipLines) (marks new : ChipMarks) (start count : ℕ)
     length new.used.items ≡ length marks.used.items →
     HasRun marks.used.items new.used.items start (start + (part_in_force chip start count).count) →
     new.bad.items ≡ marks.bad.items → new.programs.items ≡ marks.programs.items → new.erases.items ≡ marks.erases.items →
-    new.weak_programs ≡ marks.weak_programs →
+    new.weak_programs ≡ marks.weak_programs → new.bus ≡ marks.bus →
     (part_rules chip start count ≡ Ok tt) × IsMarked (with_part_line (part_in_force chip start count) chip) new
-marked_part chip marks new start count m here short free as_long run bad programs erases weak =
+marked_part chip marks new start count m here short free as_long run bad programs erases weak bus =
     let part : PartLine = part_in_force chip start count in
     let more : ChipLines = with_part_line part chip in
     let some : 0 < part.count = some_count chip.geometry.blocks start count here in
@@ -101,6 +101,7 @@ marked_part chip marks new start count m here short free as_long run bad program
             ∙ and_from (list_all is_filled chip.parts) (is_filled part && true) m.filled (and_from (is_filled part) true (lt-ltb 0 part.count some) refl);
         weak = weak ∙ m.weak;
         counted = m.counted ∙ ap (count_by (λ (b : Bool). b)) (sym programs);
+        bus = bus ∙ m.bus;
       },
     )
   where

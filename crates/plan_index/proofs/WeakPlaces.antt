@@ -13,23 +13,31 @@ use Rattle.nand_model.specs.declared.words.WeakKind.{WeakKind}
 use Rattle.nand_model.specs.declared.words.WeakKind.TheVariants.{Program, Erase}
 use Rattle.plan_grammar.specs.declared.kind.PlanKind.{PlanKind}
 use Rattle.plan_grammar.specs.declared.lines.ChipLines.{ChipLines}
-use Rattle.plan_grammar.specs.declared.lines.DefectLine.TheVariants.{Weak as WeakAt}
-use Rattle.plan_grammar.specs.Devices.{has_number, are_different, bad_blocks, bad_in, weak_in, weak_places, is_weak, is_same_kind, is_program, weak_programs}
+use Rattle.plan_grammar.specs.declared.lines.DetailLine.TheVariants.{Weak as WeakAt}
+use Rattle.plan_grammar.specs.Devices.{has_bus, has_number, is_bus, are_different, bad_blocks, bad_in, weak_in, weak_places, is_weak, is_same_kind, is_program, weak_programs}
 use Rattle.plan_grammar.specs.declared.kind.PlanKind.TheVariants.{OutOfChip, Overlap}
 use Rattle.plan_grammar.specs.Rules.{◌>>=◌, rule}
 use Rattle.plan_grammar.specs.Hardware.{place_count}
 use Rattle.plan_index.specs.declared.marks.ChipMarks.{ChipMarks}
 use Rattle.plan_index.specs.Places.{Tells, flag_at}
-use Rattle.plan_index.specs.Chip.{IsMarked, with_defect_line, weak_rules, is_used}
+use Rattle.plan_index.specs.Chip.{IsMarked, with_detail_line, weak_rules, is_used}
 use Rattle.plan_index.proofs.Places.{tells_more}
 
 -- a weak place adds no bad block
-same_bad : (chip : ChipLines) (weak : Weak) → bad_blocks chip ≡ bad_blocks (with_defect_line (WeakAt weak) chip)
-same_bad chip weak = sym (flat_map-append bad_in chip.defects (WeakAt weak ∷ []) ∙ append-nil (bad_blocks chip))
+same_bad : (chip : ChipLines) (weak : Weak) → bad_blocks chip ≡ bad_blocks (with_detail_line (WeakAt weak) chip)
+same_bad chip weak = sym (flat_map-append bad_in chip.details (WeakAt weak ∷ []) ∙ append-nil (bad_blocks chip))
 
 -- the weak places with one more
-more_weak : (chip : ChipLines) (weak : Weak) → weak_places (with_defect_line (WeakAt weak) chip) ≡ weak_places chip ++ weak ∷ []
-more_weak chip weak = flat_map-append weak_in chip.defects (WeakAt weak ∷ [])
+more_weak : (chip : ChipLines) (weak : Weak) → weak_places (with_detail_line (WeakAt weak) chip) ≡ weak_places chip ++ weak ∷ []
+more_weak chip weak = flat_map-append weak_in chip.details (WeakAt weak ∷ [])
+
+or_none : (a : Bool) → (a || (false || false)) ≡ a
+or_none true = refl
+or_none false = refl
+
+-- a weak place puts no chip behind a bus
+same_bus : (chip : ChipLines) (weak : Weak) → has_bus (with_detail_line (WeakAt weak) chip) ≡ has_bus chip
+same_bus chip weak = list_any-append is_bus chip.details (WeakAt weak ∷ []) ∙ or_none (has_bus chip)
 
 or_last : (a b : Bool) → (a || (b || false)) ≡ (a || b)
 or_last true b = refl
@@ -37,14 +45,14 @@ or_last false true = refl
 or_last false false = refl
 
 -- a place is weak with one more weak place
-weak_step : (chip : ChipLines) (weak : Weak) (kind : WeakKind) (n : ℕ) → is_weak (with_defect_line (WeakAt weak) chip) kind n
+weak_step : (chip : ChipLines) (weak : Weak) (kind : WeakKind) (n : ℕ) → is_weak (with_detail_line (WeakAt weak) chip) kind n
     ≡ (is_weak chip kind n || (is_same_kind weak.kind kind && eqb weak.at n))
 weak_step chip weak kind n =
     ap (list_any (λ (w : Weak). is_same_kind w.kind kind && eqb w.at n)) (more_weak chip weak)
     ∙ list_any-append (λ (w : Weak). is_same_kind w.kind kind && eqb w.at n) (weak_places chip) (weak ∷ [])
     ∙ or_last (is_weak chip kind n) (is_same_kind weak.kind kind && eqb weak.at n)
 
-count_step : (chip : ChipLines) (weak : Weak) → weak_programs (with_defect_line (WeakAt weak) chip)
+count_step : (chip : ChipLines) (weak : Weak) → weak_programs (with_detail_line (WeakAt weak) chip)
     ≡ weak_programs chip + cond (is_program weak.kind) 1 0
 count_step chip weak =
     ap (count_by (λ (w : Weak). is_program w.kind)) (more_weak chip weak)
@@ -73,9 +81,9 @@ pub marked_page : (chip : ChipLines) (marks new : ChipMarks) (weak : Weak) → I
     weak.at < page_count chip.geometry → not (flag_at marks.programs.items weak.at) ≡ true →
     new.bad.items ≡ marks.bad.items → new.programs.items ≡ slice_set marks.programs.items weak.at true →
     new.erases.items ≡ marks.erases.items → new.used.items ≡ marks.used.items → new.weak_programs ≡ marks.weak_programs + 1 →
-    IsMarked (with_defect_line (WeakAt weak) chip) new
-marked_page chip marks new weak m kind here free bad programs erases used count =
-    let more : ChipLines = with_defect_line (WeakAt weak) chip in
+    new.bus ≡ marks.bus → IsMarked (with_detail_line (WeakAt weak) chip) new
+marked_page chip marks new weak m kind here free bad programs erases used count bus =
+    let more : ChipLines = with_detail_line (WeakAt weak) chip in
     let clear : flag_at marks.programs.items weak.at ≡ false = not-true (flag_at marks.programs.items weak.at) free in
     let within : weak.at < length marks.programs.items = omega (arith, m.programs.count_is) in
     let one : weak_programs more ≡ weak_programs chip + 1 =
@@ -97,15 +105,16 @@ marked_page chip marks new weak m kind here free bad programs erases used count 
       weak = count ∙ ap (λ n. n + 1) m.weak ∙ sym one;
       counted = one ∙ ap (λ n. n + 1) m.counted ∙ sym (count_flag marks.programs.items weak.at within clear)
           ∙ ap (count_by (λ (b : Bool). b)) (sym programs);
+      bus = bus ∙ m.bus ∙ sym (same_bus chip weak);
     }
 
 -- the marks with one more weak block
 pub marked_block : (chip : ChipLines) (marks new : ChipMarks) (weak : Weak) → IsMarked chip marks → weak.kind ≡ Erase →
     weak.at < chip.geometry.blocks → new.bad.items ≡ marks.bad.items → new.programs.items ≡ marks.programs.items →
     new.erases.items ≡ slice_set marks.erases.items weak.at true → new.used.items ≡ marks.used.items →
-    new.weak_programs ≡ marks.weak_programs → IsMarked (with_defect_line (WeakAt weak) chip) new
-marked_block chip marks new weak m kind here bad programs erases used count =
-    let more : ChipLines = with_defect_line (WeakAt weak) chip in
+    new.weak_programs ≡ marks.weak_programs → new.bus ≡ marks.bus → IsMarked (with_detail_line (WeakAt weak) chip) new
+marked_block chip marks new weak m kind here bad programs erases used count bus =
+    let more : ChipLines = with_detail_line (WeakAt weak) chip in
     let none : weak_programs more ≡ weak_programs chip =
     count_step chip weak ∙ ap (λ k. weak_programs chip + cond (is_program k) 1 0) kind ∙ omega arith in
     record {
@@ -124,6 +133,7 @@ marked_block chip marks new weak m kind here bad programs erases used count =
       filled = m.filled;
       weak = count ∙ m.weak ∙ sym none;
       counted = none ∙ m.counted ∙ ap (count_by (λ (b : Bool). b)) (sym programs);
+      bus = bus ∙ m.bus ∙ sym (same_bus chip weak);
     }
 
 two_kept : (a b : Bool) (k l : PlanKind) → a ≡ true → b ≡ true → (rule a k >>= λ (u : Unit {0}). rule b l) ≡ Ok tt

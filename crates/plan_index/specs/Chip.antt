@@ -5,12 +5,12 @@ use Rattle.nand_model.specs.Sizes.{page_count}
 use Rattle.nand_model.specs.declared.words.Weak.{Weak}
 use Rattle.nand_model.specs.declared.words.WeakKind.TheVariants.{Program, Erase}
 use Rattle.plan_grammar.specs.declared.kind.PlanKind.{PlanKind}
-use Rattle.plan_grammar.specs.declared.kind.PlanKind.TheVariants.{OutOfChip, TooFewTableBlocks, Overlap}
+use Rattle.plan_grammar.specs.declared.kind.PlanKind.TheVariants.{BadWords, OutOfChip, TooFewTableBlocks, Overlap}
 use Rattle.plan_grammar.specs.declared.lines.ChipLines.{ChipLines}
 use Rattle.plan_grammar.specs.declared.lines.PartLine.{PartLine}
-use Rattle.plan_grammar.specs.declared.lines.DefectLine.{DefectLine}
+use Rattle.plan_grammar.specs.declared.lines.DetailLine.{DetailLine}
 use Rattle.plan_grammar.specs.Rules.{◌>>=◌, rule}
-use Rattle.plan_grammar.specs.Devices.{bad_blocks, has_number, is_weak, are_different, weak_programs, share_block}
+use Rattle.plan_grammar.specs.Devices.{bad_blocks, has_bus, has_number, is_weak, are_different, weak_programs, share_block}
 use Rattle.plan_grammar.specs.Hardware.{leaves_table_blocks, place_count, part_in_force}
 use Rattle.plan_index.specs.Places.{Tells}
 use Rattle.plan_index.specs.declared.marks.ChipMarks.{ChipMarks}
@@ -37,10 +37,11 @@ pub record IsMarked (chip : ChipLines) (marks : ChipMarks) : Type 0 where
   pub filled : list_all is_filled chip.parts ≡ true
   pub weak : marks.weak_programs ≡ weak_programs chip
   pub counted : weak_programs chip ≡ count_by (λ flag. flag) marks.programs.items
+  pub bus : marks.bus ≡ has_bus chip
 
--- the chip with one more line of what is wrong with it
-abbrev pub with_defect_line : DefectLine → ChipLines → ChipLines
-with_defect_line defect chip = record chip { defects = chip.defects ++ defect ∷ [] }
+-- the chip with one more line that tells more of it
+abbrev pub with_detail_line : DetailLine → ChipLines → ChipLines
+with_detail_line detail chip = record chip { details = chip.details ++ detail ∷ [] }
 
 -- the chip with one more partition
 abbrev pub with_part_line : PartLine → ChipLines → ChipLines
@@ -58,6 +59,10 @@ abbrev pub weak_rules : ChipLines → Weak → Result (Unit {0}) PlanKind
 weak_rules chip weak = do
   _ ← rule (nat_lt weak.at (place_count chip.geometry weak.kind)) OutOfChip
   rule (not (is_weak chip weak.kind weak.at)) Overlap
+
+-- the rule of a bus
+abbrev pub bus_rules : ChipLines → Result (Unit {0}) PlanKind
+bus_rules chip = rule (not (has_bus chip)) BadWords
 
 -- the rules of a partition
 abbrev pub part_rules : ChipLines → (start count : ℕ) → Result (Unit {0}) PlanKind

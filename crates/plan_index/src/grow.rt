@@ -2,16 +2,16 @@
 ghost use Rattle.std.specs.Prelude.{◌≡◌, ◌∷◌, ◌++◌, [], List, OnOk};
 ghost use Rattle.plan_grammar.specs.declared.lines.ChipLines.{ChipLines as Chip};
 ghost use Rattle.plan_grammar.specs.Rules.{with_last};
-ghost use Rattle.plan_grammar.specs.Hardware.{with_chip, with_defect, with_part};
+ghost use Rattle.plan_grammar.specs.Hardware.{with_chip, with_detail, with_part};
 ghost use Rattle.plan_grammar.specs.Faults.{with_fault, with_last_boot};
 ghost use Rattle.plan_grammar.specs.Sessions.{with_session};
 ghost use Rattle.plan_grammar.specs.Commands.{with_command};
-ghost use Rattle.plan_index.specs.Chip.{with_defect_line, with_part_line};
+ghost use Rattle.plan_index.specs.Chip.{with_detail_line, with_part_line};
 ghost use Rattle.plan_index.specs.Boots.{with_fault_line, with_session_line, with_schedule_line, with_command_line, with_boot_command};
 
 use nand_model::ItemList;
 use plan_grammar::{
-    BootLines, ChipLines, CommandLine, DefectLine, FaultLine, PartLine, PlanLines, SessionLines,
+    BootLines, ChipLines, CommandLine, DetailLine, FaultLine, PartLine, PlanLines, SessionLines,
 };
 use std::alloc::AllocError;
 
@@ -36,42 +36,42 @@ pub fn add_chip(plan: &mut PlanLines, chip: ChipLines) -> Result<(), AllocError>
     add_controller_chip(plan.controllers.as_mut_slice(), chip)
 }
 
-// Adds a line of what is wrong to the last of these chips.
-fn add_chip_defect(chips: &mut [ChipLines], defect: DefectLine) -> Result<(), AllocError>
-    ensures { OnOk result (chips.new ≡ with_last (with_defect_line defect) chips.old) }
+// Adds a line that tells more of it to the last of these chips.
+fn add_chip_detail(chips: &mut [ChipLines], detail: DetailLine) -> Result<(), AllocError>
+    ensures { OnOk result (chips.new ≡ with_last (with_detail_line detail) chips.old) }
 {
     match chips.last_mut() {
-        Some(chip) => chip.defects.append(defect),
+        Some(chip) => chip.details.append(detail),
         None => Ok(()),
     }
 }
 
-// Adds a line of what is wrong to the last of these chips.
-fn add_list_defect(chips: &mut ItemList<ChipLines>, defect: DefectLine) -> Result<(), AllocError>
-    ensures { OnOk result (chips.new ≡ with_last (with_defect_line defect) chips.old) }
+// Adds a line that tells more of it to the last of these chips.
+fn add_list_detail(chips: &mut ItemList<ChipLines>, detail: DetailLine) -> Result<(), AllocError>
+    ensures { OnOk result (chips.new ≡ with_last (with_detail_line detail) chips.old) }
 {
-    add_chip_defect(chips.as_mut_slice(), defect)
+    add_chip_detail(chips.as_mut_slice(), detail)
 }
 
-// Adds a line of what is wrong to the last chip of the last of these controllers.
-fn add_controller_defect(
+// Adds a line that tells more of it to the last chip of the last of these controllers.
+fn add_controller_detail(
     controllers: &mut [ItemList<ChipLines>],
-    defect: DefectLine,
+    detail: DetailLine,
 ) -> Result<(), AllocError>
     ensures { OnOk result (controllers.new
-        ≡ with_last (with_last (with_defect_line defect)) controllers.old) }
+        ≡ with_last (with_last (with_detail_line detail)) controllers.old) }
 {
     match controllers.last_mut() {
-        Some(chips) => add_list_defect(chips, defect),
+        Some(chips) => add_list_detail(chips, detail),
         None => Ok(()),
     }
 }
 
-/// Adds a line of what is wrong to the last chip.
-pub fn add_defect(plan: &mut PlanLines, defect: DefectLine) -> Result<(), AllocError>
-    ensures { OnOk result (plan.new ≡ with_defect defect plan.old) }
+/// Adds a line that tells more of it to the last chip.
+pub fn add_detail(plan: &mut PlanLines, detail: DetailLine) -> Result<(), AllocError>
+    ensures { OnOk result (plan.new ≡ with_detail detail plan.old) }
 {
-    add_controller_defect(plan.controllers.as_mut_slice(), defect)
+    add_controller_detail(plan.controllers.as_mut_slice(), detail)
 }
 
 // Adds a partition to the last of these chips.

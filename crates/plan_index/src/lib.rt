@@ -10,6 +10,6 @@ mod marks;
 
 pub use data::{DataIndex, DataPlace};
 pub use device::DeviceSize;
-pub use grow::{add_chip, add_command, add_defect, add_fault, add_part, add_session, set_schedule};
+pub use grow::{add_chip, add_command, add_detail, add_fault, add_part, add_session, set_schedule};
 pub use lists::last;
 pub use marks::ChipMarks;

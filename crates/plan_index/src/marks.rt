@@ -6,15 +6,15 @@ ghost use Rattle.plan_grammar.specs.Devices.{are_different, has_number};
 ghost use Rattle.plan_grammar.specs.Hardware.{leaves_table_blocks, part_in_force};
 ghost use Rattle.nand_model.specs.declared.words.Weak.{Weak as WeakPlace};
 ghost use Rattle.nand_model.specs.declared.words.WeakKind.TheVariants.{Program, Erase};
-ghost use Rattle.plan_grammar.specs.declared.lines.DefectLine.TheVariants.{Bad, Weak as WeakAt};
+ghost use Rattle.plan_grammar.specs.declared.lines.DetailLine.TheVariants.{Bad, Weak as WeakAt, Bus};
 ghost use Rattle.plan_index.specs.Places.{Tells, flag_at, IsFreeRun, IsTakenRun, HasRun};
-ghost use Rattle.plan_index.specs.Chip.{IsMarked, bad_rules, weak_rules, part_rules, with_defect_line, with_part_line};
+ghost use Rattle.plan_index.specs.Chip.{IsMarked, bad_rules, weak_rules, bus_rules, part_rules, with_detail_line, with_part_line};
 
 use nand_model::{BlockList, Geometry, Weak, WeakKind};
 use plan_grammar::{ChipLines, PartLine, PlanKind};
 use std::alloc::{AllocError, Global};
 
-/// Which places of a chip its lines name: a flag for each block or page.
+/// What the lines of a chip have named: a flag for each block or page, and one for its bus.
 #[derive(Drop)]
 pub struct ChipMarks {
     /// Its bad blocks.
@@ -27,6 +27,8 @@ pub struct ChipMarks {
     pub used: Vec<bool>,
     /// How many weak pages it has.
     pub weak_programs: usize,
+    /// Whether it is behind a bus.
+    pub bus: bool,
 }
 
 impl ChipMarks {
@@ -38,12 +40,13 @@ impl ChipMarks {
             erases: Vec::new(alloc),
             used: Vec::new(alloc),
             weak_programs: 0,
+            bus: false,
         }
     }
 
-    /// The marks of a chip that has no bad block, no weak place and no partition yet.
+    /// The marks of a chip of which no other line has told anything yet.
     pub fn new(alloc: Global, chip: &ChipLines) -> Result<ChipMarks, AllocError>
-        requires defects { chip.now.defects ≡ [] }
+        requires details { chip.now.details ≡ [] }
         requires parts { chip.now.parts ≡ [] }
         ensures { IfOk result (λ marks. IsMarked chip.now marks) }
     {
@@ -55,6 +58,7 @@ impl ChipMarks {
             erases: vec![in alloc; false; blocks]?,
             used: vec![in alloc; false; blocks]?,
             weak_programs: 0,
+            bus: false,
         })
     }
 
@@ -65,7 +69,7 @@ impl ChipMarks {
         requires { IsMarked chip.now self }
         ensures { MatchResult result
             (λ marks. (bad_rules chip.now blocks.now ≡ Ok tt)
-            × IsMarked (with_defect_line (Bad blocks.now) chip.now) marks)
+            × IsMarked (with_detail_line (Bad blocks.now) chip.now) marks)
             (λ kind. bad_rules chip.now blocks.now ≡ Err kind) }
     {
         if !are_below(blocks, chip.geometry.blocks) {
@@ -85,7 +89,7 @@ impl ChipMarks {
     pub fn add_weak(self, chip: &ChipLines, weak: &Weak) -> Result<ChipMarks, PlanKind>
         requires { IsMarked chip.now self }
         ensures { MatchResult result (λ marks. (weak_rules chip.now weak.now ≡ Ok tt)
-            × IsMarked (with_defect_line (WeakAt weak.now) chip.now) marks)
+            × IsMarked (with_detail_line (WeakAt weak.now) chip.now) marks)
             (λ kind. weak_rules chip.now weak.now ≡ Err kind) }
     {
         match weak.kind {
@@ -99,7 +103,7 @@ impl ChipMarks {
         requires { IsMarked chip.now self }
         ensures { (weak : WeakPlace) → weak.kind ≡ Program → weak.at ≡ page → MatchResult result
             (λ marks. (weak_rules chip.now weak ≡ Ok tt)
-            × IsMarked (with_defect_line (WeakAt weak) chip.now) marks)
+            × IsMarked (with_detail_line (WeakAt weak) chip.now) marks)
             (λ kind. weak_rules chip.now weak ≡ Err kind) }
     {
         if page as usize >= self.programs.len() {
@@ -121,7 +125,7 @@ impl ChipMarks {
         requires { IsMarked chip.now self }
         ensures { (weak : WeakPlace) → weak.kind ≡ Erase → weak.at ≡ block → MatchResult result
             (λ marks. (weak_rules chip.now weak ≡ Ok tt)
-            × IsMarked (with_defect_line (WeakAt weak) chip.now) marks)
+            × IsMarked (with_detail_line (WeakAt weak) chip.now) marks)
             (λ kind. weak_rules chip.now weak ≡ Err kind) }
     {
         if block >= chip.geometry.blocks {
@@ -132,6 +136,19 @@ impl ChipMarks {
             return Err(PlanKind::Overlap);
         }
         Ok(ChipMarks { erases, ..self })
+    }
+
+    /// Marks the line of a bus. `BadWords` comes exactly where the chip has one already.
+    pub fn add_bus(self, chip: &ChipLines) -> Result<ChipMarks, PlanKind>
+        requires { IsMarked chip.now self }
+        ensures { MatchResult result
+            (λ marks. (bus_rules chip.now ≡ Ok tt) × IsMarked (with_detail_line Bus chip.now) marks)
+            (λ kind. bus_rules chip.now ≡ Err kind) }
+    {
+        if self.bus {
+            return Err(PlanKind::BadWords);
+        }
+        Ok(ChipMarks { bus: true, ..self })
     }
 
     /// Marks the blocks of a partition, of which a count of 0 means to the end, and gives it as it

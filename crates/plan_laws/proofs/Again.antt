@@ -16,10 +16,10 @@ use Rattle.report_model.specs.Report.{line as ended, spaced, device_name}
 use Rattle.lab_text.specs.Text.{lines_of, words_of, longest_line}
 use Rattle.plan_grammar.specs.declared.kind.PlanKind.TheVariants.{LineTooLong, BadByte, UnknownWord}
 use Rattle.plan_grammar.specs.declared.words.LineKind.{LineKind}
-use Rattle.plan_grammar.specs.declared.words.LineKind.TheVariants.{Header, Controller, Chip, Bad, Weak, Part, Data, Boot, Flip, Cut, Session, Schedule, FlashErase as ToErase, NandWrite as ToWrite, NandDump as ToDump, NandTest as ToTest, MarkBad as ToMark, IsBad as ToAsk, Stats as ToCount}
+use Rattle.plan_grammar.specs.declared.words.LineKind.TheVariants.{Header, Controller, Chip, Bad, Weak, Bus, Part, Data, Boot, Flip, Cut, Session, Schedule, FlashErase as ToErase, NandWrite as ToWrite, NandDump as ToDump, NandTest as ToTest, MarkBad as ToMark, IsBad as ToAsk, Stats as ToCount}
 use Rattle.plan_grammar.specs.declared.lines.PlanLines.{PlanLines}
 use Rattle.plan_grammar.specs.declared.lines.ChipLines.{ChipLines}
-use Rattle.plan_grammar.specs.declared.lines.DefectLine.TheVariants.{Bad as BadBlocks, Weak as WeakAt}
+use Rattle.plan_grammar.specs.declared.lines.DetailLine.TheVariants.{Bad as BadBlocks, Weak as WeakAt, Bus as OnBus}
 use Rattle.plan_grammar.specs.declared.lines.BootLines.{BootLines}
 use Rattle.plan_grammar.specs.declared.lines.FaultLine.TheVariants.{Flip as FlipOf, Cut as CutOf}
 use Rattle.plan_grammar.specs.declared.lines.SessionLines.{SessionLines}
@@ -31,7 +31,7 @@ use Rattle.plan_grammar.specs.Options.{meaning_in}
 use Rattle.plan_grammar.specs.Hardware.{is_hardware, has_chip}
 use Rattle.plan_grammar.specs.Commands.{command_line}
 use Rattle.plan_grammar.specs.Grammar.{first_words, line_by_kind, line_words, line, Reads, no_lines}
-use Rattle.plan_grammar.specs.Canonical.{decimals, flag, valued, bad_option, chip_words, weak_kind_text, tear_text, defect_words, part_words, piece_text, data_words, fault_words, command_words, boot_lines, controller_lines, chip_lines, canonical_words, canonical_lines, canonical_text}
+use Rattle.plan_grammar.specs.Canonical.{decimals, flag, valued, bad_option, chip_words, weak_kind_text, tear_text, detail_words, part_words, piece_text, data_words, fault_words, command_words, boot_lines, controller_lines, chip_lines, canonical_words, canonical_lines, canonical_text}
 use Rattle.plan_grammar.specs.Laws.{ReadsAgain}
 use Rattle.plan_laws.proofs.Steps.{rule_kept, found, rule_step, ok_same, empty_is}
 use Rattle.plan_laws.proofs.Words.{is_word, is_spaced, words_again as words_of_spaced, line_spaced, line_allowed, lines_again}
@@ -39,11 +39,11 @@ use Rattle.plan_laws.proofs.Numbers.{IsSmall, IsNumber, decimal_word, decimals_w
 use Rattle.plan_laws.proofs.Tears.{tear_word}
 use Rattle.plan_laws.proofs.Pieces.{pieces_words}
 use Rattle.plan_laws.proofs.Names.{device_word, chip_word, name_word}
-use Rattle.plan_laws.proofs.Hardware.{header_kept, header_again, controller_kept, controller_again, chip_kept, chip_again, numbers_of_chip, chip_numbers_small, LastChip, last_found, open_found, bad_kept, bad_again, weak_kept, weak_again, part_kept, part_again}
+use Rattle.plan_laws.proofs.Hardware.{header_kept, header_again, controller_kept, controller_again, chip_kept, chip_again, numbers_of_chip, chip_numbers_small, LastChip, last_found, open_found, bad_kept, bad_again, weak_kept, weak_again, bus_kept, bus_again, part_kept, part_again}
 use Rattle.plan_laws.proofs.Boots.{data_kept, data_again, boot_kept, boot_again, open_boot_found, flip_kept, flip_again, cut_kept, cut_again, RunningBoot, running_found, session_kept, session_again, ScheduleKept, schedule_kept, schedule_again}
 use Rattle.plan_laws.proofs.Commands.{kind_of, HasFit, command_kept}
 use Rattle.plan_laws.proofs.CommandWords.{command_texts, command_again}
-use Rattle.plan_laws.proofs.Written.{Line, hardware_written, header_written, controllers_push, chips_push, lines-with_last, defect_line, part_line, last_chip_line, data_written, boots_written, boots_push, fault_line, session_line, command_line as command_written, schedule_line}
+use Rattle.plan_laws.proofs.Written.{Line, hardware_written, header_written, controllers_push, chips_push, lines-with_last, detail_line, part_line, last_chip_line, data_written, boots_written, boots_push, fault_line, session_line, command_line as command_written, schedule_line}
 
 -- a boot without sessions has no schedule
 abbrev pub IsIdleFirst : BootLines → Type 0
@@ -137,7 +137,7 @@ unfolding line_words
 chip_adds plan next words h e =
     let k = chip_kept plan next words e in
     let none = hardware_parts plan k.hardware in
-    let chip : ChipLines = record { geometry = k.g; defects = []; parts = [] } in
+    let chip : ChipLines = record { geometry = k.g; details = []; parts = [] } in
     let change : List ChipLines → List ChipLines = λ chips. chips ++ chip ∷ [] in
     record {
       words = chip_words k.g;
@@ -172,9 +172,9 @@ unfolding line_words
 bad_adds plan next words h e =
     let k = bad_kept plan next words e in
     let open_chip = open_found plan k.chip k.opened in
-    last_adds plan next k.chip (λ (c : ChipLines). record c { defects = c.defects ++ BadBlocks k.blocks ∷ [] }) (defect_words (BadBlocks k.blocks)) h
+    last_adds plan next k.chip (λ (c : ChipLines). record c { details = c.details ++ BadBlocks k.blocks ∷ [] }) (detail_words (BadBlocks k.blocks)) h
     open_chip.hardware open_chip.last (numbers_words k.blocks k.small) (bad_again plan next k)
-    (defect_line k.chip (BadBlocks k.blocks) open_chip.bare) k.next_is
+    (detail_line k.chip (BadBlocks k.blocks) open_chip.bare) k.next_is
 
 kind_word : (kind : WeakKind) → is_word (weak_kind_text kind) ≡ true
 kind_word Program = refl
@@ -191,9 +191,17 @@ unfolding line_words
 weak_adds plan next words h e =
     let k = weak_kept plan next words e in
     let open_chip = open_found plan k.chip k.opened in
-    last_adds plan next k.chip (λ (c : ChipLines). record c { defects = c.defects ++ WeakAt k.weak ∷ [] }) (defect_words (WeakAt k.weak)) h
+    last_adds plan next k.chip (λ (c : ChipLines). record c { details = c.details ++ WeakAt k.weak ∷ [] }) (detail_words (WeakAt k.weak)) h
     open_chip.hardware open_chip.last (weak_words k.weak k.at_small k.after_small (tear_word k.weak.tear k.tear_is)) (weak_again plan next k)
-    (defect_line k.chip (WeakAt k.weak) open_chip.bare) k.next_is
+    (detail_line k.chip (WeakAt k.weak) open_chip.bare) k.next_is
+
+bus_adds : (plan next : PlanLines) (words : Line) → IsOrdered plan → line_by_kind Bus plan words ≡ Ok next → Adds plan next
+unfolding line_words
+bus_adds plan next words h e =
+    let k = bus_kept plan next words e in
+    let open_chip = open_found plan k.chip k.opened in
+    last_adds plan next k.chip (λ (c : ChipLines). record c { details = c.details ++ OnBus ∷ [] }) (detail_words OnBus) h
+    open_chip.hardware open_chip.last refl (bus_again plan next k) (detail_line k.chip OnBus open_chip.bare) k.next_is
 
 part_adds : (plan next : PlanLines) (words : Line) → IsOrdered plan → line_by_kind Part plan words ≡ Ok next → Adds plan next
 unfolding line_words
@@ -452,6 +460,7 @@ kind_adds Controller plan next words h e = controller_adds plan next words h e
 kind_adds Chip plan next words h e = chip_adds plan next words h e
 kind_adds Bad plan next words h e = bad_adds plan next words h e
 kind_adds Weak plan next words h e = weak_adds plan next words h e
+kind_adds Bus plan next words h e = bus_adds plan next words h e
 kind_adds Part plan next words h e = part_adds plan next words h e
 kind_adds Data plan next words h e = data_adds plan next words h e
 kind_adds Boot plan next words h e = boot_adds plan next words h e

@@ -6,7 +6,7 @@ use Rattle.nand_model.specs.declared.words.BadMode.TheVariants.{PadBad}
 use Rattle.plan_grammar.specs.declared.kind.PlanKind.{PlanKind}
 use Rattle.plan_grammar.specs.declared.kind.PlanKind.TheVariants.{WrongPlace, BadWords, BadNumber, TooLarge}
 use Rattle.plan_grammar.specs.declared.words.LineKind.{LineKind}
-use Rattle.plan_grammar.specs.declared.words.LineKind.TheVariants.{Header, Controller, Chip, Bad, Weak, Part, Data, Boot, Flip, Cut, Session, Schedule, FlashErase as ToErase, NandWrite as ToWrite, NandDump as ToDump, NandTest as ToTest, MarkBad as ToMark, IsBad as ToAsk, Stats as ToCount}
+use Rattle.plan_grammar.specs.declared.words.LineKind.TheVariants.{Header, Controller, Chip, Bad, Weak, Bus, Part, Data, Boot, Flip, Cut, Session, Schedule, FlashErase as ToErase, NandWrite as ToWrite, NandDump as ToDump, NandTest as ToTest, MarkBad as ToMark, IsBad as ToAsk, Stats as ToCount}
 use Rattle.plan_grammar.specs.declared.words.Options.{Options}
 use Rattle.plan_grammar.specs.declared.lines.PlanLines.{PlanLines}
 use Rattle.plan_grammar.specs.declared.lines.BootLines.{BootLines}
@@ -175,6 +175,7 @@ words_kept Controller words command e = none Controller command e
 words_kept Chip words command e = none Chip command e
 words_kept Bad words command e = none Bad command e
 words_kept Weak words command e = none Weak command e
+words_kept Bus words command e = none Bus command e
 words_kept Part words command e = none Part command e
 words_kept Data words command e = none Data command e
 words_kept Boot words command e = none Boot command e

@@ -17,12 +17,12 @@ use Rattle.plan_grammar.specs.declared.kind.PlanKind.TheVariants.{WrongPlace, Ba
 use Rattle.plan_grammar.specs.declared.lines.PlanLines.{PlanLines}
 use Rattle.plan_grammar.specs.declared.lines.ChipLines.{ChipLines}
 use Rattle.plan_grammar.specs.declared.lines.PartLine.{PartLine}
-use Rattle.plan_grammar.specs.declared.lines.DefectLine.TheVariants.{Bad, Weak as WeakAt}
+use Rattle.plan_grammar.specs.declared.lines.DetailLine.TheVariants.{Bad, Weak as WeakAt, Bus}
 use Rattle.plan_grammar.specs.Limits.{most_controllers, most_chips, most_pages}
 use Rattle.plan_grammar.specs.Rules.{there, is_empty, last_of}
 use Rattle.plan_grammar.specs.Forms.{two_words, four_words, small_number, small_numbers, tear, weak_kind}
-use Rattle.plan_grammar.specs.Devices.{bad_blocks, is_weak, are_different, share_block, all_pages}
-use Rattle.plan_grammar.specs.Hardware.{is_hardware, has_chip, last_chip, with_chip, with_defect, with_part, is_version, header_line, controller_line, geometry_if, geometry, sizes, chip_line, open_chip, leaves_table_blocks, bad_line, place_count, weak_words, weak_form, weak_line, part_in_force, part_words, part_form, part_line}
+use Rattle.plan_grammar.specs.Devices.{bad_blocks, is_weak, has_bus, are_different, share_block, all_pages}
+use Rattle.plan_grammar.specs.Hardware.{is_hardware, has_chip, last_chip, with_chip, with_detail, with_part, is_version, header_line, controller_line, geometry_if, geometry, sizes, chip_line, open_chip, leaves_table_blocks, bad_line, place_count, weak_words, weak_form, weak_line, bus_line, part_in_force, part_words, part_form, part_line}
 use Rattle.plan_grammar.specs.Canonical.{decimals, weak_kind_text, tear_text}
 use Rattle.plan_laws.proofs.Steps.{kept, rule_kept, found, there_kept, step, rule_step, there_step, ok_same, empty_is}
 use Rattle.plan_laws.proofs.Numbers.{IsSmall, small_fits, small_again, small_numbers_fit, small_numbers_again}
@@ -129,7 +129,7 @@ pub record ChipKept (plan next : PlanLines) : Type 0 where
   pub last : last_of plan.controllers ≡ Some chips
   pub g : Geometry
   pub room : (ltb (length chips) most_chips && leb (all_pages plan + page_count g) most_pages) ≡ true
-  pub next_is : with_chip (record { geometry = g; defects = []; parts = [] }) plan ≡ next
+  pub next_is : with_chip (record { geometry = g; details = []; parts = [] }) plan ≡ next
 
 pub chip_kept : (plan next : PlanLines) (words : List (List ℕ)) → chip_line plan words ≡ Ok next → ChipKept plan next
 unfolding chip_line
@@ -146,7 +146,7 @@ chip_kept plan next words e =
       last = two.is;
       g = five.value;
       room = six.0;
-      next_is = ok_same (with_chip (record { geometry = five.value; defects = []; parts = [] }) plan) next six.1;
+      next_is = ok_same (with_chip (record { geometry = five.value; details = []; parts = [] }) plan) next six.1;
     }
 
 pub chip_again : (plan next : PlanLines) (h : ChipKept plan next) → chip_line plan (decimals (numbers_of_chip h.g)) ≡ Ok next
@@ -201,7 +201,7 @@ pub record BadKept (plan next : PlanLines) : Type 0 where
   pub within : list_all (λ b. ltb b chip.geometry.blocks) blocks ≡ true
   pub tables : leaves_table_blocks chip.geometry (bad_blocks chip ++ blocks) ≡ true
   pub different : are_different (bad_blocks chip ++ blocks) ≡ true
-  pub next_is : with_defect (Bad blocks) plan ≡ next
+  pub next_is : with_detail (Bad blocks) plan ≡ next
 
 pub some_items : {A : Type 0} (xs : List A) → not (is_empty xs) ≡ true → 0 < length xs
 some_items [] e = absurd (cc e)
@@ -228,7 +228,7 @@ bad_kept plan next words e =
       within = four.0;
       tables = five.0;
       different = six.0;
-      next_is = ok_same (with_defect (Bad blocks) plan) next six.1;
+      next_is = ok_same (with_detail (Bad blocks) plan) next six.1;
     }
 
 pub some_decimals : (ns : List ℕ) → 0 < length ns → not (is_empty (decimals ns)) ≡ true
@@ -255,7 +255,7 @@ pub record WeakKept (plan next : PlanLines) : Type 0 where
   pub tear_is : IsTear weak.tear
   pub within : weak.at < place_count chip.geometry weak.kind
   pub fresh : is_weak chip weak.kind weak.at ≡ false
-  pub next_is : with_defect (WeakAt weak) plan ≡ next
+  pub next_is : with_detail (WeakAt weak) plan ≡ next
 
 pub weak_kept : (plan next : PlanLines) (words : List (List ℕ)) → weak_line plan words ≡ Ok next → WeakKept plan next
 unfolding weak_line weak_form weak_words
@@ -279,7 +279,7 @@ weak_kept plan next words e =
       tear_is = tear_kept two.value.3 weak.tear six.is;
       within = ltb-true weak.at (place_count chip.geometry weak.kind) seven.0;
       fresh = not-true (is_weak chip weak.kind weak.at) eight.0;
-      next_is = ok_same (with_defect (WeakAt weak) plan) next eight.1;
+      next_is = ok_same (with_detail (WeakAt weak) plan) next eight.1;
     }
 
 kind_again : (kind : WeakKind) → weak_kind (weak_kind_text kind) ≡ Some kind
@@ -300,6 +300,32 @@ weak_again plan next h =
     (rule_step (ltb h.weak.at (place_count h.chip.geometry h.weak.kind)) OutOfChip _ next
     (lt-ltb h.weak.at (place_count h.chip.geometry h.weak.kind) h.within)
     (rule_step (not (is_weak h.chip h.weak.kind h.weak.at)) Overlap _ next (ap not h.fresh) (ap (λ p. Ok p) h.next_is)))))))
+
+-- a chip that is put behind a bus
+pub record BusKept (plan next : PlanLines) : Type 0 where
+  pub chip : ChipLines
+  pub opened : open_chip plan ≡ Ok chip
+  pub fresh : has_bus chip ≡ false
+  pub next_is : with_detail Bus plan ≡ next
+
+pub bus_kept : (plan next : PlanLines) (words : List (List ℕ)) → bus_line plan words ≡ Ok next → BusKept plan next
+unfolding bus_line
+bus_kept plan next words e =
+    let one = kept (open_chip plan) _ next e in
+    let two = rule_kept (is_empty words) BadWords _ next one.further in
+    let three = rule_kept (not (has_bus one.value)) BadWords _ next two.1 in
+    record {
+      chip = one.value;
+      opened = one.is;
+      fresh = not-true (has_bus one.value) three.0;
+      next_is = ok_same (with_detail Bus plan) next three.1;
+    }
+
+pub bus_again : (plan next : PlanLines) → BusKept plan next → bus_line plan [] ≡ Ok next
+unfolding bus_line
+bus_again plan next h =
+    step (open_chip plan) _ h.chip next h.opened
+    (rule_step (not (has_bus h.chip)) BadWords _ next (ap not h.fresh) (ap (λ p. Ok p) h.next_is))
 
 -- a partition
 pub record PartKept (plan next : PlanLines) : Type 0 where

@@ -15,10 +15,10 @@ use Rattle.nand_model.specs.declared.words.Command.{Command as Ordered}
 use Rattle.nand_model.specs.declared.words.Command.TheVariants.{FlashErase as Erases, NandWrite as Writes, NandDump as Dumps, NandTest as Tests, MarkBad as Marks, IsBad as Asks, Stats as Counts}
 use Rattle.plan_grammar.specs.declared.kind.PlanKind.TheVariants.{UnknownDevice}
 use Rattle.plan_grammar.specs.declared.words.LineKind.{LineKind}
-use Rattle.plan_grammar.specs.declared.words.LineKind.TheVariants.{Header, Controller, Chip, Bad, Weak, Part, Data, Boot, Flip, Cut, Session, Schedule, FlashErase as ToErase, NandWrite as ToWrite, NandDump as ToDump, NandTest as ToTest, MarkBad as ToMark, IsBad as ToAsk, Stats as ToCount}
+use Rattle.plan_grammar.specs.declared.words.LineKind.TheVariants.{Header, Controller, Chip, Bad, Weak, Bus, Part, Data, Boot, Flip, Cut, Session, Schedule, FlashErase as ToErase, NandWrite as ToWrite, NandDump as ToDump, NandTest as ToTest, MarkBad as ToMark, IsBad as ToAsk, Stats as ToCount}
 use Rattle.plan_grammar.specs.declared.lines.PlanLines.{PlanLines}
 use Rattle.plan_grammar.specs.declared.lines.ChipLines.{ChipLines}
-use Rattle.plan_grammar.specs.declared.lines.DefectLine.TheVariants.{Bad as BadBlocks, Weak as WeakAt}
+use Rattle.plan_grammar.specs.declared.lines.DetailLine.TheVariants.{Bad as BadBlocks, Weak as WeakAt, Bus as OnBus}
 use Rattle.plan_grammar.specs.declared.lines.DataLine.{DataLine}
 use Rattle.plan_grammar.specs.declared.lines.BootLines.{BootLines}
 use Rattle.plan_grammar.specs.declared.lines.FaultLine.{FaultLine}
@@ -38,7 +38,7 @@ use Rattle.plan_grammar.specs.Costs.{command_on, allowance, cost_on, line_cost, 
 use Rattle.plan_grammar.specs.Commands.{is_on, device_of, write_rules, device_rules, with_command}
 use Rattle.plan_grammar.specs.Grammar.{line_by_kind}
 use Rattle.plan_laws.proofs.Steps.{there_kept, empty_is}
-use Rattle.plan_laws.proofs.Hardware.{HeaderKept, header_kept, ControllerKept, controller_kept, ChipKept, chip_kept, LastChip, last_found, open_found, BadKept, bad_kept, WeakKept, weak_kept, PartKept, part_kept}
+use Rattle.plan_laws.proofs.Hardware.{HeaderKept, header_kept, ControllerKept, controller_kept, ChipKept, chip_kept, LastChip, last_found, open_found, BadKept, bad_kept, WeakKept, weak_kept, BusKept, bus_kept, PartKept, part_kept}
 use Rattle.plan_laws.proofs.Boots.{DataKept, data_kept, BootKept, boot_kept, open_boot_found, FlipKept, flip_kept, CutKept, cut_kept, running_found, SessionKept, session_kept, ScheduleKept, schedule_kept}
 use Rattle.plan_laws.proofs.Commands.{CommandKept, command_kept}
 use Rattle.plan_laws.proofs.Lists.{sum_with_last, sum_le, length_with_last}
@@ -110,7 +110,7 @@ controller_keeps plan next h k =
     (all_push KeepsChips plan.controllers [] h.chips (record { few = omega arith; good = All-nil KeepsChip }))
     (full_push plan.controllers h.full_before may.1) k.next_is
 
-new_chip : (g : Geometry) → KeepsChip (record { geometry = g; defects = []; parts = [] })
+new_chip : (g : Geometry) → KeepsChip (record { geometry = g; details = []; parts = [] })
 new_chip g = record {
   bad = refl;
   different = refl;
@@ -123,7 +123,7 @@ new_chip g = record {
 
 chip_keeps : (plan next : PlanLines) → KeepsLines plan → ChipKept plan next → KeepsLines next
 chip_keeps plan next h k =
-    let chip : ChipLines = record { geometry = k.g; defects = []; parts = [] } in
+    let chip : ChipLines = record { geometry = k.g; details = []; parts = [] } in
     let change : List ChipLines → List ChipLines = λ chips. chips ++ chip ∷ [] in
     let room = ltb-true (length k.chips) most_chips (and_parts (ltb (length k.chips) most_chips) (leb (all_pages plan + page_count k.g) most_pages) k.room).0 in
     let same = length_with_last change plan.controllers in
@@ -152,18 +152,18 @@ last_keeps plan next chip change h hardware last more is =
     (full_with_last (with_last change) plan.controllers h.full_before) is
 
 with_bad : (chip : ChipLines) (blocks : List ℕ) →
-    bad_blocks (record chip { defects = chip.defects ++ BadBlocks blocks ∷ [] }) ≡ bad_blocks chip ++ blocks
+    bad_blocks (record chip { details = chip.details ++ BadBlocks blocks ∷ [] }) ≡ bad_blocks chip ++ blocks
 with_bad chip blocks =
-    flat_map-append bad_in chip.defects (BadBlocks blocks ∷ []) ∙ ap (λ bs. bad_blocks chip ++ bs) (append-nil blocks)
+    flat_map-append bad_in chip.details (BadBlocks blocks ∷ []) ∙ ap (λ bs. bad_blocks chip ++ bs) (append-nil blocks)
 
 bad_weak : (chip : ChipLines) (blocks : List ℕ) →
-    weak_places (record chip { defects = chip.defects ++ BadBlocks blocks ∷ [] }) ≡ weak_places chip
-bad_weak chip blocks = flat_map-append weak_in chip.defects (BadBlocks blocks ∷ []) ∙ append-nil (weak_places chip)
+    weak_places (record chip { details = chip.details ++ BadBlocks blocks ∷ [] }) ≡ weak_places chip
+bad_weak chip blocks = flat_map-append weak_in chip.details (BadBlocks blocks ∷ []) ∙ append-nil (weak_places chip)
 
 bad_keeps : (plan next : PlanLines) → KeepsLines plan → BadKept plan next → KeepsLines next
 bad_keeps plan next h k =
     let at = open_found plan k.chip k.opened in
-    last_keeps plan next k.chip (λ (c : ChipLines). record c { defects = c.defects ++ BadBlocks k.blocks ∷ [] }) h at.hardware at.last
+    last_keeps plan next k.chip (λ (c : ChipLines). record c { details = c.details ++ BadBlocks k.blocks ∷ [] }) h at.hardware at.last
     (λ old. record {
       bad = ap (list_all (λ b. ltb b k.chip.geometry.blocks)) (with_bad k.chip k.blocks)
           ∙ list_all-append (λ b. ltb b k.chip.geometry.blocks) (bad_blocks k.chip) k.blocks
@@ -177,24 +177,44 @@ bad_keeps plan next h k =
     }) k.next_is
 
 weak_bad : (chip : ChipLines) (weak : WeakPlace) →
-    bad_blocks (record chip { defects = chip.defects ++ WeakAt weak ∷ [] }) ≡ bad_blocks chip
-weak_bad chip weak = flat_map-append bad_in chip.defects (WeakAt weak ∷ []) ∙ append-nil (bad_blocks chip)
+    bad_blocks (record chip { details = chip.details ++ WeakAt weak ∷ [] }) ≡ bad_blocks chip
+weak_bad chip weak = flat_map-append bad_in chip.details (WeakAt weak ∷ []) ∙ append-nil (bad_blocks chip)
 
 with_weak : (chip : ChipLines) (weak : WeakPlace) →
-    weak_places (record chip { defects = chip.defects ++ WeakAt weak ∷ [] }) ≡ weak_places chip ++ weak ∷ []
-with_weak chip weak = flat_map-append weak_in chip.defects (WeakAt weak ∷ [])
+    weak_places (record chip { details = chip.details ++ WeakAt weak ∷ [] }) ≡ weak_places chip ++ weak ∷ []
+with_weak chip weak = flat_map-append weak_in chip.details (WeakAt weak ∷ [])
 
 weak_keeps : (plan next : PlanLines) → KeepsLines plan → WeakKept plan next → KeepsLines next
 weak_keeps plan next h k =
     let at = open_found plan k.chip k.opened in
     let P : WeakPlace → Type 0 = λ (w : WeakPlace). w.at < place_count k.chip.geometry w.kind in
-    last_keeps plan next k.chip (λ (c : ChipLines). record c { defects = c.defects ++ WeakAt k.weak ∷ [] }) h at.hardware at.last
+    last_keeps plan next k.chip (λ (c : ChipLines). record c { details = c.details ++ WeakAt k.weak ∷ [] }) h at.hardware at.last
     (λ old. record {
       bad = ap (list_all (λ b. ltb b k.chip.geometry.blocks)) (weak_bad k.chip k.weak) ∙ old.bad;
       different = ap are_different (weak_bad k.chip k.weak) ∙ old.different;
       tables = ap (leaves_table_blocks k.chip.geometry) (weak_bad k.chip k.weak) ∙ old.tables;
       weak = subst (All P) (sym (with_weak k.chip k.weak)) (all_push P (weak_places k.chip) k.weak old.weak k.within);
       apart = ap are_apart (with_weak k.chip k.weak) ∙ apart_push (weak_places k.chip) k.weak old.apart k.fresh;
+      parts = old.parts;
+      free = old.free;
+    }) k.next_is
+
+bus_bad : (chip : ChipLines) → bad_blocks (record chip { details = chip.details ++ OnBus ∷ [] }) ≡ bad_blocks chip
+bus_bad chip = flat_map-append bad_in chip.details (OnBus ∷ []) ∙ append-nil (bad_blocks chip)
+
+bus_weak : (chip : ChipLines) → weak_places (record chip { details = chip.details ++ OnBus ∷ [] }) ≡ weak_places chip
+bus_weak chip = flat_map-append weak_in chip.details (OnBus ∷ []) ∙ append-nil (weak_places chip)
+
+bus_keeps : (plan next : PlanLines) → KeepsLines plan → BusKept plan next → KeepsLines next
+bus_keeps plan next h k =
+    let at = open_found plan k.chip k.opened in
+    last_keeps plan next k.chip (λ (c : ChipLines). record c { details = c.details ++ OnBus ∷ [] }) h at.hardware at.last
+    (λ old. record {
+      bad = ap (list_all (λ b. ltb b k.chip.geometry.blocks)) (bus_bad k.chip) ∙ old.bad;
+      different = ap are_different (bus_bad k.chip) ∙ old.different;
+      tables = ap (leaves_table_blocks k.chip.geometry) (bus_bad k.chip) ∙ old.tables;
+      weak = subst (All (λ (w : WeakPlace). w.at < place_count k.chip.geometry w.kind)) (sym (bus_weak k.chip)) old.weak;
+      apart = ap are_apart (bus_weak k.chip) ∙ old.apart;
       parts = old.parts;
       free = old.free;
     }) k.next_is
@@ -426,6 +446,7 @@ kind_keeps Controller plan next words h short e = controller_keeps plan next h (
 kind_keeps Chip plan next words h short e = chip_keeps plan next h (chip_kept plan next words e)
 kind_keeps Bad plan next words h short e = bad_keeps plan next h (bad_kept plan next words e)
 kind_keeps Weak plan next words h short e = weak_keeps plan next h (weak_kept plan next words e)
+kind_keeps Bus plan next words h short e = bus_keeps plan next h (bus_kept plan next words e)
 kind_keeps Part plan next words h short e = part_keeps plan next h (part_kept plan next words e)
 kind_keeps Data plan next words h short e = data_keeps plan next h (data_kept plan next words e)
 kind_keeps Boot plan next words h short e = boot_keeps plan next h (boot_kept plan next words e)

@@ -17,7 +17,7 @@ use Rattle.plan_grammar.specs.Forms.{is_allowed}
 use Rattle.plan_grammar.specs.Options.{meaning_in}
 use Rattle.plan_grammar.specs.Devices.{bad_blocks}
 use Rattle.plan_grammar.specs.Grammar.{first_words, line_words, line, Reads, no_lines, IsPlan}
-use Rattle.plan_grammar.specs.Canonical.{canonical_words, header_lines, controller_lines, chip_lines, defect_words, part_words, data_words, boot_lines}
+use Rattle.plan_grammar.specs.Canonical.{canonical_words, header_lines, controller_lines, chip_lines, detail_words, part_words, data_words, boot_lines}
 use Rattle.plan_grammar.specs.Meaning.{chip_plan, session_plan, boot_plan, plan_of}
 use Rattle.plan_laws.specs.Within.{IsGoodChip, AreGoodChips, IsGoodBoot, PlansKeepLimits}
 use Rattle.plan_laws.proofs.Steps.{rule_kept, found, ok_same}
@@ -103,7 +103,7 @@ plan_part part = record { start = part.start; count = part.count }
 -- partitions have lines of their own
 parts_lines : (chip : ChipLines) → length (chip_plan chip).parts ≤ length (chip_lines chip)
 parts_lines chip =
-    let outer = length-append (map defect_words chip.defects) (map part_words chip.parts) in
+    let outer = length-append (map detail_words chip.details) (map part_words chip.parts) in
     let plans : length (chip_plan chip).parts ≡ length chip.parts = length_map (λ (part : PartLine). plan_part part) chip.parts in
     omega (arith, outer, length_map part_words chip.parts, plans)
 

@@ -7,14 +7,14 @@ use Rattle.nand_model.specs.declared.geometry.Geometry.{Geometry}
 use Rattle.plan_grammar.specs.declared.lines.PlanLines.{PlanLines}
 use Rattle.plan_grammar.specs.declared.lines.ChipLines.{ChipLines}
 use Rattle.plan_grammar.specs.declared.lines.PartLine.{PartLine}
-use Rattle.plan_grammar.specs.declared.lines.DefectLine.{DefectLine}
+use Rattle.plan_grammar.specs.declared.lines.DetailLine.{DetailLine}
 use Rattle.plan_grammar.specs.declared.lines.DataLine.{DataLine}
 use Rattle.plan_grammar.specs.declared.lines.BootLines.{BootLines}
 use Rattle.plan_grammar.specs.declared.lines.FaultLine.{FaultLine}
 use Rattle.plan_grammar.specs.declared.lines.SessionLines.{SessionLines}
 use Rattle.plan_grammar.specs.declared.lines.CommandLine.{CommandLine}
 use Rattle.plan_grammar.specs.Rules.{last_of, with_last}
-use Rattle.plan_grammar.specs.Canonical.{decimals, chip_words, defect_words, part_words, chip_lines, controller_lines, data_words, fault_words, command_words, session_lines, schedule_lines, boot_lines, header_lines, canonical_words}
+use Rattle.plan_grammar.specs.Canonical.{decimals, chip_words, detail_words, part_words, chip_lines, controller_lines, data_words, fault_words, command_words, session_lines, schedule_lines, boot_lines, header_lines, canonical_words}
 
 -- the words of a line
 abbrev pub Line : Type 0
@@ -77,25 +77,25 @@ pub controllers_push : (controllers : List (List ChipLines)) →
 controllers_push controllers = lines_push controller_lines controllers [] (codes "controller" ∷ []) refl
 
 pub chips_push : (chips : List ChipLines) (g : Geometry) →
-    controller_lines (chips ++ record { geometry = g; defects = []; parts = [] } ∷ []) ≡ controller_lines chips ++ chip_words g ∷ []
+    controller_lines (chips ++ record { geometry = g; details = []; parts = [] } ∷ []) ≡ controller_lines chips ++ chip_words g ∷ []
 chips_push chips g =
-    ap (λ ls. (codes "controller" ∷ []) ∷ ls) (lines_push chip_lines chips (record { geometry = g; defects = []; parts = [] }) (chip_words g) refl)
+    ap (λ ls. (codes "controller" ∷ []) ∷ ls) (lines_push chip_lines chips (record { geometry = g; details = []; parts = [] }) (chip_words g) refl)
 
--- a line of what is wrong with a chip without partitions
-pub defect_line : (chip : ChipLines) (defect : DefectLine) → chip.parts ≡ [] →
-    chip_lines (record chip { defects = chip.defects ++ defect ∷ [] }) ≡ chip_lines chip ++ defect_words defect ∷ []
-defect_line chip defect none =
-    ap (λ ps. chip_words chip.geometry ∷ (map defect_words (chip.defects ++ defect ∷ []) ++ map part_words ps)) none
-    ∙ ap (λ ls. chip_words chip.geometry ∷ ls) (append-nil (map defect_words (chip.defects ++ defect ∷ []))
-    ∙ map-append defect_words chip.defects (defect ∷ [])
-    ∙ ap (λ ls. ls ++ defect_words defect ∷ []) (sym (append-nil (map defect_words chip.defects))))
-    ∙ ap (λ ps. chip_words chip.geometry ∷ ((map defect_words chip.defects ++ map part_words ps) ++ defect_words defect ∷ [])) (sym none)
+-- a line that tells more of a chip without partitions
+pub detail_line : (chip : ChipLines) (detail : DetailLine) → chip.parts ≡ [] →
+    chip_lines (record chip { details = chip.details ++ detail ∷ [] }) ≡ chip_lines chip ++ detail_words detail ∷ []
+detail_line chip detail none =
+    ap (λ ps. chip_words chip.geometry ∷ (map detail_words (chip.details ++ detail ∷ []) ++ map part_words ps)) none
+    ∙ ap (λ ls. chip_words chip.geometry ∷ ls) (append-nil (map detail_words (chip.details ++ detail ∷ []))
+    ∙ map-append detail_words chip.details (detail ∷ [])
+    ∙ ap (λ ls. ls ++ detail_words detail ∷ []) (sym (append-nil (map detail_words chip.details))))
+    ∙ ap (λ ps. chip_words chip.geometry ∷ ((map detail_words chip.details ++ map part_words ps) ++ detail_words detail ∷ [])) (sym none)
 
 pub part_line : (chip : ChipLines) (part : PartLine) →
     chip_lines (record chip { parts = chip.parts ++ part ∷ [] }) ≡ chip_lines chip ++ part_words part ∷ []
 part_line chip part =
-    ap (λ ls. chip_words chip.geometry ∷ (map defect_words chip.defects ++ ls)) (map-append part_words chip.parts (part ∷ []))
-    ∙ ap (λ ls. chip_words chip.geometry ∷ ls) (sym (append_assoc (map defect_words chip.defects) (map part_words chip.parts) (part_words part ∷ [])))
+    ap (λ ls. chip_words chip.geometry ∷ (map detail_words chip.details ++ ls)) (map-append part_words chip.parts (part ∷ []))
+    ∙ ap (λ ls. chip_words chip.geometry ∷ ls) (sym (append_assoc (map detail_words chip.details) (map part_words chip.parts) (part_words part ∷ [])))
 
 -- another last chip
 pub last_chip_line : (controllers : List (List ChipLines)) (chips : List ChipLines) (chip : ChipLines) (change : ChipLines → ChipLines) (line : Line) →

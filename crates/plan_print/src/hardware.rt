@@ -1,12 +1,12 @@
 // The lines of controllers, chips and partitions.
 ghost use Rattle.std.specs.Prelude.{◌≡◌, ◌++◌, OnOk, flat_map, map};
-ghost use Rattle.plan_grammar.specs.Canonical.{chip_lines, chip_words, controller_lines, defect_words, part_words, weak_kind_text};
+ghost use Rattle.plan_grammar.specs.Canonical.{chip_lines, chip_words, controller_lines, detail_words, part_words, weak_kind_text};
 ghost use Rattle.plan_print.specs.Lines.{line_of, text_of};
 
 use crate::forms::put_tear;
 use crate::words::{put_decimals, put_list, put_text};
 use nand_model::{BlockList, Bytes, Geometry, ItemList, Weak, WeakKind};
-use plan_grammar::{ChipLines, DefectLine, PartLine};
+use plan_grammar::{ChipLines, DetailLine, PartLine};
 use std::alloc::AllocError;
 
 // Appends the line of a chip's sizes.
@@ -40,7 +40,7 @@ fn put_weak_kind(out: &mut Bytes, kind: WeakKind) -> Result<(), AllocError>
 // Appends the line of bad blocks.
 fn put_bad(out: &mut Bytes, blocks: &BlockList) -> Result<(), AllocError>
     ensures { OnOk result
-        (out.new ≡ out.old ++ line_of (defect_words (DefectLine.Bad blocks.now))) }
+        (out.new ≡ out.old ++ line_of (detail_words (DetailLine.Bad blocks.now))) }
 {
     put_text(out, "bad")?;
     put_list(out, blocks)?;
@@ -50,7 +50,7 @@ fn put_bad(out: &mut Bytes, blocks: &BlockList) -> Result<(), AllocError>
 // Appends the line of a weak place.
 fn put_weak(out: &mut Bytes, weak: &Weak) -> Result<(), AllocError>
     ensures { OnOk result
-        (out.new ≡ out.old ++ line_of (defect_words (DefectLine.Weak weak.now))) }
+        (out.new ≡ out.old ++ line_of (detail_words (DetailLine.Weak weak.now))) }
 {
     put_text(out, "weak ")?;
     put_weak_kind(out, weak.kind)?;
@@ -60,22 +60,23 @@ fn put_weak(out: &mut Bytes, weak: &Weak) -> Result<(), AllocError>
     put_text(out, "\n")
 }
 
-// Appends the line of bad blocks or of a weak place.
-fn put_defect(out: &mut Bytes, defect: &DefectLine) -> Result<(), AllocError>
-    ensures { OnOk result (out.new ≡ out.old ++ line_of (defect_words defect.now)) }
+// Appends the line of bad blocks, of a weak place or of a bus.
+fn put_detail(out: &mut Bytes, detail: &DetailLine) -> Result<(), AllocError>
+    ensures { OnOk result (out.new ≡ out.old ++ line_of (detail_words detail.now)) }
 {
-    match defect {
-        DefectLine::Bad(blocks) => put_bad(out, blocks),
-        DefectLine::Weak(weak) => put_weak(out, weak),
+    match detail {
+        DetailLine::Bad(blocks) => put_bad(out, blocks),
+        DetailLine::Weak(weak) => put_weak(out, weak),
+        DetailLine::Bus => put_text(out, "bus\n"),
     }
 }
 
-// Appends the lines of what is wrong with a chip.
-fn put_defects(out: &mut Bytes, defects: &ItemList<DefectLine>) -> Result<(), AllocError>
-    ensures { OnOk result (out.new ≡ out.old ++ text_of (map defect_words defects.now)) }
+// Appends the lines that tell more of a chip.
+fn put_details(out: &mut Bytes, details: &ItemList<DetailLine>) -> Result<(), AllocError>
+    ensures { OnOk result (out.new ≡ out.old ++ text_of (map detail_words details.now)) }
 {
-    for defect in defects {
-        put_defect(out, defect)?;
+    for detail in details {
+        put_detail(out, detail)?;
     }
     Ok(())
 }
@@ -104,7 +105,7 @@ fn put_chip(out: &mut Bytes, chip: &ChipLines) -> Result<(), AllocError>
     ensures { OnOk result (out.new ≡ out.old ++ text_of (chip_lines chip.now)) }
 {
     put_geometry(out, &chip.geometry)?;
-    put_defects(out, &chip.defects)?;
+    put_details(out, &chip.details)?;
     put_parts(out, &chip.parts)
 }
 

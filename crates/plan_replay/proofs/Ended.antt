@@ -26,7 +26,7 @@ use Rattle.ctl_core.specs.Ended.{end_of_run, ends_by_notes}
 use Rattle.headline_laws.specs.Replays.{own_schedule}
 use Rattle.headline_laws.proofs.Parts.{IsSessionAt, session_at}
 use Rattle.headline_laws.proofs.Replays.{of_replayed}
-use Rattle.chip_sim.specs.State.{sim_state}
+use Rattle.onfi_bus.specs.Lab.{lab_state}
 use Rattle.plan_replay.specs.declared.controller.EndedController.{EndedController}
 use Rattle.plan_replay.specs.Ends.{ends_in, sums_in, sums_of}
 use Rattle.plan_replay.specs.Boots.{EndsBoot, EndsReplay, notes_of}
@@ -99,7 +99,7 @@ module _ (plan : PlanData) (n c : ℕ) (starts : List (ChipState SimFaults)) whe
 
   -- a controller that was replayed went through the boot
   pub ends_boot : (ended : EndedController) → HaveSizes (chips_at plan c) starts
-      → EndsReplay part starts (own_schedule (boot_at plan n) c) (map sim_state ended.flashes) (notes_of ended) ended.outcomes ended.stats ended.bad
+      → EndsReplay part starts (own_schedule (boot_at plan n) c) (map lab_state ended.flashes) (notes_of ended) ended.outcomes ended.stats ended.bad
       → (course : Course SimFaults) × EndsBoot plan n c starts course ended
   ends_boot ended sizes h = (
     h.course,

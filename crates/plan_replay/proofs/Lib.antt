@@ -3,5 +3,6 @@ mod Starts
 mod Ended
 mod Lines
 mod Places
+mod Buses
 pub mod Through
 pub mod Replays

@@ -17,7 +17,7 @@ use Rattle.headline_laws.proofs.Replays.{one_boot_more, replays_joined}
 use Rattle.headline_laws.proofs.Reports.{replay_reported}
 use Rattle.headline_laws.proofs.Sizes.{plan_sizes}
 use Rattle.ctl_core.proofs.Positions.{at_mapped, mapped_at}
-use Rattle.chip_sim.specs.State.{sim_state}
+use Rattle.onfi_bus.specs.Lab.{lab_state}
 use Rattle.plan_replay.specs.Boots.{AllHaveSizes, EndBoot, HasBeenThrough, HaveBeenThrough, Standing, Through, courses_of, ends_of, notes_before, notes_of, states_left, states_of}
 
 -- a controller with new chips
@@ -140,7 +140,7 @@ last_notes (s ∷ standing) (t ∷ through) k same long left =
 
 -- the states of the flashes that they left
 last_flashes : (standing : List Standing) (through : List Through) → length through ≡ length standing
-    → ((i : ℕ) (t : Through) → slice_get through i ≡ Some t → map sim_state t.ended.flashes ≡ end_states t.course)
+    → ((i : ℕ) (t : Through) → slice_get through i ≡ Some t → map lab_state t.ended.flashes ≡ end_states t.course)
     → states_left (ends_of through) ≡ states_of (joined standing through)
 last_flashes [] [] same left = refl
 last_flashes [] (t ∷ through) same left = absurd (omega (arith, same))

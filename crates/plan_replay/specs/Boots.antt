@@ -15,7 +15,7 @@ use Rattle.ctl_core.specs.Ended.{all_bad_blocks, ends_by_notes}
 use Rattle.session_run.specs.Replay.{IsReplayed}
 use Rattle.headline_model.specs.Headline.{Courses, notes_in, starts_at}
 use Rattle.headline_laws.specs.Replays.{AreReplaysOfBoots, IsReplayOfBoot}
-use Rattle.chip_sim.specs.State.{sim_state}
+use Rattle.onfi_bus.specs.Lab.{lab_state}
 use Rattle.plan_replay.specs.declared.controller.EndedController.{EndedController}
 use Rattle.plan_replay.specs.Ends.{device_text, ends_in, sums_in}
 
@@ -49,7 +49,7 @@ pub record EndByNotes (plan : PlanData) (n : ℕ) (ends : List EndedController) 
 pub record EndsBoot (plan : PlanData) (n c : ℕ) (starts : List (ChipState SimFaults)) (course : Course SimFaults)
     (ended : EndedController) : Type 0 where
   pub replay : IsReplayOfBoot plan c (chips_at plan c) (boot_at plan n) starts course
-  pub flashes_are : map sim_state ended.flashes ≡ end_states course
+  pub flashes_are : map lab_state ended.flashes ≡ end_states course
   pub notes_are : notes_of ended ≡ course.notes
   pub by_notes : EndsByNotes plan n c ended
   pub bad_are : ended.bad ≡ all_bad_blocks (devices_of plan c (chips_at plan c)) course
@@ -90,7 +90,7 @@ pub record GoThroughBoot (plan : PlanData) (n : ℕ) (starts : List (List (ChipS
 
 -- the states of the flashes that controllers left
 abbrev pub states_left : List EndedController → List (List (ChipState SimFaults))
-states_left ends = map (λ (ended : EndedController). map sim_state ended.flashes) ends
+states_left ends = map (λ (ended : EndedController). map lab_state ended.flashes) ends
 
 -- all controllers went through boot n from these states to those, and its text was added
 pub record EndBoot (plan : PlanData) (n : ℕ) (starts after : List (List (ChipState SimFaults))) (before text : List ℕ)

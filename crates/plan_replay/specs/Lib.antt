@@ -1,2 +1,3 @@
 pub mod Ends
 pub mod Boots
+pub mod Buses

@@ -1,21 +1,21 @@
 // A boot of all controllers.
 ghost use Rattle.std.specs.Prelude.{◌≡◌, ◌<◌, length, map, IfOk};
-ghost use Rattle.chip_sim.specs.State.{sim_state};
+ghost use Rattle.onfi_bus.specs.Lab.{lab_state};
 ghost use Rattle.plan_grammar.specs.Meaning.{plan_of};
 ghost use Rattle.plan_replay.specs.Boots.{AllHaveSizes, EndBoot, GoThroughBoot, states_left};
 
 use crate::controller::{EndedController, run_controller};
 use crate::devices::put_all_devices;
 use crate::sessions::put_sessions;
-use chip_sim::SimChip;
 use nand_model::{Bytes, ItemList};
+use onfi_bus::LabChip;
 use plan_text::Plan;
 use report_text::{put_boot, put_boot_end};
 use std::alloc::{AllocError, Global};
 use tool_steps::FlashList;
 
 /// The flashes of each controller.
-pub type Flashes = ItemList<FlashList<SimChip>>;
+pub type Flashes = ItemList<FlashList<LabChip>>;
 
 // Runs each controller's part of a boot on its flashes, and appends the controllers' lines.
 fn run_controllers(
@@ -26,9 +26,9 @@ fn run_controllers(
     flashes: Flashes,
 ) -> Result<ItemList<EndedController>, AllocError>
     requires boots { boot < length (plan_of plan.now).boots }
-    requires sizes { AllHaveSizes (plan_of plan.now) (map (map sim_state) flashes) }
+    requires sizes { AllHaveSizes (plan_of plan.now) (map (map lab_state) flashes) }
     ensures { IfOk result (λ ends. GoThroughBoot (plan_of plan.now) boot
-        (map (map sim_state) flashes) ends out.old out.new) }
+        (map (map lab_state) flashes) ends out.old out.new) }
 {
     plan.was_read();
     let mut ends = ItemList::new(alloc);
@@ -42,7 +42,7 @@ fn run_controllers(
 
 // The flashes that controllers left.
 fn flashes_left(alloc: Global, ends: ItemList<EndedController>) -> Result<Flashes, AllocError>
-    ensures { IfOk result (λ flashes. map (map sim_state) flashes ≡ states_left ends) }
+    ensures { IfOk result (λ flashes. map (map lab_state) flashes ≡ states_left ends) }
 {
     let mut flashes = Flashes::new(alloc);
     let mut rest = ends;
@@ -62,9 +62,9 @@ pub fn run_boot(
     flashes: Flashes,
 ) -> Result<Flashes, AllocError>
     requires boots { boot < length (plan_of plan.now).boots }
-    requires sizes { AllHaveSizes (plan_of plan.now) (map (map sim_state) flashes) }
-    ensures { IfOk result (λ left. EndBoot (plan_of plan.now) boot (map (map sim_state) flashes)
-        (map (map sim_state) left) out.old out.new) }
+    requires sizes { AllHaveSizes (plan_of plan.now) (map (map lab_state) flashes) }
+    ensures { IfOk result (λ left. EndBoot (plan_of plan.now) boot (map (map lab_state) flashes)
+        (map (map lab_state) left) out.old out.new) }
 {
     put_boot(out, boot)?;
     let ends = run_controllers(alloc, out, plan, boot, flashes)?;

@@ -2,7 +2,7 @@
 ghost use Rattle.std.specs.Prelude.{◌≡◌, ◌<◌, ◌++◌, length, map, IfOk};
 ghost use Rattle.nand_model.specs.Chip.{SimFaults};
 ghost use Rattle.run_model.specs.Course.{Course};
-ghost use Rattle.chip_sim.specs.State.{sim_state};
+ghost use Rattle.onfi_bus.specs.Lab.{lab_state};
 ghost use Rattle.plan_grammar.specs.Meaning.{plan_of};
 ghost use Rattle.plan_laws.specs.Ready.{HaveSizes, boot_at, chips_at, part_at};
 ghost use Rattle.headline_laws.specs.Replays.{own_schedule};
@@ -10,11 +10,11 @@ ghost use Rattle.plan_replay.specs.Ends.{notes_text};
 ghost use Rattle.plan_replay.specs.Boots.{EndsReplay, EndsBoot, notes_of};
 
 use crate::schedule::own_schedule;
-use chip_sim::SimChip;
 use ctl_core::{Core, Ended, OutcomeList, StatsList};
 use ecc_page::EccPage;
 use nand_iface::History;
 use nand_model::Bytes;
+use onfi_bus::LabChip;
 use plan_text::Plan;
 use report_text::{put_controller, put_notes};
 use session_run::replay;
@@ -29,7 +29,7 @@ pub struct EndedController {
     /// The notes.
     pub notes: Snapshot<History>,
     /// The flashes, by the number of their chip.
-    pub flashes: FlashList<SimChip>,
+    pub flashes: FlashList<LabChip>,
     /// How each of its sessions ended, in order.
     pub outcomes: OutcomeList,
     /// The ECC statistics of each device, in order.
@@ -44,14 +44,14 @@ fn replayed(
     plan: &Plan,
     boot: u32,
     controller: u32,
-    flashes: FlashList<SimChip>,
-) -> Result<Ended<SimChip>, AllocError>
+    flashes: FlashList<LabChip>,
+) -> Result<Ended<LabChip>, AllocError>
     requires boots { boot < length (plan_of plan.now).boots }
     requires controllers { controller < length (plan_of plan.now).controllers }
-    requires sizes { HaveSizes (chips_at (plan_of plan.now) controller) (map sim_state flashes) }
+    requires sizes { HaveSizes (chips_at (plan_of plan.now) controller) (map lab_state flashes) }
     ensures { IfOk result (λ ended. EndsReplay (part_at (plan_of plan.now) boot controller)
-        (map sim_state flashes) (own_schedule (boot_at (plan_of plan.now) boot) controller)
-        (map sim_state ended.flashes) ended.notes.notes ended.outcomes ended.stats ended.bad) }
+        (map lab_state flashes) (own_schedule (boot_at (plan_of plan.now) boot) controller)
+        (map lab_state ended.flashes) ended.notes.notes ended.outcomes ended.stats ended.bad) }
 {
     plan.was_read();
     let schedule = own_schedule(alloc, plan, boot, controller)?;
@@ -68,13 +68,13 @@ pub fn go_through(
     plan: &Plan,
     boot: u32,
     controller: u32,
-    flashes: FlashList<SimChip>,
+    flashes: FlashList<LabChip>,
 ) -> Result<(EndedController, History), AllocError>
     requires boots { boot < length (plan_of plan.now).boots }
     requires controllers { controller < length (plan_of plan.now).controllers }
-    requires sizes { HaveSizes (chips_at (plan_of plan.now) controller) (map sim_state flashes) }
+    requires sizes { HaveSizes (chips_at (plan_of plan.now) controller) (map lab_state flashes) }
     ensures ends { IfOk result (λ both. (course : Course SimFaults)
-        × EndsBoot (plan_of plan.now) boot controller (map sim_state flashes) course both.0) }
+        × EndsBoot (plan_of plan.now) boot controller (map lab_state flashes) course both.0) }
     ensures notes { IfOk result (λ both. both.1.notes ≡ notes_of both.0) }
 {
     let Ended {
@@ -102,13 +102,13 @@ pub fn run_controller(
     plan: &Plan,
     boot: u32,
     controller: u32,
-    flashes: FlashList<SimChip>,
+    flashes: FlashList<LabChip>,
 ) -> Result<EndedController, AllocError>
     requires boots { boot < length (plan_of plan.now).boots }
     requires controllers { controller < length (plan_of plan.now).controllers }
-    requires sizes { HaveSizes (chips_at (plan_of plan.now) controller) (map sim_state flashes) }
+    requires sizes { HaveSizes (chips_at (plan_of plan.now) controller) (map lab_state flashes) }
     ensures ends { IfOk result (λ ended. (course : Course SimFaults)
-        × EndsBoot (plan_of plan.now) boot controller (map sim_state flashes) course ended) }
+        × EndsBoot (plan_of plan.now) boot controller (map lab_state flashes) course ended) }
     ensures text { IfOk result
         (λ ended. out.new ≡ out.old ++ notes_text controller (notes_of ended)) }
 {

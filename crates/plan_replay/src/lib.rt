@@ -3,6 +3,7 @@
 #![tactic(auto)]
 
 mod boot;
+mod chips;
 mod controller;
 mod devices;
 mod replay;

@@ -1,23 +1,26 @@
 // The replay of a plan.
 ghost use Rattle.std.specs.Prelude.{◌≡◌, map, IfOk};
-ghost use Rattle.chip_sim.specs.State.{sim_state};
+ghost use Rattle.onfi_bus.specs.Lab.{lab_state};
 ghost use Rattle.plan_model.specs.Plan.{new_chips};
 ghost use Rattle.plan_grammar.specs.Meaning.{plan_of};
 ghost use Rattle.headline_model.specs.Headline.{IsReplayOf};
+ghost use Rattle.plan_replay.specs.Buses.{AreAllOnTheirBuses};
 
 use crate::boot::{Flashes, run_boot};
+use crate::chips::new_chips;
 use nand_model::Bytes;
 use plan_text::Plan;
 use std::alloc::{AllocError, Global};
 
-/// The new chips of each controller of a plan.
+/// The new chips of each controller of a plan, each behind a bus where its lines say so.
 pub fn new_flashes(alloc: Global, plan: &Plan) -> Result<Flashes, AllocError>
-    ensures { IfOk result (λ flashes. map (map sim_state) flashes
+    ensures states { IfOk result (λ flashes. map (map lab_state) flashes
         ≡ map new_chips (plan_of plan.now).controllers) }
+    ensures buses { IfOk result (AreAllOnTheirBuses plan.now) }
 {
     let mut flashes = Flashes::new(alloc);
     for controller in 0..plan.controllers() {
-        flashes.append(plan.chips(alloc, controller)?)?;
+        flashes.append(new_chips(alloc, plan, controller)?)?;
     }
     Ok(flashes)
 }

@@ -38,6 +38,7 @@ chip 2048 64 64 16 4 0
 part 0 16
 controller
 chip 2048 64 64 16 4 0
+bus
 part 0 8
 part 8 8
 boot

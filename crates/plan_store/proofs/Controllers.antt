@@ -9,7 +9,7 @@ use Rattle.nand_model.specs.Sizes.{page_count}
 use Rattle.nand_model.specs.declared.geometry.Geometry.{Geometry}
 use Rattle.nand_model.proofs.Bounds.{bounds, pages-le}
 use Rattle.plan_grammar.specs.declared.lines.ChipLines.{ChipLines}
-use Rattle.plan_grammar.specs.declared.lines.DefectLine.{DefectLine}
+use Rattle.plan_grammar.specs.declared.lines.DetailLine.{DetailLine}
 use Rattle.plan_grammar.specs.declared.lines.PartLine.{PartLine}
 use Rattle.plan_grammar.specs.Limits.{most_controllers, most_chips, most_pages}
 use Rattle.plan_grammar.specs.Rules.{last_of, with_last}
@@ -17,7 +17,7 @@ use Rattle.plan_grammar.specs.Devices.{Device, pages_of_chips, devices_on, devic
 use Rattle.plan_index.specs.declared.marks.ChipMarks.{ChipMarks}
 use Rattle.plan_index.specs.declared.device.DeviceSize.{DeviceSize}
 use Rattle.plan_index.specs.Devices.{size_of}
-use Rattle.plan_index.specs.Chip.{IsMarked, with_defect_line, with_part_line}
+use Rattle.plan_index.specs.Chip.{IsMarked, with_detail_line, with_part_line}
 use Rattle.plan_index.proofs.LastItems.{last_of-with_last, last_of_push, length-with_last, sum-with_last}
 use Rattle.plan_store.specs.declared.hardware.HardwareIndex.{HardwareIndex}
 use Rattle.plan_store.specs.Hardware.{HardwareInStep, AreMarks, open_chip, last_in}
@@ -66,16 +66,16 @@ chips_push : (c : ℕ) (chips : List ChipLines) (chip : ChipLines) → chip.part
 chips_push c [] chip none = append-nil (devices_on c chip chip.parts) ∙ on_none c chip chip.parts none
 chips_push c (x ∷ chips) chip none = ap (λ ds. devices_on c x x.parts ++ ds) (chips_push c chips chip none)
 
--- a line of what is wrong with a chip without partitions adds no device
-chips_defect : (c : ℕ) (defect : DefectLine) (chips : List ChipLines) (chip : ChipLines) → last_of chips ≡ Some chip →
-    chip.parts ≡ [] → devices_of_chips c (with_last (with_defect_line defect) chips) ≡ devices_of_chips c chips
-chips_defect c defect [] chip e none = absurd (cc e)
-chips_defect c defect (x ∷ []) chip e none =
+-- a line that tells more of a chip without partitions adds no device
+chips_detail : (c : ℕ) (detail : DetailLine) (chips : List ChipLines) (chip : ChipLines) → last_of chips ≡ Some chip →
+    chip.parts ≡ [] → devices_of_chips c (with_last (with_detail_line detail) chips) ≡ devices_of_chips c chips
+chips_detail c detail [] chip e none = absurd (cc e)
+chips_detail c detail (x ∷ []) chip e none =
     let same : x ≡ chip = cc e in
     let empty : x.parts ≡ [] = subst (λ (y : ChipLines). y.parts ≡ []) (sym same) none in
-    ap (λ ds. ds ++ []) (on_none c (with_defect_line defect x) x.parts empty ∙ sym (on_none c x x.parts empty))
-chips_defect c defect (x ∷ y ∷ chips) chip e none =
-    ap (λ ds. devices_on c x x.parts ++ ds) (chips_defect c defect (y ∷ chips) chip e none)
+    ap (λ ds. ds ++ []) (on_none c (with_detail_line detail x) x.parts empty ∙ sym (on_none c x x.parts empty))
+chips_detail c detail (x ∷ y ∷ chips) chip e none =
+    ap (λ ds. devices_on c x x.parts ++ ds) (chips_detail c detail (y ∷ chips) chip e none)
 
 on_parts : (c : ℕ) (chip : ChipLines) (part : PartLine) (parts : List PartLine) →
     sizes (devices_on c (with_part_line part chip) (parts ++ part ∷ []))
@@ -170,25 +170,25 @@ step_chip controllers old new chips chip s e none room m pages few devices =
           ∙ append-nil (sizes (devices_from 0 controllers)));
     }
 
--- with one more line of what is wrong with the last chip
-pub step_defect : (controllers : List (List ChipLines)) (old new : HardwareIndex) (chips : List ChipLines) (chip : ChipLines)
-    (defect : DefectLine) → HardwareInStep controllers old → last_of controllers ≡ Some chips → last_of chips ≡ Some chip →
-    chip.parts ≡ [] → IsMarked (with_defect_line defect chip) new.marks → new.pages ≡ old.pages →
-    new.devices.items ≡ old.devices.items → HardwareInStep (with_last (with_last (with_defect_line defect)) controllers) new
-step_defect controllers old new chips chip defect s e f none m pages devices =
-    let change : List ChipLines → List ChipLines = with_last (with_defect_line defect) in
+-- with one more line that tells more of the last chip
+pub step_detail : (controllers : List (List ChipLines)) (old new : HardwareIndex) (chips : List ChipLines) (chip : ChipLines)
+    (detail : DetailLine) → HardwareInStep controllers old → last_of controllers ≡ Some chips → last_of chips ≡ Some chip →
+    chip.parts ≡ [] → IsMarked (with_detail_line detail chip) new.marks → new.pages ≡ old.pages →
+    new.devices.items ≡ old.devices.items → HardwareInStep (with_last (with_last (with_detail_line detail)) controllers) new
+step_detail controllers old new chips chip detail s e f none m pages devices =
+    let change : List ChipLines → List ChipLines = with_last (with_detail_line detail) in
     record {
       pages = pages ∙ s.pages ∙ sym (sum-with_last pages_of_chips change 0 controllers chips e
-          (sum-with_last (λ (c : ChipLines). page_count c.geometry) (with_defect_line defect) 0 chips chip f (omega arith)) ∙ omega arith);
+          (sum-with_last (λ (c : ChipLines). page_count c.geometry) (with_detail_line detail) 0 chips chip f (omega arith)) ∙ omega arith);
       few = subst (λ n. n ≤ most_pages) (sym pages) s.few;
       few_controllers = subst (λ n. n ≤ most_controllers) (sym (length-with_last change controllers)) s.few_controllers;
       few_chips = all-with_last is_few change controllers chips e
-          (subst (λ n. leb n most_chips ≡ true) (sym (length-with_last (with_defect_line defect) chips)) (last_passes is_few controllers chips e s.few_chips)) s.few_chips;
-      marks = marks_at (open_chip (with_last change controllers)) (with_defect_line defect chip) new.marks
-          (open_at (with_last change controllers) (change chips) (with_defect_line defect chip) (last_of-with_last change controllers chips e)
-          (last_of-with_last (with_defect_line defect) chips chip f)) m;
+          (subst (λ n. leb n most_chips ≡ true) (sym (length-with_last (with_detail_line detail) chips)) (last_passes is_few controllers chips e s.few_chips)) s.few_chips;
+      marks = marks_at (open_chip (with_last change controllers)) (with_detail_line detail chip) new.marks
+          (open_at (with_last change controllers) (change chips) (with_detail_line detail chip) (last_of-with_last change controllers chips e)
+          (last_of-with_last (with_detail_line detail) chips chip f)) m;
       devices = devices ∙ s.devices ∙ sym (devices-with_last change (λ d. []) controllers 0 chips e
-          (λ d. ap sizes (chips_defect d defect chips chip f none) ∙ sym (append-nil (sizes (devices_of_chips d chips))))
+          (λ d. ap sizes (chips_detail d detail chips chip f none) ∙ sym (append-nil (sizes (devices_of_chips d chips))))
           ∙ append-nil (sizes (devices_from 0 controllers)));
     }
 

@@ -6,11 +6,11 @@ use Rattle.plan_grammar.specs.declared.kind.PlanKind.{PlanKind}
 use Rattle.plan_grammar.specs.declared.kind.PlanKind.TheVariants.{OutOfChip, Overlap}
 use Rattle.plan_grammar.specs.declared.lines.PlanLines.{PlanLines}
 use Rattle.plan_grammar.specs.declared.lines.ChipLines.{ChipLines}
-use Rattle.plan_grammar.specs.declared.lines.DefectLine.TheVariants.{Weak as WeakAt}
+use Rattle.plan_grammar.specs.declared.lines.DetailLine.TheVariants.{Weak as WeakAt}
 use Rattle.plan_grammar.specs.Rules.{◌>>=◌, rule}
 use Rattle.plan_grammar.specs.Forms.{four_words, two_words, weak_kind, small_number, tear}
 use Rattle.plan_grammar.specs.Devices.{is_weak, share_block}
-use Rattle.plan_grammar.specs.Hardware.{weak_line, weak_form, weak_words, open_chip, place_count, with_defect, part_line, part_form, part_words, part_in_force, with_part, is_hardware, last_chip}
+use Rattle.plan_grammar.specs.Hardware.{weak_line, weak_form, weak_words, open_chip, place_count, with_detail, part_line, part_form, part_words, part_in_force, with_part, is_hardware, last_chip}
 use Rattle.plan_index.specs.Chip.{weak_rules, part_rules}
 
 abbrev good : {A : Type 0} → A → Result A PlanKind
@@ -30,7 +30,7 @@ pub weak_refused : (plan : PlanLines) (words : List (List ℕ)) (chip : ChipLine
 unfolding weak_line weak_form weak_words
 weak_refused plan words chip w0 w1 w2 w3 weak kind e0 e1 e2 e3 e4 e5 broken =
     rw (e0, e1, e2, e3, e4, e5) (two_broken (ltb weak.at (place_count chip.geometry weak.kind)) (not (is_weak chip weak.kind weak.at))
-    OutOfChip Overlap kind (with_defect (WeakAt weak) plan) broken)
+    OutOfChip Overlap kind (with_detail (WeakAt weak) plan) broken)
 
 two_good : {A : Type 0} (a b : Bool) (k l : PlanKind) (x : A) → (rule a k >>= λ (u : Unit {0}). rule b l) ≡ Ok tt →
     (rule a k >>= λ (u : Unit {0}). rule b l >>= λ (u : Unit {0}). good x) ≡ Ok x

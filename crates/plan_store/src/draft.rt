@@ -3,21 +3,22 @@ ghost use Rattle.std.specs.Prelude.{◌≡◌, ◌≤◌, ◌&&◌, ◌||◌, �
 ghost use Rattle.plan_grammar.specs.Limits.{most_chips, most_pages};
 ghost use Rattle.plan_grammar.specs.Rules.{is_empty};
 ghost use Rattle.plan_grammar.specs.Grammar.{no_lines};
-ghost use Rattle.plan_grammar.specs.Hardware.{header_line, controller_line, chip_line, bad_line, weak_line, part_line, is_version, is_hardware, has_chip};
+ghost use Rattle.plan_grammar.specs.Hardware.{header_line, controller_line, chip_line, bad_line, weak_line, bus_line, part_line, is_version, is_hardware, has_chip};
 ghost use Rattle.std.specs.Option.{option_copied, option_map};
 ghost use Rattle.plan_grammar.specs.Devices.{data_named, device_at};
+ghost use Rattle.plan_grammar.specs.Faults.{chip_at};
 ghost use Rattle.plan_index.specs.Devices.{size_of};
 ghost use Rattle.plan_words.specs.Answer.{Answers};
 
 use crate::commands::size_at;
-use crate::faults::page_count;
+use crate::faults::{chip_at, page_count};
 use crate::geometry::sizes;
 use crate::hardware::HardwareIndex;
 use crate::places::{has_chip, is_hardware, last_chip, last_chips, open_chip, rule};
 use nand_model::{Geometry, ItemList, Weak};
 use plan_costs::CostIndex;
-use plan_grammar::{ChipLines, DataLine, DefectLine, PlanKind, PlanLines};
-use plan_index::{ChipMarks, DataIndex, DeviceSize, add_chip, add_defect, add_part};
+use plan_grammar::{ChipLines, DataLine, DetailLine, PlanKind, PlanLines};
+use plan_index::{ChipMarks, DataIndex, DeviceSize, add_chip, add_detail, add_part};
 use plan_words::{
     LineError, Words, four_words, one_word, small_number, small_numbers, tear, two_words, weak_kind,
 };
@@ -88,6 +89,14 @@ impl PlanDraft {
         Some(self.lines.payloads.get(at.place))
     }
 
+    /// Lends the lines of a chip of a controller, both counted from 0. None comes exactly where there
+    /// is no such chip.
+    pub fn chip(&self, controller: u64, chip: u64) -> Option<&ChipLines>
+        ensures { option_copied result ≡ chip_at self.now (controller, chip) }
+    {
+        chip_at(&self.lines, controller, chip)
+    }
+
     /// Lends what commands need of the device of a number, counted from 0. None comes exactly where
     /// there is no such device.
     pub fn device(&self, dev: u64) -> Option<&DeviceSize>
@@ -142,7 +151,7 @@ impl PlanDraft {
         rule(chip_fits(chips, hardware.pages), PlanKind::TooLarge)?;
         let chip = ChipLines {
             geometry,
-            defects: ItemList::new(alloc),
+            details: ItemList::new(alloc),
             parts: ItemList::new(alloc),
         };
         hardware.marks = ChipMarks::new(alloc, &chip)?;
@@ -172,7 +181,7 @@ impl PlanDraft {
         rule(!words.is_empty(), PlanKind::BadWords)?;
         let blocks = small_numbers(alloc, words)?;
         hardware.marks = hardware.marks.add_bad(chip, &blocks)?;
-        add_defect(&mut lines, DefectLine::Bad(blocks))?;
+        add_detail(&mut lines, DetailLine::Bad(blocks))?;
         Ok(PlanDraft {
             lines,
             hardware,
@@ -204,7 +213,32 @@ impl PlanDraft {
             tear: tear(alloc, torn)?,
         };
         hardware.marks = hardware.marks.add_weak(chip, &weak)?;
-        add_defect(&mut lines, DefectLine::Weak(weak))?;
+        add_detail(&mut lines, DetailLine::Weak(weak))?;
+        Ok(PlanDraft {
+            lines,
+            hardware,
+            flips,
+            data,
+            costs,
+        })
+    }
+
+    /// `bus`, after a chip, before its parts, at most once.
+    #[tactic(auto, unfolding(plan_grammar::specs::Hardware::bus_line))]
+    pub fn bus_line(self, words: Words<'_>) -> Result<PlanDraft, LineError>
+        ensures { Answers result (bus_line self words.entry) }
+    {
+        let PlanDraft {
+            mut lines,
+            mut hardware,
+            flips,
+            data,
+            costs,
+        } = self;
+        let chip = open_chip(&lines)?;
+        rule(words.is_empty(), PlanKind::BadWords)?;
+        hardware.marks = hardware.marks.add_bus(chip)?;
+        add_detail(&mut lines, DetailLine::Bus)?;
         Ok(PlanDraft {
             lines,
             hardware,

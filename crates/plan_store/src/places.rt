@@ -52,7 +52,7 @@ pub fn last_chip(lines: &PlanLines) -> Result<&ChipLines, PlanKind>
     last(chips).ok_or(PlanKind::WrongPlace)
 }
 
-/// The chip whose lines of bad blocks and weak places may stand here.
+/// The chip of which lines may tell more here.
 #[tactic(auto, unfolding(plan_grammar::specs::Hardware::open_chip))]
 pub fn open_chip(lines: &PlanLines) -> Result<&ChipLines, PlanKind>
     ensures { MatchResult result (λ chip. open_chip lines.now ≡ Ok chip.now)

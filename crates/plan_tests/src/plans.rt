@@ -31,6 +31,7 @@ const OF_HEADERS: &str = "line 1: Ended<|\
 const OF_CONTROLLERS: &str = "line 3: WrongPlace<controller x|\
     line 3: WrongPlace<boot|\
     line 3: WrongPlace<bad 1|\
+    line 3: WrongPlace<bus|\
     line 3: BadWords<chip 2048 64 64 16 4|\
     line 3: BadNumber<chip 2048 64 64 16 4 x|\
     line 3: BadNumber<chip 2048 64 64 4294967296 4 0|\
@@ -48,12 +49,15 @@ const OF_CHIPS: &str = "line 4: BadWords<controller x|\
     line 4: BadNumber<weak program x 1 none|\
     line 4: OutOfChip<weak program 1024 0 none|\
     line 5: Overlap<weak erase 1 0 none\nweak erase 1 1 all|\
+    line 4: BadWords<bus x|\
+    line 6: BadWords<bus\nbad 1\nbus|\
     line 4: BadWords<part 0|\
     line 4: BadNumber<part 0 x|\
     line 4: OutOfChip<part 8 16|\
     line 4: OutOfChip<part 16 0|\
     line 5: Overlap<part 0 8\npart 7 1|\
     line 5: WrongPlace<part 0 8\nbad 1|\
+    line 5: WrongPlace<part 0 8\nbus x|\
     line 4: BadWords<data d|\
     line 4: BadWords<data 1d hex:0|\
     line 4: BadNumber<data d hex:0|\
@@ -136,11 +140,12 @@ fn refuses_by_the_first_broken_rule(rt: HostRuntime) -> Result<(), Fail> {
     Ok(())
 }
 
-const TEXT: &str = "nandlab 1 # small\ncontroller\nchip 2048 64 64 0x10 4 2\npart 2 0\n\n\
+const TEXT: &str =
+    "nandlab 1 # small\ncontroller\nchip 2048 64 64 0x10 4 2\nbus # by cycles\npart 2 0\n\n\
     data d hex:Ff fill:00:03\nboot\nflip 00.0 1 2 3\nsession 0\n\
     nandwrite -s 2048 -p mtd0 d\nschedule 0 00";
 
-const CANONICAL: &str = "nandlab 1\ncontroller\nchip 2048 64 64 16 4 2 3\npart 2 14\n\
+const CANONICAL: &str = "nandlab 1\ncontroller\nchip 2048 64 64 16 4 2 3\nbus\npart 2 14\n\
     data d hex:ff fill:00:3\nboot\nflip 0.0 1 2 3\nsession 0\n\
     nandwrite -p -s 2048 mtd0 d\nschedule 0 0\n";
 
@@ -184,7 +189,7 @@ fn chip_count(alloc: Global, plan: &Plan, controller: u32) -> Result<usize, Allo
 
 const TWO_CONTROLLERS: &str = "nandlab 1\n\
     controller\nchip 2048 64 64 8 4 0\npart 0 2\npart 2 0\n\
-    controller\nchip 2048 64 64 8 4 0\nchip 2048 64 64 16 4 0\nbad 9\npart 4 3\n\
+    controller\nchip 2048 64 64 8 4 0\nchip 2048 64 64 16 4 0\nbad 9\nbus\npart 4 3\n\
     boot\nflip 0.0 1 2 3\nflip 1.1 5 7 9 10\n\
     session 1\nisbad mtd2 1\nsession 0\nstats mtd1\nsession 1\nstats mtd2\nmarkbad mtd2 2\n";
 
@@ -228,6 +233,26 @@ fn has_its_commands(part: &ControllerBoot) -> bool {
 #[test]
 fn gives_new_chips(rt: HostRuntime) -> Result<(), Fail> {
     assert_eq!(rt; chips_and_flips(rt.alloc())?, Some((1, 2, 2)));
+    Ok(())
+}
+
+// Which chips of the plan are behind a bus: its three chips, and one that is not there.
+fn buses(alloc: Global) -> Result<Option<[bool; 4]>, AllocError> {
+    let Ok(plan) = read_plan(alloc, TWO_CONTROLLERS.as_bytes()) else {
+        return Ok(None);
+    };
+    Ok(Some([
+        plan.on_bus(0, 0),
+        plan.on_bus(1, 0),
+        plan.on_bus(1, 1),
+        plan.on_bus(2, 1),
+    ]))
+}
+
+#[test]
+fn tells_which_chips_are_behind_a_bus(rt: HostRuntime) -> Result<(), Fail> {
+    let want = Some([false, false, true, false]);
+    assert_eq!(rt; buses(rt.alloc())?, want);
     Ok(())
 }
 

@@ -1,7 +1,7 @@
 // The text of a plan with lines of each kind.
 use nand_model::{BadMode, Bytes, CutAt, Flip, Geometry, ItemList, Tear, Weak, WeakKind};
 use plan_grammar::{
-    BootLines, ChipLines, CommandLine, DataLine, DefectLine, FaultLine, PartLine, Piece, PlanLines,
+    BootLines, ChipLines, CommandLine, DataLine, DetailLine, FaultLine, PartLine, Piece, PlanLines,
     SessionLines,
 };
 use plan_print::put_lines;
@@ -13,6 +13,7 @@ controller
 chip 2048 64 64 16 4 1 3
 bad 3 12
 weak erase 5 0 seed:7
+bus
 part 0 16
 data img fill:0f:4096 seed:18446744073709551615:3 hex:00ab
 boot
@@ -29,11 +30,11 @@ stats mtd0
 schedule 0 0
 ";
 
-// A chip with bad blocks and a weak place.
+// A chip behind a bus, with bad blocks and a weak place.
 fn chip(alloc: Global) -> Result<ChipLines, Fail> {
     let geometry = Geometry::new(2048, 64, 64, 16, 4, 1, 0)?;
-    let bad = DefectLine::Bad(ItemList::from_vec(vec![in alloc; 3, 12]?));
-    let weak = DefectLine::Weak(Weak {
+    let bad = DetailLine::Bad(ItemList::from_vec(vec![in alloc; 3, 12]?));
+    let weak = DetailLine::Weak(Weak {
         kind: WeakKind::Erase,
         at: 5,
         after: 0,
@@ -45,7 +46,7 @@ fn chip(alloc: Global) -> Result<ChipLines, Fail> {
     };
     Ok(ChipLines {
         geometry,
-        defects: ItemList::from_vec(vec![in alloc; bad, weak]?),
+        details: ItemList::from_vec(vec![in alloc; bad, weak, DetailLine::Bus]?),
         parts: ItemList::from_vec(vec![in alloc; part]?),
     })
 }

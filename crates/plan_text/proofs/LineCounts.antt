@@ -8,12 +8,12 @@ use Rattle.plan_model.specs.Plan.{BootPlan}
 use Rattle.plan_grammar.specs.declared.lines.PlanLines.{PlanLines}
 use Rattle.plan_grammar.specs.declared.lines.ChipLines.{ChipLines}
 use Rattle.plan_grammar.specs.declared.lines.BootLines.{BootLines}
-use Rattle.plan_grammar.specs.declared.lines.DefectLine.{DefectLine}
-use Rattle.plan_grammar.specs.declared.lines.DefectLine.TheVariants.{Bad, Weak as WeakAt}
+use Rattle.plan_grammar.specs.declared.lines.DetailLine.{DetailLine}
+use Rattle.plan_grammar.specs.declared.lines.DetailLine.TheVariants.{Bad, Weak as WeakAt, Bus}
 use Rattle.plan_grammar.specs.declared.lines.FaultLine.{FaultLine}
 use Rattle.plan_grammar.specs.declared.lines.FaultLine.TheVariants.{Flip, Cut}
 use Rattle.plan_grammar.specs.Limits.{most_bytes, most_flips}
-use Rattle.plan_grammar.specs.Canonical.{boot_lines, canonical_words, chip_lines, controller_lines, data_words, defect_words, fault_words, header_lines, part_words, schedule_lines, session_lines}
+use Rattle.plan_grammar.specs.Canonical.{boot_lines, canonical_words, chip_lines, controller_lines, data_words, detail_words, fault_words, header_lines, part_words, schedule_lines, session_lines}
 use Rattle.plan_grammar.specs.Devices.{is_same_kind, weak_in}
 use Rattle.plan_grammar.specs.Faults.{flips_of, is_flip}
 use Rattle.plan_grammar.specs.Meaning.{boot_plan, chip_plan, cuts_in, flips_in, plan_of}
@@ -66,15 +66,16 @@ pub cuts_counted : (plan : PlanLines) → sum_by cuts_of plan.boots ≡ cut_coun
 cuts_counted plan = sym (all_cuts_are plan plan.boots)
 
 module _ (kind : WeakKind) where
-  weak_are : (defects : List DefectLine) → count_by (λ (w : Weak). is_same_kind w.kind kind) (flat_map weak_in defects) ≡ count_by (is_weak_line kind) defects
+  weak_are : (details : List DetailLine) → count_by (λ (w : Weak). is_same_kind w.kind kind) (flat_map weak_in details) ≡ count_by (is_weak_line kind) details
   weak_are [] = refl
-  weak_are (Bad blocks ∷ defects) = omega (arith, sum_by-cons (λ (d : DefectLine). cond (is_weak_line kind d) 1 0) (Bad blocks) defects, weak_are defects)
-  weak_are (WeakAt weak ∷ defects) =
+  weak_are (Bad blocks ∷ details) = omega (arith, sum_by-cons (λ (d : DetailLine). cond (is_weak_line kind d) 1 0) (Bad blocks) details, weak_are details)
+  weak_are (Bus ∷ details) = omega (arith, sum_by-cons (λ (d : DetailLine). cond (is_weak_line kind d) 1 0) Bus details, weak_are details)
+  weak_are (WeakAt weak ∷ details) =
       omega (
         arith,
-        sum_by-cons (λ (d : DefectLine). cond (is_weak_line kind d) 1 0) (WeakAt weak) defects,
-        sum_by-cons (λ (w : Weak). cond (is_same_kind w.kind kind) 1 0) weak (flat_map weak_in defects),
-        weak_are defects,
+        sum_by-cons (λ (d : DetailLine). cond (is_weak_line kind d) 1 0) (WeakAt weak) details,
+        sum_by-cons (λ (w : Weak). cond (is_same_kind w.kind kind) 1 0) weak (flat_map weak_in details),
+        weak_are details,
       )
 
   weak_chips_are : (chips : List ChipLines) → sum_by (weak_on kind) (map chip_plan chips) ≡ sum_by (weak_lines kind) chips
@@ -84,7 +85,7 @@ module _ (kind : WeakKind) where
         arith,
         sum_by-cons (weak_on kind) (chip_plan chip) (map chip_plan chips),
         sum_by-cons (weak_lines kind) chip chips,
-        weak_are chip.defects,
+        weak_are chip.details,
         weak_chips_are chips,
       )
 
@@ -108,9 +109,9 @@ module _ (kind : WeakKind) where
   weak_have_lines chip =
       omega (
         arith,
-        count_by-le-length (is_weak_line kind) chip.defects,
-        length-append (map defect_words chip.defects) (map part_words chip.parts),
-        length_map defect_words chip.defects,
+        count_by-le-length (is_weak_line kind) chip.details,
+        length-append (map detail_words chip.details) (map part_words chip.parts),
+        length_map detail_words chip.details,
       )
 
   weak_of_chips : (chips : List ChipLines) → sum_by (weak_lines kind) chips ≤ length (flat_map chip_lines chips)

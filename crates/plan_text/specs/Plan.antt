@@ -1,5 +1,5 @@
 -- What the calls of a plan tell of it as data.
-use Rattle.std.specs.Prelude.{◌≡◌, ℕ, true, ◌^◌, ◌<◌, List, [], length, map, slice_get, slice_index_or, sum_by, count_by, Option, All}
+use Rattle.std.specs.Prelude.{◌≡◌, ℕ, Bool, true, false, ◌^◌, ◌<◌, List, [], length, map, slice_get, slice_index_or, sum_by, count_by, Option, Some, None, All}
 use Rattle.nand_model.specs.declared.words.Command.{Command}
 use Rattle.nand_model.specs.declared.words.Weak.{Weak}
 use Rattle.nand_model.specs.declared.words.WeakKind.{WeakKind}
@@ -12,7 +12,8 @@ use Rattle.plan_grammar.specs.declared.lines.SessionLines.{SessionLines}
 use Rattle.plan_grammar.specs.declared.lines.CommandLine.{CommandLine}
 use Rattle.plan_grammar.specs.Costs.{device_in}
 use Rattle.plan_grammar.specs.Grammar.{IsPlan}
-use Rattle.plan_grammar.specs.Devices.{bad_blocks, is_same_kind, weak_places}
+use Rattle.plan_grammar.specs.Devices.{bad_blocks, has_bus, is_same_kind, weak_places}
+use Rattle.plan_grammar.specs.Faults.{chip_at}
 use Rattle.plan_grammar.specs.Meaning.{command_of}
 use Rattle.plan_laws.specs.Ready.{boot_at}
 
@@ -68,6 +69,15 @@ IsOfBytes plan = (bytes : List ℕ) × IsPlan bytes plan
 pub record IsKept (plan : PlanLines) (commands : List (List (List Command))) : Type 0 where
   pub read : IsOfBytes plan
   pub commands_are : commands ≡ all_commands plan
+
+-- a chip that may be there is behind a bus
+abbrev pub is_behind_bus : Option ChipLines → Bool
+is_behind_bus None = false
+is_behind_bus (Some chip) = has_bus chip
+
+-- chip K of controller C is behind a bus
+abbrev pub on_bus : PlanLines → (controller chip : ℕ) → Bool
+on_bus plan c k = is_behind_bus (chip_at plan (c, k))
 
 -- a chip that can be made: its bad blocks are there, and no two of its weak places are the same
 abbrev pub IsMadeChip : ChipLines → Type 0

@@ -3,17 +3,17 @@ ghost use Rattle.std.specs.Prelude.{◌≡◌, ◌<◌, ◌++◌, length, map, A
 ghost use Rattle.chip_sim.specs.State.{sim_state};
 ghost use Rattle.nand_model.specs.Chip.{new_chip};
 ghost use Rattle.plan_model.specs.Plan.{new_chips};
-ghost use Rattle.plan_grammar.specs.Devices.{bad_blocks, weak_places};
+ghost use Rattle.plan_grammar.specs.Devices.{bad_blocks, has_bus, weak_places};
 ghost use Rattle.plan_grammar.specs.Meaning.{chip_plan, plan_of};
 ghost use Rattle.plan_laws.specs.Ready.{chips_at};
-ghost use Rattle.plan_text.specs.Plan.{IsMadeChip};
+ghost use Rattle.plan_text.specs.Plan.{IsMadeChip, on_bus};
 
 use crate::faults::copy_of_tear;
 use crate::plan::Plan;
 use chip_sim::SimChip;
 use fault_plan::{Weak, WeakList};
 use nand_model::{BlockList, ItemList};
-use plan_grammar::{ChipLines, DefectLine};
+use plan_grammar::{ChipLines, DetailLine};
 use std::alloc::{AllocError, Global};
 use tool_steps::FlashList;
 
@@ -32,8 +32,8 @@ fn bad_blocks(alloc: Global, chip: &ChipLines) -> Result<BlockList, AllocError>
     ensures { IfOk result (λ bad. bad ≡ bad_blocks chip.now) }
 {
     let mut bad = BlockList::new(alloc);
-    for defect in &chip.defects {
-        if let DefectLine::Bad(blocks) = defect {
+    for detail in &chip.details {
+        if let DetailLine::Bad(blocks) = detail {
             put_blocks(&mut bad, blocks)?;
         }
     }
@@ -57,12 +57,21 @@ fn weak_places(alloc: Global, chip: &ChipLines) -> Result<WeakList, AllocError>
     ensures { IfOk result (λ weak. weak ≡ weak_places chip.now) }
 {
     let mut places = WeakList::new(alloc);
-    for defect in &chip.defects {
-        if let DefectLine::Weak(weak) = defect {
+    for detail in &chip.details {
+        if let DetailLine::Weak(weak) = detail {
             places.push(copy_of_weak(alloc, weak)?)?;
         }
     }
     Ok(places)
+}
+
+// Whether a chip is behind a bus.
+fn has_bus(chip: &ChipLines) -> bool
+    ensures { result ≡ has_bus chip.now }
+{
+    chip.details
+        .iter()
+        .any(|detail| matches!(detail, DetailLine::Bus))
 }
 
 // A new chip.
@@ -96,5 +105,15 @@ impl Plan {
     {
         let _kept = &self.commands;
         new_chips(alloc, self.lines().controllers.get(controller as usize))
+    }
+
+    /// Whether a chip of a controller is behind a bus. A chip that is not there is not.
+    pub fn on_bus(&self, controller: u32, chip: u32) -> bool
+        ensures { result ≡ on_bus self.now controller chip }
+    {
+        match self.draft.chip(u64::from(controller), u64::from(chip)) {
+            Some(chip) => has_bus(chip),
+            None => false,
+        }
     }
 }

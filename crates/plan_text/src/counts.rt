@@ -8,7 +8,7 @@ ghost use Rattle.plan_text.specs.Plan.{cut_count, flip_count, weak_count};
 
 use crate::plan::Plan;
 use nand_model::{ItemList, WeakKind};
-use plan_grammar::{BootLines, ChipLines, DefectLine, FaultLine};
+use plan_grammar::{BootLines, ChipLines, DetailLine, FaultLine};
 
 // The flip lines of a boot.
 fn flips_of(boot: &BootLines) -> usize
@@ -55,12 +55,12 @@ fn all_cuts(boots: &ItemList<BootLines>) -> usize
 }
 
 // Whether a line is a weak place of this kind.
-fn is_weak_line(kind: WeakKind, defect: &DefectLine) -> bool
-    ensures { result ≡ is_weak_line kind defect.now }
+fn is_weak_line(kind: WeakKind, detail: &DetailLine) -> bool
+    ensures { result ≡ is_weak_line kind detail.now }
 {
-    match defect {
-        DefectLine::Bad(_) => false,
-        DefectLine::Weak(weak) => weak.kind == kind,
+    match detail {
+        DetailLine::Bad(_) | DetailLine::Bus => false,
+        DetailLine::Weak(weak) => weak.kind == kind,
     }
 }
 
@@ -68,9 +68,9 @@ fn is_weak_line(kind: WeakKind, defect: &DefectLine) -> bool
 fn weak_lines(kind: WeakKind, chip: &ChipLines) -> usize
     ensures { result ≡ weak_lines kind chip.now }
 {
-    chip.defects
+    chip.details
         .iter()
-        .filter(|defect| is_weak_line(kind, defect))
+        .filter(|detail| is_weak_line(kind, detail))
         .count()
 }
 

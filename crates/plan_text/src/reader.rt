@@ -35,6 +35,7 @@ fn add_kind(
         LineKind::Chip => draft.chip_line(alloc, words),
         LineKind::Bad => draft.bad_line(alloc, words),
         LineKind::Weak => draft.weak_line(alloc, words),
+        LineKind::Bus => draft.bus_line(words),
         LineKind::Part => draft.part_line(words),
         LineKind::Data => draft.data_line(alloc, words),
         LineKind::Boot => draft.boot_line(alloc, words),

@@ -5,15 +5,15 @@ use Rattle.ctl_core.specs.Start.{CanStart}
 use Rattle.plan_grammar.specs.Meaning.{plan_of}
 use Rattle.plan_laws.specs.Ready.{boot_at, chips_at}
 use Rattle.ctl_core.specs.Start.{HasSession}
-use Rattle.chip_sim.specs.State.{sim_state}
+use Rattle.onfi_bus.specs.Lab.{lab_state}
 use Rattle.plan_replay.proofs.Own.{own_turns}
 use Rattle.plan_replay.proofs.Starts.{can_start}
 use Rattle.plan_replay.proofs.controller.replayed.Goals as goal
 
 pub start-requires : goal.start-requires
 start-requires c =
-    subst (λ part. CanStart {W = SimFaults} part (map sim_state c.args.flashes)) (sym c.in_ok-part.ensures)
-    (can_start c.args.plan.now c.args.boot c.args.controller (map sim_state c.args.flashes) c.was_read.ensures c.requires.boots c.requires.controllers
+    subst (λ part. CanStart {W = SimFaults} part (map lab_state c.args.flashes)) (sym c.in_ok-part.ensures)
+    (can_start c.args.plan.now c.args.boot c.args.controller (map lab_state c.args.flashes) c.was_read.ensures c.requires.boots c.requires.controllers
     c.requires.sizes)
 
 pub replay-requires-clause-own : goal.replay-requires-clause-own

@@ -5,5 +5,5 @@ use Rattle.plan_grammar.specs.Devices.{bad_in, bad_blocks}
 use Rattle.plan_text.proofs.chips.bad_blocks.Given as goal
 
 -- the blocks so far and what is left make the whole
-abbrev pub invariant-loop-defect : goal.invariant-loop-defect
-invariant-loop-defect l = l.bad ++ flat_map bad_in (deque_iter_rest l.defect-iterator) ≡ bad_blocks l.chip
+abbrev pub invariant-loop-detail : goal.invariant-loop-detail
+invariant-loop-detail l = l.bad ++ flat_map bad_in (deque_iter_rest l.detail-iterator) ≡ bad_blocks l.chip

@@ -15,9 +15,9 @@ returns-in-Some c =
     × HasRun c.args.self.used.items c.in-Some.used.items c.args.start (c.args.start + n)) in_force c.in-Some.ensures in
     let same : ◌≡◌ {A = PartLine} (record { start = c.args.start; count = c.count_in_force-count.result }) (part_in_force chip c.args.start c.args.count) =
     ap (λ (n : ℕ). record { start = c.args.start; count = n }) in_force in
-    let new : ChipMarks = record { bad = c.args.self.bad; programs = c.args.self.programs; erases = c.args.self.erases; used = c.in-Some.used; weak_programs = c.args.self.weak_programs } in
+    let new : ChipMarks = record { bad = c.args.self.bad; programs = c.args.self.programs; erases = c.args.self.erases; used = c.in-Some.used; weak_programs = c.args.self.weak_programs; bus = c.args.self.bus } in
     let done = marked_part chip c.args.self new
-    c.args.start c.args.count c.requires (omega arith) (omega arith) run.0 run.1 run.2 refl refl refl refl in
+    c.args.start c.args.count c.requires (omega arith) (omega arith) run.0 run.1 run.2 refl refl refl refl refl in
     (done.0, same, subst (λ (p : PartLine). IsMarked (with_part_line p chip) new) (sym same) done.1)
 
 pub returns-in-None : goal.returns-in-None

@@ -25,5 +25,5 @@ returns c = λ weak kind at.
     let stored = with_items_is c.args.self.erases c.take_place.new.flags as_long ∙ taken in (
       weak_kept c.args.chip.now weak (subst (λ (k : WeakKind). ltb weak.at (place_count c.args.chip.now.geometry k) ≡ true) (sym kind) (lt-ltb _ _ there))
           (subst (λ (k : WeakKind). not (is_weak c.args.chip.now k weak.at) ≡ true) (sym kind) (subst (λ b. not b ≡ true) (m.erases.flag_is weak.at) free)),
-      marked_block c.args.chip.now c.args.self _ weak m kind there refl refl stored refl refl,
+      marked_block c.args.chip.now c.args.self _ weak m kind there refl refl stored refl refl refl,
     )

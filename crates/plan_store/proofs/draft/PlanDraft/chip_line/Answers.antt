@@ -23,7 +23,7 @@ invariant_of-result c =
       marks = c.in_ok-hardware.field-0;
       devices = c.self.inside.hardware.devices;
     } in
-    let chip : ChipLines = record { geometry = c.in_ok-geometry.geometry; defects = c.new.result; parts = c.new-2.result } in
+    let chip : ChipLines = record { geometry = c.in_ok-geometry.geometry; details = c.new.result; parts = c.new-2.result } in
     let found = there_found (last_of c.self.inside.lines.controllers) WrongPlace c.in_ok-last_chips.field-0.now c.in_ok-last_chips.ensures in
     let fits : c.chip_fits.result ≡ true = rule_true c.chip_fits.result TooLarge c.in_ok-rule-3.field-0 (sym c.in_ok-rule-3.ensures) in
     let both = and_parts (ltb c.len-chips.result most_chips) (leb new.pages most_pages) (sym c.chip_fits.ensures ∙ fits) in

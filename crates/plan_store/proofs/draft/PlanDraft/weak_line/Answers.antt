@@ -1,6 +1,6 @@
 use Rattle.std.proofs.Common.{◌≡◌, Err, refl, sym, ◌∙◌, subst}
 use Rattle.plan_grammar.specs.declared.lines.PlanLines.{PlanLines}
-use Rattle.plan_grammar.specs.declared.lines.DefectLine.TheVariants.{Weak as WeakAt}
+use Rattle.plan_grammar.specs.declared.lines.DetailLine.TheVariants.{Weak as WeakAt}
 use Rattle.plan_grammar.specs.Hardware.{weak_line}
 use Rattle.plan_store.specs.declared.hardware.HardwareIndex.{HardwareIndex}
 use Rattle.plan_store.specs.FlipCount.{AreFlips}
@@ -9,7 +9,7 @@ use Rattle.plan_costs.specs.Costs.{AreCosts}
 use Rattle.plan_costs.proofs.Boots.{costs_of_none}
 use Rattle.plan_store.specs.SessionCount.{HaveFewSessions}
 use Rattle.plan_store.specs.Hardware.{HardwareInStep}
-use Rattle.plan_store.proofs.Controllers.{marks_of, open_at, step_defect}
+use Rattle.plan_store.proofs.Controllers.{marks_of, open_at, step_detail}
 use Rattle.std.proofs.lemmas.Result.{err_from_is_err_and}
 use Rattle.plan_store.proofs.Refused.{weak_refused}
 use Rattle.plan_store.proofs.Found.{open_none, open_found}
@@ -38,14 +38,14 @@ invariant_of-result c =
       devices = c.self.inside.hardware.devices;
     } in
     record {
-      flips = subst (λ (plan : PlanLines). AreFlips plan.boots c.self.inside.flips) (sym c.in_ok-add_defect.ensures) c.self.invariant.flips;
-      sessions = subst (λ (plan : PlanLines). HaveFewSessions plan.boots) (sym c.in_ok-add_defect.ensures) c.self.invariant.sessions;
-      payloads = subst (λ (plan : PlanLines). AreData plan.payloads c.self.inside.data) (sym c.in_ok-add_defect.ensures) c.self.invariant.payloads;
+      flips = subst (λ (plan : PlanLines). AreFlips plan.boots c.self.inside.flips) (sym c.in_ok-add_detail.ensures) c.self.invariant.flips;
+      sessions = subst (λ (plan : PlanLines). HaveFewSessions plan.boots) (sym c.in_ok-add_detail.ensures) c.self.invariant.sessions;
+      payloads = subst (λ (plan : PlanLines). AreData plan.payloads c.self.inside.data) (sym c.in_ok-add_detail.ensures) c.self.invariant.payloads;
       costs =
           let none = open_none c.self.inside.lines c.in_ok-chip.chip.now c.in_ok-chip.ensures in
-          subst (λ (plan : PlanLines). AreCosts plan c.self.inside.costs) (sym c.in_ok-add_defect.ensures)
+          subst (λ (plan : PlanLines). AreCosts plan c.self.inside.costs) (sym c.in_ok-add_detail.ensures)
           (costs_of_none c.self.inside.lines _ c.self.inside.costs none none c.self.invariant.costs);
-      hardware = subst (λ (plan : PlanLines). HardwareInStep plan.controllers new) (sym c.in_ok-add_defect.ensures)
-          (step_defect c.self.inside.lines.controllers c.self.inside.hardware new h.0.chips c.in_ok-chip.chip.now (WeakAt _)
+      hardware = subst (λ (plan : PlanLines). HardwareInStep plan.controllers new) (sym c.in_ok-add_detail.ensures)
+          (step_detail c.self.inside.lines.controllers c.self.inside.hardware new h.0.chips c.in_ok-chip.chip.now (WeakAt _)
           c.self.invariant.hardware h.0.controller_is h.0.chip_is h.1 c.in_ok-hardware.ensures.1 refl refl);
     }
