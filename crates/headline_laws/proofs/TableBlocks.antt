@@ -1,6 +1,6 @@
 -- A plan that was read leaves each chip with tables two good blocks among its last four.
 use Rattle.std.proofs.Common.{◌≡◌, ◌≤◌, ◌+◌, ◌-◌, ℕ, true, not, cond, List, [], ◌∷◌, ap, sym, ◌∙◌, arith, inl, inr, ◌⊎◌}
-use Rattle.std.specs.Prelude.{count_by, sum_by, nat_le, ◌==◌}
+use Rattle.std.specs.Prelude.{count_by, sum_by, nat_le, ◌==◌, All}
 use Rattle.std.proofs.lemmas.Bool.{false≢true, leb-true, or_cases}
 use Rattle.std.proofs.lemmas.List.Sums.{sum_by-cons}
 use Rattle.nand_model.specs.Table.{table_blocks}
@@ -9,6 +9,10 @@ use Rattle.nand_model.specs.declared.geometry.Geometry.{Geometry}
 use Rattle.plan_grammar.specs.Devices.{bad_table_blocks, has_number}
 use Rattle.plan_grammar.specs.Hardware.{leaves_table_blocks}
 use Rattle.plan_grammar.specs.Limits.{most_bad_table_blocks}
+use Rattle.plan_laws.proofs.Lists.{all_at}
+use Rattle.plan_laws.specs.Within.{AreGoodChips, IsGoodChip, IsWithinLimits}
+use Rattle.plan_model.specs.Plan.{ChipPlan, PlanData}
+use Rattle.headline_laws.specs.TableBlocks.{HaveTableBlocks}
 use Rattle.run_model.specs.Run.{HasTableBlocks}
 
 four_counted : (f : ℕ → ℕ) (a b c d : ℕ) → sum_by f (a ∷ b ∷ c ∷ d ∷ []) ≡ f a + (f b + (f c + (f d + sum_by f [])))
@@ -44,3 +48,10 @@ blocks_left g bad left tables = by_case (or_cases (g.bbt == 0) (nat_le (bad_tabl
         let same = same_blocks g bad (omega (arith, low)) in
         let most = leb-true (bad_table_blocks g bad) most_bad_table_blocks few in
         omega (arith, same, most)
+
+-- and so each chip of a plan within its limits
+pub plan_blocks_left : (plan : PlanData) → IsWithinLimits plan → HaveTableBlocks plan
+plan_blocks_left plan within c k chips chip at_c at_k =
+    let own : AreGoodChips chips = all_at AreGoodChips plan.controllers c chips at_c within.chips in
+    let good : IsGoodChip chip = all_at IsGoodChip chips k chip at_k own.good in
+    blocks_left chip.geometry chip.bad good.tables

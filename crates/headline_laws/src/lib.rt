@@ -12,6 +12,7 @@ ghost use Rattle.command_model.specs.Command.{script_of};
 ghost use Rattle.command_model.specs.Boot.{AreAscending};
 ghost use Rattle.plan_model.specs.Plan.{BootPlan, ChipPlan, PlanData, boot_part, new_chips};
 ghost use Rattle.plan_grammar.specs.Hardware.{leaves_table_blocks};
+ghost use Rattle.plan_laws.specs.Within.{IsWithinLimits};
 ghost use Rattle.report_model.specs.Report.{report_text};
 ghost use Rattle.headline_model.specs.Headline.{
   AreReplay,
@@ -28,6 +29,7 @@ ghost use Rattle.headline_model.specs.Headline.{
 };
 ghost use Rattle.run_laws.specs.Replay.{IsReplayed, rounds_after, session_numbers};
 ghost use Rattle.headline_laws.specs.Bodies.{WritesBodies};
+ghost use Rattle.headline_laws.specs.TableBlocks.{HaveTableBlocks};
 ghost use Rattle.headline_laws.specs.Replays.{
   AreReplaysOfAll,
   AreReplaysOfBoots,
@@ -96,10 +98,12 @@ pub fn commands_write_whole_bodies()
 {}
 
 /// The rule of plans on bad blocks is what the laws of marks ask of a chip: with tables, at most
-/// two of its last four blocks are factory-bad.
+/// two of its last four blocks are factory-bad. So it holds of each chip of a plan within its
+/// limits.
 pub fn plans_leave_table_blocks()
-    ensures { (g : Geometry) (bad : List ℕ) → leaves_table_blocks g bad ≡ true →
+    ensures chip { (g : Geometry) (bad : List ℕ) → leaves_table_blocks g bad ≡ true →
         HasTableBlocks g bad }
+    ensures plan { (plan : PlanData) → IsWithinLimits plan → HaveTableBlocks plan }
 {}
 
 /// Each boot of a controller's replays begins with chips of the plan's sizes.
