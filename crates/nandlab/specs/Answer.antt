@@ -2,6 +2,7 @@
 use Rattle.std.specs.Prelude.{◌≡◌, ℕ, List, ◌++◌, take, Option, Some, None, ⊤}
 use Rattle.nand_model.specs.Counts.{HasRisen}
 use Rattle.headline_model.specs.Headline.{IsReplayOf}
+use Rattle.headline_laws.specs.TableBlocks.{HaveTableBlocks}
 use Rattle.plan_grammar.specs.Grammar.{IsPlan, IsRefused}
 use Rattle.plan_grammar.specs.Canonical.{canonical_text}
 use Rattle.plan_grammar.specs.Meaning.{plan_of}
@@ -19,9 +20,26 @@ use Rattle.nandlab.specs.declared.status.Status.TheVariants.{Fine, Usage, PlanRe
 abbrev pub AreSomePlan : List ℕ → Type 0
 AreSomePlan bytes = (plan : PlanLines) × IsPlan bytes plan
 
--- they are, and the text is the report of its replay
+-- They are, and the text is the report of the plan's replay. This is the headline, whose clauses are
+-- these parts:
+--
+--   For every plan,                              IsPlan, and HaveTableBlocks: at most two of the
+--                                                last four blocks of a chip with tables are bad
+--   the report gives for each controller         IsReplayOf: `printed`, of the courses of the
+--                                                plan's replay; it has no other (`only`)
+--   a history in which each session's            `histories`: `history`, by `in_order` and
+--   operations stand once and in order,          `complete`,
+--   with the replies of one thread;              by `one_thread`, where what befell the chips is
+--                                                that of the controller's page events (`of_logs`)
+--   a programmed page with at most t flips per   `histories`: `reads_back`
+--   step reads back its bytes and exact counts;
+--   and after any cut, rescanning shows bad      `marks`: `marks`, of each attach note of each
+--   every block whose marking was                boot, as far as its own and the earlier attaches
+--   acknowledged, and none beyond factory-bad    were quiet and the torn events before it not foul
+--   ones whose marking had not begun.
 abbrev pub IsReportFor : List ℕ → List ℕ → Type 0
-IsReportFor bytes text = (plan : PlanLines) × IsPlan bytes plan × IsReplayOf (plan_of plan) text
+IsReportFor bytes text =
+    (plan : PlanLines) × IsPlan bytes plan × HaveTableBlocks (plan_of plan) × IsReplayOf (plan_of plan) text
 
 -- the bytes are no plan, and the text says by which line and which kind
 abbrev pub IsNoPlan : List ℕ → List ℕ → Type 0

@@ -1,5 +1,6 @@
 // What is written for a request to the bytes that it is given.
 ghost use Rattle.std.specs.Prelude.{◌≡◌, IfOk, IfErr};
+ghost use Rattle.headline_laws.specs.TableBlocks.{HaveTableBlocks};
 ghost use Rattle.headline_model.specs.Headline.{IsReplayOf};
 ghost use Rattle.plan_grammar.specs.Canonical.{canonical_text};
 ghost use Rattle.plan_grammar.specs.Grammar.{IsPlan};
@@ -36,6 +37,7 @@ fn refusal_text(alloc: Global, line: u32, kind: PlanKind) -> Result<Bytes, Alloc
 // The plan that the bytes are.
 fn plan_read(alloc: Global, bytes: &[u8]) -> Result<Plan, Refusal>
     ensures plan { IfOk result (IsPlan bytes.now) }
+    ensures table_blocks { IfOk result (λ plan. HaveTableBlocks (plan_of plan)) }
     ensures refused { IfErr result (λ refusal. IfText refusal (IsNoPlan bytes.now)) }
 {
     match read_plan(alloc, bytes) {
