@@ -33,7 +33,7 @@ use Rattle.crash_laws.proofs.ChipMoves.{AliveOn, AnyBlock, MemoryOn, Once, Stand
 use Rattle.crash_laws.proofs.Copies.{Moment, Tables, moment, tables_of, whole_copies_hold}
 use Rattle.crash_laws.proofs.Histories.{NoAttach, has_attach, ops_none, parted, trace_none}
 use Rattle.crash_laws.proofs.Tabled.{with_tables}
-use Rattle.copy_laws.specs.Copies.{AttachesFindTwo, FindsBoth, HasFailedForACopy, WritingsEndWhole}
+use Rattle.copy_laws.specs.Copies.{AttachesFindTwo, ComesToTwo, HasFailedForACopy, WritingsEndWhole}
 use Rattle.copy_laws.proofs.Finding.{attach_finds, found_both}
 use Rattle.copy_laws.proofs.Moments.{too_few_follow}
 
@@ -168,7 +168,7 @@ module _ (partitions : Partitions) (news : List (ChipState SimFaults)) (boots : 
           attach_finds sim_faults g t.c t.enough (Shows g (IsIn bad) (Once g m.used) AnyBlock) ((b : ℕ) → Once g m.used b → ⊥) known.table known.version known.places memory.holds (memory.both (omega (arith, two)))
           c.chip (events_in own.life.attach) n.attaching memory.holding own.history.along (sym same.3) n.outcome_is
 
-      found_two : FindsBoth known origin version copies states
+      found_two : ComesToTwo known origin version copies states
       found_two = record {
         origin_is = same.0 ∙ ap (λ (a : Attaching). a.origin) finds;
         version_is = same.1 ∙ ap (λ (a : Attaching). a.version) finds;

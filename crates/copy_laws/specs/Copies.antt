@@ -1,5 +1,5 @@
 -- How many of the two copies of a chip's table are whole, at each moment of a boot, and what the
--- next boot finds of them.
+-- next attach comes to.
 use Rattle.std.specs.Prelude.{◌≡◌, ◌⊎◌, ℕ, ◌+◌, true, IsTrue, List, ◌∷◌, ◌++◌, length, drop, Some, None, slice_get}
 use Rattle.nand_model.specs.Chip.{ChipState, FaultModel, SimFaults, sim_faults}
 use Rattle.nand_model.specs.Partitions.{Partitions}
@@ -74,15 +74,16 @@ WritingsEndWhole =
     HoldsTheTable c.chip known
     ⊎ HasFailedForACopy g k known (course_after sim_faults boot (ends_of news past) attaches taken).notes
 
--- an attach that took the primary and found both copies whole: the table and the version are these
-pub record FindsBoth (known : Known) (origin : Origin) (version copies : ℕ) (states : List ℕ) : Type 0 where
+-- what an attach came to: it took the primary, two copies are whole, and the table and the version
+-- are those that were known
+pub record ComesToTwo (known : Known) (origin : Origin) (version copies : ℕ) (states : List ℕ) : Type 0 where
   pub origin_is : origin ≡ FromPrimary
   pub version_is : version ≡ known.version
   pub copies_are : copies ≡ 2
   pub states_are : states ≡ known.table
 
--- Where such a boot ends at a moment at which two copies are whole and nothing is pending, the next
--- one finds both, if its attach is quiet and comes to its end.
+-- Where such a boot ends at a moment at which two copies are whole and nothing is pending, so does
+-- the attach of the next one, if it is quiet and comes to its end.
 abbrev pub AttachesFindTwo : Type 0
 AttachesFindTwo =
     (partitions : Partitions) (news : List (ChipState SimFaults)) (boots : List Boot) (turns : List (List ℕ))
@@ -95,4 +96,4 @@ AttachesFindTwo =
     (steps : ℕ) (later : List ℕ) (before after : List Note) (origin : Origin) (version copies : ℕ) (states : List ℕ) →
     (course_after sim_faults next (end_states (course_after sim_faults boot (ends_of news past) attaches taken))
     steps later).notes ≡ before ++ Attached k origin version copies true states ∷ after →
-    FindsBoth known origin version copies states
+    ComesToTwo known origin version copies states

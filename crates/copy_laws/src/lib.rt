@@ -34,8 +34,8 @@ pub fn writings_end_whole()
 {}
 
 /// Whenever such a boot ends while the chip is attached, nothing is pending on it and two copies are
-/// whole, the next quiet attach takes the primary, finds both whole, and has the same table and
-/// version.
+/// whole, the next quiet attach takes the primary and comes to two whole copies with the same table
+/// and version.
 pub fn attaches_find_two()
     ensures { AttachesFindTwo }
 {}

@@ -1,6 +1,6 @@
 -- A plan that was read leaves each chip with tables two good blocks among its last four.
 use Rattle.std.proofs.Common.{◌≡◌, ◌≤◌, ◌+◌, ◌-◌, ℕ, true, not, cond, List, [], ◌∷◌, ap, sym, ◌∙◌, arith, inl, inr, ◌⊎◌}
-use Rattle.std.specs.Prelude.{count_by, sum_by, nat_le, ◌==◌, All}
+use Rattle.std.specs.Prelude.{count_by, sum_by, nat_le, ◌==◌}
 use Rattle.std.proofs.lemmas.Bool.{false≢true, leb-true, or_cases}
 use Rattle.std.proofs.lemmas.List.Sums.{sum_by-cons}
 use Rattle.nand_model.specs.Table.{table_blocks}
