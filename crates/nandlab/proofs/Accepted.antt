@@ -1,5 +1,5 @@
 -- Accepted words are parsed without fault.
-use Rattle.std.proofs.Common.{◌≡◌, ◌∙◌, ◌⊎◌, ℕ, zero, suc, Bool, true, false, inl, inr, List, [], ◌∷◌, Option, Some, None, refl, ap, sym, subst, codes, bytes_eq}
+use Rattle.std.proofs.Common.{◌≡◌, ◌∙◌, ℕ, zero, suc, Bool, true, false, inl, inr, List, [], ◌∷◌, Option, Some, None, refl, ap, sym, subst, codes, bytes_eq}
 use Rattle.std.specs.Prelude.{◌&&◌, ◌==◌, ◌^◌, if◌then◌else◌, length, nat_lt, option_and_then, option_map}
 use Rattle.std.specs.List.{list_all}
 use Rattle.std.specs.Option.{option_map_or}
@@ -14,9 +14,10 @@ use Rattle.clap.specs.Faults.{bundle_fault, defaults_fault, fault_of, flag_word_
 use Rattle.lab_text.specs.Text.{is_numeral, number_in}
 use Rattle.plan_grammar.specs.Forms.{has_no_leading_zero, plain_decimal}
 use Rattle.nandlab.specs.Positionals.{two_positionals}
-use Rattle.nandlab.specs.Words.{number_request, plain_request, text_request, without_dashes, word_request}
+use Rattle.code_words.specs.Inputs.{strength_of}
+use Rattle.nandlab.specs.Words.{number_request, plain_request, strength_in, text_request, without_dashes, word_request}
 use Rattle.nandlab.specs.declared.request.Request.{Request}
-use Rattle.nandlab.specs.declared.request.Request.TheVariants.{Check, Replay, Run, Make}
+use Rattle.nandlab.specs.declared.request.Request.TheVariants.{Check, Replay, Run, Make, Bus, Encode, Decode}
 use Rattle.nandlab.proofs.ClapSteps.{at, dashes, holds_both, holds_none, holds_word, met_dashes, met_other, rules, shape, walk_dashes, walk_number, walk_number_after, walk_word, walk_word_after}
 use Rattle.nandlab.proofs.ClapWords.{dashes_out, end_fault, faults_are, walk_on, word_stays}
 
@@ -168,47 +169,66 @@ number_is_plain (x ∷ xs) n e =
     let first = (and_parts (is_digit x 10) (list_all (λ (d : ℕ). is_digit d 10) xs) all).0 in
     plain_by x xs (digit_is_no_dash x first)
 
--- the word is this name, or the request is another
-named : (b : Bool) (x r : Request) (rest : Option Request) → (if b then Some x else rest) ≡ Some r → (b ≡ true) ⊎ (rest ≡ Some r)
-named true x r rest e = inl refl
-named false x r rest e = inr e
-
 plain_as : (word name : Text) → IsPlainWord name → bytes_eq word name ≡ true → IsPlainWord word
 plain_as word name plain same = subst IsPlainWord (sym ((bytes_eq-Decides word name).0 same)) plain
 
-run_is_plain : (word : Text) (r : Request) → (if bytes_eq word (codes "run") then Some Run else None) ≡ Some r → IsPlainWord word
-run_is_plain word r e = elim (named (bytes_eq word (codes "run")) Run r None e) [
-  | inl same ↦ plain_as word (codes "run") (plain_by 114 (117 ∷ 110 ∷ []) refl) same
-  | inr none ↦ absurd (cc none)
+-- where one request goes with a name, and another with other words
+abbrev by_name : Option Request → Option Request → Bool → Option Request
+by_name one other is_name = if is_name then one else other
+
+-- the word is this name, or one that asks for something else
+named : (word name : Text) (one other : Option Request) → IsPlainWord name → ((r : Request) → other ≡ Some r → IsPlainWord word)
+    → (r : Request) → by_name one other (bytes_eq word name) ≡ Some r → IsPlainWord word
+named word name one other plain rest r e = elim (cases_Bool (bytes_eq word name)) [
+  | inl same ↦ plain_as word name plain same
+  | inr different ↦ rest r (sym (ap (by_name one other) different) ∙ e)
 ]
 
-replay_is_plain : (word : Text) (r : Request)
-    → (if bytes_eq word (codes "replay") then Some Replay else (if bytes_eq word (codes "run") then Some Run else None)) ≡ Some r
-    → IsPlainWord word
-replay_is_plain word r e = elim (named (bytes_eq word (codes "replay")) Replay r _ e) [
-  | inl same ↦ plain_as word (codes "replay") (plain_by 114 (101 ∷ 112 ∷ 108 ∷ 97 ∷ 121 ∷ []) refl) same
-  | inr other ↦ run_is_plain word r other
-]
+no_request : {P : Type 0} (r : Request) → None ≡ Some r → P
+no_request r e = absurd (cc e)
 
 word_is_plain : (word : Text) (r : Request) → word_request word ≡ Some r → IsPlainWord word
-word_is_plain word r e = elim (named (bytes_eq word (codes "check")) Check r _ e) [
-  | inl same ↦ plain_as word (codes "check") (plain_by 99 (104 ∷ 101 ∷ 99 ∷ 107 ∷ []) refl) same
-  | inr other ↦ replay_is_plain word r other
+word_is_plain word r e =
+    named word (codes "check") (Some Check) _ (plain_by 99 (104 ∷ 101 ∷ 99 ∷ 107 ∷ []) refl)
+    (named word (codes "replay") (Some Replay) _ (plain_by 114 (101 ∷ 112 ∷ 108 ∷ 97 ∷ 121 ∷ []) refl)
+    (named word (codes "run") (Some Run) _ (plain_by 114 (117 ∷ 110 ∷ []) refl)
+    (named word (codes "bus") (Some Bus) None (plain_by 98 (117 ∷ 115 ∷ []) refl) no_request))) r e
+
+made : (make : ℕ → Request) (number : Option ℕ) (r : Request) → option_map make number ≡ Some r → (n : ℕ) × (number ≡ Some n)
+made make None r e = absurd (cc e)
+made make (Some n) r e = (n, refl)
+
+strong : (number : Option ℕ) (t : ℕ) → option_and_then strength_of number ≡ Some t → (n : ℕ) × (number ≡ Some n)
+strong None t e = absurd (cc e)
+strong (Some n) t e = (n, refl)
+
+made_is_plain : (number : Text) (r : Request) → option_map Make (plain_decimal (Some number)) ≡ Some r → IsPlainWord number
+made_is_plain number r e =
+    let n = made Make (plain_decimal (Some number)) r e in
+    number_is_plain number n.0 n.1
+
+strength_is_plain : (make : ℕ → Request) (number : Text) (r : Request) → option_map make (strength_in number) ≡ Some r → IsPlainWord number
+strength_is_plain make number r e =
+    let t = made make (strength_in number) r e in
+    let n = strong (plain_decimal (Some number)) t.0 t.1 in
+    number_is_plain number n.0 n.1
+
+-- the word is this name and takes the number, or one that asks for something else
+numbered : (word name number : Text) (one other : Option Request) → IsPlainWord name → ((r : Request) → one ≡ Some r → IsPlainWord number)
+    → ((r : Request) → other ≡ Some r → IsPlainWord word × IsPlainWord number)
+    → (r : Request) → by_name one other (bytes_eq word name) ≡ Some r → IsPlainWord word × IsPlainWord number
+numbered word name number one other plain first rest r e = elim (cases_Bool (bytes_eq word name)) [
+  | inl same ↦ (plain_as word name plain same, first r (sym (ap (by_name one other) same) ∙ e))
+  | inr different ↦ rest r (sym (ap (by_name one other) different) ∙ e)
 ]
-
-made : (number : Option ℕ) (r : Request) → option_map Make number ≡ Some r → (n : ℕ) × (number ≡ Some n)
-made None r e = absurd (cc e)
-made (Some n) r e = (n, refl)
-
-makes : (b : Bool) (o : Option Request) (r : Request) → (if b then o else None) ≡ Some r → (b ≡ true) × (o ≡ Some r)
-makes true o r e = (refl, e)
-makes false o r e = absurd (cc e)
 
 number_request_is_plain : (word number : Text) (r : Request) → number_request word number ≡ Some r → IsPlainWord word × IsPlainWord number
 number_request_is_plain word number r e =
-    let makes_it = makes (bytes_eq word (codes "make")) (option_map Make (plain_decimal (Some number))) r e in
-    let n = made (plain_decimal (Some number)) r makes_it.1 in
-    (plain_as word (codes "make") (plain_by 109 (97 ∷ 107 ∷ 101 ∷ []) refl) makes_it.0, number_is_plain number n.0 n.1)
+    numbered word (codes "make") number (option_map Make (plain_decimal (Some number))) _ (plain_by 109 (97 ∷ 107 ∷ 101 ∷ []) refl) (made_is_plain number)
+    (numbered word (codes "encode14") number (option_map Encode (strength_in number)) _
+    (plain_by 101 (110 ∷ 99 ∷ 111 ∷ 100 ∷ 101 ∷ 49 ∷ 52 ∷ []) refl) (strength_is_plain Encode number)
+    (numbered word (codes "decode14") number (option_map Decode (strength_in number)) None
+    (plain_by 100 (101 ∷ 99 ∷ 111 ∷ 100 ∷ 101 ∷ 49 ∷ 52 ∷ []) refl) (strength_is_plain Decode number) no_request)) r e
 
 -- words that ask for something are few and plain
 request_is_plain : (texts : List Text) (r : Request) → plain_request texts ≡ Some r → AreFew 2 texts

@@ -71,6 +71,13 @@ refused_as result status Grown Risen Took (inr (failed, risen, took)) e =
     let clash : 5 ≡ 3 = ap exit_code (sym failed ∙ e) in
     absurd (omega (arith, clash))
 
+pub fine_as : (result status : Status) (Grown Risen Took : Type 0)
+    → ((result ≡ status) × Grown) ⊎ ((result ≡ WriteFault) × Risen × Took) → result ≡ Fine → status ≡ Fine
+fine_as result status Grown Risen Took (inl (same, grown)) e = sym same ∙ e
+fine_as result status Grown Risen Took (inr (failed, risen, took)) e =
+    let clash : 5 ≡ 0 = ap exit_code (sym failed ∙ e) in
+    absurd (omega (arith, clash))
+
 -- how a call ends whose sink did not fail
 pub ends_as : (result status wanted : Status) (Grown Risen Took : Type 0)
     → ((result ≡ status) × Grown) ⊎ ((result ≡ WriteFault) × Risen × Took) → (Risen → ⊥) → status ≡ wanted

@@ -5,3 +5,4 @@ mod ClapSteps
 mod ClapWords
 mod Accepted
 mod Parsed
+mod Strengths

@@ -9,10 +9,15 @@ use Rattle.plan_grammar.specs.Meaning.{plan_of}
 use Rattle.plan_grammar.specs.declared.kind.PlanKind.{PlanKind}
 use Rattle.plan_grammar.specs.declared.lines.PlanLines.{PlanLines}
 use Rattle.made_replay.specs.Summary.{IsSummaryOf}
+use Rattle.bus_script.specs.Answer.{IsRefusal, IsTextOf}
+use Rattle.bus_script.specs.declared.error.ScriptError.{ScriptError}
+use Rattle.code_words.specs.Inputs.{refusal_of}
+use Rattle.code_words.specs.Units.{decoded, encoded, unit_bytes}
+use Rattle.code_words.specs.declared.refusal.InputRefusal.{InputRefusal}
 use Rattle.nandlab.specs.Words.{Words, request_of}
-use Rattle.nandlab.specs.Refusal.{refusal_line, usage_line}
+use Rattle.nandlab.specs.Refusal.{input_kind, refusal_line, script_line, usage_line}
 use Rattle.nandlab.specs.declared.request.Request.{Request}
-use Rattle.nandlab.specs.declared.request.Request.TheVariants.{Check, Replay, Run, Make}
+use Rattle.nandlab.specs.declared.request.Request.TheVariants.{Check, Replay, Run, Make, Bus, Encode, Decode}
 use Rattle.nandlab.specs.declared.status.Status.{Status}
 use Rattle.nandlab.specs.declared.status.Status.TheVariants.{Fine, Usage, PlanRefused, ReadFault, WriteFault, Memory}
 
@@ -45,12 +50,32 @@ IsReportFor bytes text =
 abbrev pub IsNoPlan : List ℕ → List ℕ → Type 0
 IsNoPlan bytes text = (at : ℕ) × (kind : PlanKind) × IsRefused bytes at kind × (text ≡ refusal_line at kind)
 
+-- the bytes are a script of legal cycles
+abbrev pub AreLegalScript : List ℕ → Type 0
+AreLegalScript bytes = (text : List ℕ) × IsTextOf bytes text
+
+-- the bytes are no script, or one with an illegal cycle, and the text says so
+abbrev pub IsNoLegalScript : List ℕ → List ℕ → Type 0
+IsNoLegalScript bytes text = (error : ScriptError) × IsRefusal bytes error × (text ≡ script_line error)
+
+-- the bytes are whole pieces of this size, and not too many
+abbrev pub AreWhole : ℕ → List ℕ → Type 0
+AreWhole size bytes = refusal_of size bytes ≡ None
+
+-- the bytes are no such input, and the text says why, at line 0
+abbrev pub IsNoInput : ℕ → List ℕ → List ℕ → Type 0
+IsNoInput size bytes text =
+    (why : InputRefusal) × (refusal_of size bytes ≡ Some why) × (text ≡ refusal_line 0 (input_kind why))
+
 -- the bytes are taken for the request; of those that it reads none for, any are
 abbrev pub IsTaken : Request → List ℕ → Type 0
 IsTaken Check bytes = AreSomePlan bytes
 IsTaken Replay bytes = AreSomePlan bytes
 IsTaken Run bytes = AreSomePlan bytes
 IsTaken (Make n) bytes = ⊤
+IsTaken Bus bytes = AreLegalScript bytes
+IsTaken (Encode t) bytes = AreWhole 1024 bytes
+IsTaken (Decode t) bytes = AreWhole (unit_bytes t) bytes
 
 -- they are taken, and the text is what the request writes of them
 abbrev pub Serves : Request → List ℕ → List ℕ → Type 0
@@ -58,6 +83,9 @@ Serves Check bytes text = (plan : PlanLines) × IsPlan bytes plan × (text ≡ c
 Serves Replay bytes text = IsReportFor bytes text
 Serves Run bytes text = IsReportFor bytes text
 Serves (Make n) bytes text = IsSummaryOf n text
+Serves Bus bytes text = IsTextOf bytes text
+Serves (Encode t) bytes text = AreWhole 1024 bytes × (text ≡ encoded t bytes)
+Serves (Decode t) bytes text = AreWhole (unit_bytes t) bytes × (text ≡ decoded t bytes)
 
 -- they are refused, and the text says why
 abbrev pub IsRefusalOf : Request → List ℕ → List ℕ → Type 0
@@ -65,6 +93,9 @@ IsRefusalOf Check bytes text = IsNoPlan bytes text
 IsRefusalOf Replay bytes text = IsNoPlan bytes text
 IsRefusalOf Run bytes text = IsNoPlan bytes text
 IsRefusalOf (Make n) bytes text = ⊥
+IsRefusalOf Bus bytes text = IsNoLegalScript bytes text
+IsRefusalOf (Encode t) bytes text = IsNoInput 1024 bytes text
+IsRefusalOf (Decode t) bytes text = IsNoInput (unit_bytes t) bytes text
 
 -- what is written for a request that is given these bytes
 abbrev pub Answers : Request → List ℕ → Status → List ℕ → Type 0

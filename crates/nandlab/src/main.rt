@@ -1,4 +1,5 @@
-//! nandlab: checks and replays plans over simulated NAND chips.
+//! nandlab: checks and replays plans over simulated NAND chips, runs scripts of bus cycles, and
+//! encodes and decodes steps of 1024 bytes.
 #![tactic(auto)]
 
 mod answer;
@@ -19,7 +20,7 @@ use std::process::ExitCode;
 use std::{env, io};
 pub use top::serial_top;
 
-fn main(rt: HostRuntime) -> io::Result<ExitCode> {
+fn main(rt: HostRuntime) -> ExitCode {
     let (mut source, mut sink) = (StdSource::new(rt.reader()), StdSink::new(io::writer(&rt)));
-    Ok(ExitCode::from(exit_status(rt.alloc(), env::args(&rt)?, &mut source, &mut sink)))
+    ExitCode::from(exit_status(rt.alloc(), env::args(&rt), &mut source, &mut sink))
 }

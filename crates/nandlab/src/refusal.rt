@@ -1,8 +1,9 @@
 // The lines that refuse a call.
 ghost use Rattle.std.specs.Prelude.{◌≡◌};
-ghost use Rattle.nandlab.specs.Refusal.{kind_name};
+ghost use Rattle.nandlab.specs.Refusal.{input_kind, kind_name};
 ghost use Rattle.nandlab.specs.declared.refusal.Refusal.TheVariants.{Memory};
 
+use code_words::InputRefusal;
 use nand_model::Bytes;
 use plan_text::PlanKind;
 use std::alloc::AllocError;
@@ -25,7 +26,8 @@ impl From<AllocError> for Refusal {
 }
 
 /// What is written for words that are not accepted.
-pub const USAGE: &[u8] = b"usage: nandlab check or replay or run or make N\n";
+pub const USAGE: &[u8] =
+    b"usage: nandlab check or replay or run or make N or bus or encode14 T or decode14 T\n";
 
 /// What is written for more bytes than a request may be given.
 pub const TOO_LONG: &[u8] = b"line 0: TooLong\n";
@@ -52,5 +54,15 @@ pub fn kind_name(kind: PlanKind) -> &'static str
         PlanKind::TooLarge => "TooLarge",
         PlanKind::Ended => "Ended",
         PlanKind::TooLong => "TooLong",
+    }
+}
+
+/// The kind by which an input of steps or units is refused.
+pub fn input_kind(why: InputRefusal) -> PlanKind
+    ensures { result ≡ input_kind why }
+{
+    match why {
+        InputRefusal::TooLong => PlanKind::TooLong,
+        InputRefusal::NotMultiple => PlanKind::NotMultiple,
     }
 }

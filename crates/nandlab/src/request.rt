@@ -2,8 +2,11 @@
 ghost use Rattle.std.specs.Prelude.{◌≡◌};
 ghost use Rattle.nandlab.specs.Words.{most_read};
 
-/// The greatest number of bytes of a plan.
+/// The greatest number of bytes of a plan, and of steps or units of a code.
 const MOST_BYTES: usize = 16_777_216;
+
+/// The greatest number of bytes of a script of bus cycles.
+const MOST_SCRIPT_BYTES: usize = 1_048_576;
 
 /// What the words of a call ask for.
 #[derive(Clone, Copy, Debug, PartialEq, Eq)]
@@ -16,6 +19,12 @@ pub enum Request {
     Run,
     /// The summary of the plan that is made from a number.
     Make(u64),
+    /// What a script of bus cycles does at a new chip.
+    Bus,
+    /// Steps of 1024 bytes with their stored parities, for a code that corrects so many bits.
+    Encode(u32),
+    /// What is read of steps of 1024 bytes by their stored parities, for such a code.
+    Decode(u32),
 }
 
 impl Request {
@@ -25,6 +34,8 @@ impl Request {
     {
         match self {
             Request::Check | Request::Replay | Request::Run => Some(MOST_BYTES),
+            Request::Encode(_) | Request::Decode(_) => Some(MOST_BYTES),
+            Request::Bus => Some(MOST_SCRIPT_BYTES),
             Request::Make(_) => None,
         }
     }

@@ -9,7 +9,7 @@ pub enum Status {
     Fine,
     /// The words are not accepted.
     Usage,
-    /// The bytes read are no plan, or one that is not built yet.
+    /// The bytes read are refused: they are no plan, no script or no input of the code.
     PlanRefused,
     /// The source failed.
     ReadFault,

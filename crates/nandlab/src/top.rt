@@ -56,11 +56,16 @@ fn given<S: Source>(alloc: Global, request: Request, source: &mut S) -> Result<B
 
 /// Serves the words of a call: `check` reads a plan from the source and writes its canonical text
 /// to the sink, `replay` writes the report of its replay, and `run` does what `replay` does.
-/// `make N` reads nothing, and writes the summary of the replay of the plan of the number N.
+/// `make N` reads nothing, and writes the summary of the replay of the plan of the number N. `bus`
+/// reads a script of bus cycles and writes what it does at a new chip. `encode14 T` reads steps of
+/// 1024 bytes and writes each followed by its stored parity, for T wrong bits; `decode14 T` reads
+/// such units and writes how each was read.
 ///
-/// Bytes that are no plan are refused with `line L: KIND`: the first line that breaks a rule, and
-/// the first rule that it breaks; `line 0: TooLong` comes as soon as more than 16,777,216 bytes have
-/// come. Other words get the usage line, and nothing is read. It waits for nobody.
+/// Bytes that are no plan or no script are refused with `line L: KIND`: the first line that breaks a
+/// rule, and the first rule that it breaks; a script with an illegal cycle with `cycle N: Illegal`;
+/// steps or units of which the last is not whole with `line 0: NotMultiple`. `line 0: TooLong` comes
+/// as soon as more than 16,777,216 bytes have come, and for a script more than 1,048,576. Other words
+/// get the usage line, and nothing is read. It waits for nobody.
 pub fn serial_top<S: Source, K: Sink>(
     alloc: Global,
     words: &Vec<String>,

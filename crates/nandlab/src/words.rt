@@ -3,11 +3,12 @@ ghost use Rattle.std.specs.Prelude.{◌≡◌, Some, IfOk, option_map};
 ghost use Rattle.clap.specs.Simple.{app_of};
 ghost use Rattle.plan_grammar.specs.Forms.{plain_decimal};
 ghost use Rattle.nandlab.specs.Positionals.{positionals, two_positionals};
-ghost use Rattle.nandlab.specs.Words.{number_request, plain_request, request_of, word_request};
+ghost use Rattle.nandlab.specs.Words.{number_request, plain_request, request_of, strength_in, word_request};
 
 use crate::request::Request;
 use clap::error::ErrorKind;
 use clap::{Arg, Command};
+use code_words::strength;
 use lab_text::decimal;
 use std::alloc::{AllocError, Global};
 
@@ -46,9 +47,18 @@ fn word_request(word: &str) -> Option<Request>
         Some(Request::Replay)
     } else if word == "run" {
         Some(Request::Run)
+    } else if word == "bus" {
+        Some(Request::Bus)
     } else {
         None
     }
+}
+
+// The strength of decimal digits without leading zeros, from 1 to 16.
+fn strength_in(number: &str) -> Option<u32>
+    ensures { result ≡ strength_in number.now }
+{
+    strength(plain_decimal(number)?)
 }
 
 // What a word and a number ask for.
@@ -57,6 +67,10 @@ fn number_request(word: &str, number: &str) -> Option<Request>
 {
     if word == "make" {
         Some(Request::Make(plain_decimal(number)?))
+    } else if word == "encode14" {
+        Some(Request::Encode(strength_in(number)?))
+    } else if word == "decode14" {
+        Some(Request::Decode(strength_in(number)?))
     } else {
         None
     }
@@ -74,9 +88,9 @@ fn plain_request(word: Option<&str>, number: Option<&str>) -> Option<Request>
 }
 
 /// What the words of a call ask for: at most one of them, at any place, is `--`, and the others are
-/// `check`, or `replay`, or `run`, or `make` and a number from 0 to 2^64 - 1 in decimal digits
-/// without leading zeros. None comes exactly where they are not so. The words are this project's
-/// own.
+/// `check`, or `replay`, or `run`, or `bus`, or `make` and a number from 0 to 2^64 - 1, or
+/// `encode14` or `decode14` and a number from 1 to 16, all numbers in decimal digits without leading
+/// zeros. None comes exactly where they are not so. The words are this project's own.
 pub fn request(alloc: Global, words: &Vec<String>) -> Result<Option<Request>, AllocError>
     ensures { IfOk result (λ request. request ≡ request_of words.now.items) }
 {

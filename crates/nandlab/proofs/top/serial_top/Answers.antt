@@ -1,12 +1,12 @@
 -- What the status of a call says of the bytes that it is given, and what the sink holds at each.
 use Rattle.std.proofs.Common.{◌<◌, ◌∙◌, Err, length, refl, ap, sym, subst}
 use Rattle.nand_model.specs.Counts.{HasRisen}
-use Rattle.nandlab.specs.Answer.{AreRefused, Answers, IsRefusalOf, IsTaken}
+use Rattle.nandlab.specs.Answer.{AreRefused, AreServed, Answers, IsRefusalOf, IsTaken}
 use Rattle.nandlab.specs.Refusal.{usage_line}
 use Rattle.nandlab.specs.Words.{given_of, given_to, most_read, request_of}
 use Rattle.nandlab.specs.declared.status.Status.TheVariants.{Fine, PlanRefused, Usage}
-use Rattle.nandlab.proofs.Holding.{answers_told, ends_as, given_is, holds_written, if_told, left_is_given, refused_as, told, writes_answer}
-use Rattle.nandlab.proofs.Refusing.{answer_is_fine, answer_is_refusal, long_is_refused, one_request, refusal_is_refused, too_long_line}
+use Rattle.nandlab.proofs.Holding.{answers_told, ends_as, fine_as, given_is, holds_written, if_told, left_is_given, refused_as, told, writes_answer}
+use Rattle.nandlab.proofs.Refusing.{answer_is_fine, answer_is_refusal, fine_is_taken, long_is_refused, one_request, refusal_is_refused, too_long_line}
 use Rattle.nandlab.proofs.top.serial_top.Goals as goal
 
 pub returns-in-Ok-None-clause-written : goal.returns-in-Ok-None-clause-written
@@ -15,6 +15,22 @@ returns-in-Ok-None-clause-written g c =
     holds_written c.args.words.now.items bytes Usage c.written.result (g.K.Sink.held c.args.sink.now)
     (g.K.Sink.held c.written.new.sink) usage_line (HasRisen (g.K.Sink.faults c.args.sink.now) (g.K.Sink.faults c.written.new.sink))
     (sym c.in-Ok-None.ensures ∙ c.in-Ok-None.field-0-is, refl) c.written.ensures.either before held_is
+
+pub returns-in-Ok-answer_to-clause-fine : goal.returns-in-Ok-answer_to-clause-fine
+returns-in-Ok-answer_to-clause-fine g c =
+    λ fine. if_told (given_to c.args.words.now.items (g.S.Source.left c.args.source.now)) (AreServed c.args.words.now.items) (λ bytes given.
+    let asked = sym c.in-Ok-Some.ensures ∙ c.in-Ok-Some.field-0-is in
+    let status = c.in-Ok-answer_to.answer.status in
+    let lent = c.as_slice-in-Ok-answer_to.result.now in
+    let answers : Answers c.in-Ok-Some.request bytes status lent =
+    answers_told (given_of (most_read c.in-Ok-Some.request) (g.S.Source.left c.args.source.now)) c.in-Ok-Some.request status c.in-Ok.bytes c.as_slice.result.now
+    c.in-Ok-answer_to.answer.text lent bytes (given_is c.args.words.now.items c.in-Ok-Some.request (g.S.Source.left c.args.source.now) bytes asked given)
+    c.in-Ok.ensures.all c.as_slice.ensures c.as_slice-in-Ok-answer_to.ensures c.in-Ok-answer_to.ensures in (
+      c.in-Ok-Some.request,
+      asked,
+      fine_is_taken c.in-Ok-Some.request bytes status lent answers
+          (fine_as c.written-in-Ok-answer_to.result status _ _ _ c.written-in-Ok-answer_to.ensures.either fine),
+    ))
 
 pub returns-in-Ok-answer_to-clause-plan_refused : goal.returns-in-Ok-answer_to-clause-plan_refused
 returns-in-Ok-answer_to-clause-plan_refused g c =
