@@ -1,169 +1,199 @@
 -- The flips that are due, one after the other, and the room that they take.
-use Rattle.std.proofs.Common.{◌≡◌, ◌<◌, ◌≤◌, ◌+◌, arith, ℕ, zero, suc, Bool, true, false, cond, List, [], ◌∷◌, length, drop, map, Some, refl, ap, sym, ◌∙◌, subst, get_or, add-one}
-use Rattle.std.specs.Prelude.{slice_get, filter, fold, option_and_then, All, IsSome, not}
+use Rattle.std.proofs.Common.{◌≡◌, ◌<◌, ◌≤◌, ◌+◌, inl, inr, arith, ℕ, zero, suc, Bool, true, false, cond, List, [], ◌∷◌, length, drop, map, Option, Some, None, refl, ap, sym, ◌∙◌, subst, get_or}
+use Rattle.std.specs.Prelude.{◌==◌, slice_get, filter, fold, option_and_then, All, IsSome, IfSome, not}
 use Rattle.std.proofs.Math.ListN.{set}
-use Rattle.std.proofs.Math.Seq.{drop-cons}
-use Rattle.std.proofs.lemmas.Bool.{eq-eqb, ne_eqb}
-use Rattle.std.proofs.lemmas.List.{length-drop}
+use Rattle.std.proofs.lemmas.Bool.{cases_eq, cases_lt, eq-eqb, ne_eqb}
 use Rattle.std.proofs.lemmas.List.Filters.{length-filter_both, sum_by-filter_both}
 use Rattle.std.proofs.lemmas.List.Sums.{sum_by-cons, sum_by-le}
-use Rattle.std.proofs.lemmas.Option.{slice_get_within, get_or_from_slice_get}
+use Rattle.std.proofs.lemmas.Option.{slice_get_within, slice_get_past, slice_get-get_or}
 use Rattle.nand_model.specs.Flips.{is_due, due_flips}
 use Rattle.nand_iface.specs.declared.flash.Flash.{Ghosts}
 use Rattle.nand_model.specs.Chip.{PageEvent}
 use Rattle.nand_model.specs.declared.words.Flip.{Flip}
+use Rattle.fault_plan.specs.Due.{first_due}
+use Rattle.fault_plan.proofs.Due.{next_due, none_due, place_due}
+use Rattle.chip_core.specs.Chip.{chip_bits, chip_page_room}
 use Rattle.chip_paths.specs.Stage.{stage_event}
 use Rattle.run_model.specs.Start.{AreFewFlips}
 use Rattle.ctl_core.specs.declared.board.Slot.{Slot}
-use Rattle.ctl_core.specs.Board.{HasRoom, slot_state}
-use Rattle.ctl_core.specs.Flips.{CanFlip, bit_count, slot_flip, slot_flips_before}
+use Rattle.ctl_core.specs.Board.{HasRoom, HasRoomFor, slot_state}
+use Rattle.ctl_core.specs.Flips.{CanFlip, bit_count, flips_on, slot_flip, slot_flips_before}
 use Rattle.ctl_core.specs.SlotState.{SlotState}
 use Rattle.ctl_core.proofs.Flipped.{can_still_flip, flipped_at}
 use Rattle.ctl_core.proofs.OnCourse.{and_then_some, some_of}
+use Rattle.ctl_core.proofs.Places.{set_changes}
 use Rattle.ctl_core.proofs.Positions.{mapped_length}
+use Rattle.ctl_core.proofs.Slots.{at_some}
 
--- the rest of a list from a place on
-from_here : (flips : List Flip) (n : ℕ) (flip : Flip) → slice_get flips n ≡ Some flip → drop n flips ≡ flip ∷ drop (n + 1) flips
-from_here flips n flip at =
-    drop-cons flips n flip (slice_get_within flips n flip at)
-    ∙ (λ j. get_or_from_slice_get flips n flip flip at j ∷ drop (sym (add-one n) j) flips)
+-- flips that are left of those that are due: all from a place on, the first of which is the next
+pub record AreLeft (flips : List Flip) (event : ℕ) (next : Option ℕ) (left : List Flip) : Type 0 where
+  pub from : ℕ
+  pub is_next : next ≡ first_due flips event from
+  pub are : left ≡ due_flips (drop from flips) event
 
-due_or_not : (flips : List Flip) (event n : ℕ) (flip : Flip) (due : Bool) → slice_get flips n ≡ Some flip → is_due event flip ≡ due
-    → due_flips (drop n flips) event ≡ cond due (flip ∷ due_flips (drop (n + 1) flips) event) (due_flips (drop (n + 1) flips) event)
-due_or_not flips event n flip due at is =
-    ap (filter (is_due event)) (from_here flips n flip at)
-    ∙ ap (λ b. cond b (flip ∷ due_flips (drop (n + 1) flips) event) (due_flips (drop (n + 1) flips) event)) is
+-- all are left at first
+pub left_at_first : (flips : List Flip) (event : ℕ) (next : Option ℕ) → next ≡ first_due flips event 0 → AreLeft flips event next (due_flips flips event)
+left_at_first flips event next is = record { from = zero; is_next = is; are = refl }
 
--- a flip that is due is the first of those that are left
-pub due_here : (flips : List Flip) (event n : ℕ) (flip : Flip) → slice_get flips n ≡ Some flip → is_due event flip ≡ true
-    → due_flips (drop n flips) event ≡ flip ∷ due_flips (drop (n + 1) flips) event
-due_here flips event n flip at is = due_or_not flips event n flip true at is
+-- the next one is passed
+pub left_after : (flips : List Flip) (event n : ℕ) (flip : Flip) (next after : Option ℕ) (left : List Flip) → AreLeft flips event next left → next ≡ Some n
+    → slice_get flips n ≡ Some flip → after ≡ first_due flips event (n + 1) → (rest : List Flip) × (left ≡ flip ∷ rest) × AreLeft flips event after rest
+left_after flips event n flip next after left of at there is = (
+  due_flips (drop (n + 1) flips) event,
+  of.are ∙ next_due flips event of.from n flip (sym of.is_next ∙ at) there,
+  record { from = n + 1; is_next = is; are = refl },
+)
 
--- any other one is passed over
-pub due_later : (flips : List Flip) (event n : ℕ) (flip : Flip) → slice_get flips n ≡ Some flip → is_due event flip ≡ false
-    → due_flips (drop n flips) event ≡ due_flips (drop (n + 1) flips) event
-due_later flips event n flip at is = due_or_not flips event n flip false at is
+-- the next one is in the list
+pub next_within : (flips : List Flip) (event from : ℕ) (next : Option ℕ) → next ≡ first_due flips event from → IfSome next (λ n. n < length flips)
+next_within flips event from None is = tt
+next_within flips event from (Some n) is = (place_due flips event from n (sym is)).1
 
--- none is left at the end
-pub due_at_end : (flips : List Flip) (event n : ℕ) → length flips ≤ n → due_flips (drop n flips) event ≡ []
-due_at_end flips event n end = ap (filter (is_due event)) (nothing (drop n flips) (omega (arith, length-drop n flips)))
-  where
-    nothing : (rest : List Flip) → length rest ≡ 0 → rest ≡ []
-    nothing [] h = refl
-    nothing (flip ∷ rest) h = absurd (omega arith)
+-- none is left where there is no next one
+pub left_none : (flips : List Flip) (event : ℕ) (next : Option ℕ) (left : List Flip) → AreLeft flips event next left → next ≡ None → left ≡ []
+left_none flips event next left of none = of.are ∙ none_due flips event of.from (sym of.is_next ∙ none)
 
--- the numbers of pages and bits of the flips that are left, one flip later
-pub counted_here : (flips : List Flip) (event n : ℕ) (flip : Flip) → slice_get flips n ≡ Some flip → is_due event flip ≡ true
-    → (length (due_flips (drop n flips) event) ≡ 1 + length (due_flips (drop (n + 1) flips) event))
-    × (bit_count (due_flips (drop n flips) event) ≡ length flip.bits + bit_count (due_flips (drop (n + 1) flips) event))
-counted_here flips event n flip at is =
-    let here = due_here flips event n flip at is in
-    let longer : length (flip ∷ due_flips (drop (n + 1) flips) event) ≡ 1 + length (due_flips (drop (n + 1) flips) event) = omega arith in
-    (ap length here ∙ longer, ap bit_count here ∙ sum_by-cons (λ (f : Flip). length f.bits) flip (due_flips (drop (n + 1) flips) event))
+on_or_off : (chip : ℕ) (flip : Flip) (rest : List Flip) (on : Bool) → (flip.chip == chip) ≡ on
+    → flips_on chip (flip ∷ rest) ≡ cond on (flip ∷ flips_on chip rest) (flips_on chip rest)
+on_or_off chip flip rest on is = ap (λ b. cond b (flip ∷ flips_on chip rest) (flips_on chip rest)) is
 
--- flips that are due are few where all flips are
-pub few_due : (flips : List Flip) (event : ℕ) → AreFewFlips flips
-    → (length (due_flips flips event) ≤ 65536) × (bit_count (due_flips flips event) ≤ 2147483648)
-few_due flips event few =
-    let kept = length-filter_both (is_due event) (λ flip. not (is_due event flip)) (λ flip. refl) flips in
-    let turned = sum_by-filter_both (is_due event) (λ flip. not (is_due event flip)) (λ flip. refl) (λ (flip : Flip). length flip.bits) flips in
+-- a flip of the chip is counted
+pub counted_on : (chip : ℕ) (flip : Flip) (rest : List Flip) → flip.chip ≡ chip
+    → (length (flips_on chip (flip ∷ rest)) ≡ 1 + length (flips_on chip rest))
+    × (bit_count (flips_on chip (flip ∷ rest)) ≡ length flip.bits + bit_count (flips_on chip rest))
+counted_on chip flip rest same =
+    let on = on_or_off chip flip rest true (eq-eqb flip.chip chip same) in
+    let longer : length (flip ∷ flips_on chip rest) ≡ 1 + length (flips_on chip rest) = omega arith in
+    (ap length on ∙ longer, ap bit_count on ∙ sum_by-cons (λ (f : Flip). length f.bits) flip (flips_on chip rest))
+
+-- one of another chip is not
+pub counted_off : (chip : ℕ) (flip : Flip) (rest : List Flip) → (flip.chip ≡ chip → ⊥) → flips_on chip (flip ∷ rest) ≡ flips_on chip rest
+counted_off chip flip rest other = on_or_off chip flip rest false (ne_eqb flip.chip chip other)
+
+module _ (flips : List Flip) (event chip : ℕ) (next : Option ℕ) (left : List Flip) (of : AreLeft flips event next left) where
+  -- the next flip is counted among those that are left of its chip
+  pub counted_next : (n : ℕ) (flip : Flip) → next ≡ Some n → slice_get flips n ≡ Some flip → flip.chip ≡ chip
+      → (1 ≤ length (flips_on chip left)) × (length flip.bits ≤ bit_count (flips_on chip left))
+  counted_next n flip at there same =
+      let after = left_after flips event n flip next (first_due flips event (n + 1)) left of at there refl in
+      let count = counted_on chip flip after.0 same in
+      let many : length (flips_on chip left) ≡ length (flips_on chip (flip ∷ after.0)) = ap (λ fs. length (flips_on chip fs)) after.1 in
+      let bits : bit_count (flips_on chip left) ≡ bit_count (flips_on chip (flip ∷ after.0)) = ap (λ fs. bit_count (flips_on chip fs)) after.1 in
+      (omega (arith, many, count.0), omega (arith, bits, count.1))
+
+  -- none is counted where none is left
+  pub counted_none : next ≡ None → (length (flips_on chip left) ≡ 0) × (bit_count (flips_on chip left) ≡ 0)
+  counted_none none =
+      let empty = left_none flips event next left of none in
+      (ap (λ fs. length (flips_on chip fs)) empty, ap (λ fs. bit_count (flips_on chip fs)) empty)
+
+fewer : (test : Flip → Bool) (flips : List Flip) → (length (filter test flips) ≤ length flips) × (bit_count (filter test flips) ≤ bit_count flips)
+fewer test flips =
+    let kept = length-filter_both test (λ flip. not (test flip)) (λ flip. refl) flips in
+    let turned = sum_by-filter_both test (λ flip. not (test flip)) (λ flip. refl) (λ (flip : Flip). length flip.bits) flips in
+    (omega (arith, kept), omega (arith, turned))
+
+-- flips of a chip that are due are few where all flips are
+pub few_due : (flips : List Flip) (event chip : ℕ) → AreFewFlips flips
+    → (length (flips_on chip (due_flips flips event)) ≤ 65536) × (bit_count (flips_on chip (due_flips flips event)) ≤ 2147483648)
+few_due flips event chip few =
+    let due = fewer (is_due event) flips in
+    let on = fewer (λ (flip : Flip). flip.chip == chip) (due_flips flips event) in
     let all = sum_by-le (λ (flip : Flip). length flip.bits) 32768 flips few.bits in
-    (omega (arith, kept, few.count), omega (arith, turned, all, few.count))
-
--- what holds of all items once one of them is changed
-all_set : {A : Type 0} (P Q : A → Type 0) (xs : List A) (k : ℕ) (x new : A) → slice_get xs k ≡ Some x → (P x → Q new) → ((y : A) → P y → Q y) → All P xs
-    → All Q (set xs k new)
-all_set P Q [] k x new at here other all j d h = absurd (omega arith)
-all_set P Q (y ∷ ys) zero x new at here other all zero d h = let same : y ≡ x = cc in here (subst P same (all zero d (omega arith)))
-all_set P Q (y ∷ ys) zero x new at here other all (suc j) d h = other (get_or ys j d) (all (suc j) d h)
-all_set P Q (y ∷ ys) (suc k) x new at here other all zero d h = other y (all zero d (omega arith))
-all_set P Q (y ∷ ys) (suc k) x new at here other all (suc j) d h = all_set P Q ys k x new at here other (λ i e l. all (suc i) e (omega arith)) j d (omega arith)
+    (omega (arith, due.0, on.0, few.count), omega (arith, due.1, on.1, all, few.count))
 
 -- what holds of the first items, one item later
-pub first_set : {A : Type 0} (P : A → Type 0) (xs : List A) (k : ℕ) (new : A) → k < length xs → P new
-    → ((j : ℕ) (d : A) → j < k → P (get_or xs j d)) → (j : ℕ) (d : A) → j < k + 1 → P (get_or (set xs k new) j d)
-first_set P [] k new within now before j d h = absurd (omega arith)
-first_set P (y ∷ ys) zero new within now before zero d h = now
-first_set P (y ∷ ys) zero new within now before (suc j) d h = absurd (omega arith)
-first_set P (y ∷ ys) (suc k) new within now before zero d h = before zero d (omega arith)
-first_set P (y ∷ ys) (suc k) new within now before (suc j) d h =
-    first_set P ys k new (omega arith) now (λ i e l. before (suc i) e (omega arith)) j d (omega arith)
+pub first_set : {A : Type 0} (P : ℕ → A → Type 0) (xs : List A) (k : ℕ) (new : A) → k < length xs → P k new
+    → ((j : ℕ) → j < k → IfSome (slice_get xs j) (P j)) → (j : ℕ) → j < k + 1 → IfSome (slice_get (set xs k new) j) (P j)
+first_set P [] k new within now before j h = absurd (omega arith)
+first_set P (y ∷ ys) zero new within now before zero h = now
+first_set P (y ∷ ys) zero new within now before (suc j) h = absurd (omega arith)
+first_set P (y ∷ ys) (suc k) new within now before zero h = before zero (omega arith)
+first_set P (y ∷ ys) (suc k) new within now before (suc j) h =
+    first_set (λ i. P (suc i)) ys k new (omega arith) now (λ i l. before (suc i) (omega arith)) j (omega arith)
+
+-- what holds of the first items holds of all, where these are all
+pub first_all : {A : Type 0} (P : ℕ → A → Type 0) (xs : List A) (k : ℕ) → length xs ≤ k
+    → ((j : ℕ) → j < k → IfSome (slice_get xs j) (P j)) → (j : ℕ) → IfSome (slice_get xs j) (P j)
+first_all P xs k end before j =
+    elim (cases_lt j k) [
+      | inl first ↦ before j first
+      | inr past ↦ subst (λ o. IfSome o (P j)) (sym (slice_get_past xs j (omega arith))) tt
+    ]
 
 module _ {F C : Type 0} {flash : Ghosts F} where
-  -- the room of a flip, of those after it and of one page more
-  pub room_split : (pages bits : ℕ) (flip : Flip) (rest : List Flip) (slots : List (Slot F C flash)) → pages ≡ 1 + (1 + length rest) → bits
-      ≡ length flip.bits + bit_count rest
-      → All (HasRoom pages bits) slots → All (HasRoom (1 + (1 + length rest)) (length flip.bits + bit_count rest)) slots × All (HasRoom 1 (length flip.bits)) slots
-  room_split pages bits flip rest slots more more_bits all = (
-    λ k d h. let r = all k d h in record { page_room = omega (arith, r.page_room); bits_room = omega (arith, r.bits_room) },
-    λ k d h. let r = all k d h in record { page_room = omega (arith, r.page_room); bits_room = omega (arith, r.bits_room) },
-  )
+  -- there is room for the first of some flips
+  pub room_first : (flip : Flip) (slots : List (Slot F C flash)) (slot : Slot F C flash) → ((rest : List Flip) × HasRoomFor (flip ∷ rest) slots)
+      → slice_get slots flip.chip ≡ Some slot → HasRoom 1 (length flip.bits) slot
+  room_first flip slots slot room at =
+      let count = counted_on flip.chip flip room.0 refl in
+      let all = at_some (HasRoom (1 + length (flips_on flip.chip (flip ∷ room.0))) (bit_count (flips_on flip.chip (flip ∷ room.0))))
+      (slice_get slots flip.chip) slot (room.1 flip.chip) at in
+      record { page_room = omega (arith, all.page_room, count.0); bits_room = omega (arith, all.bits_room, count.1) }
 
-  -- the room that is left after a flip of the chip in a slot
-  pub room_left : (flip : Flip) (slots : List (Slot F C flash)) (k : ℕ) (slot now : Slot F C flash) (pages bits : ℕ) → slice_get slots k ≡ Some slot
-      → (HasRoom (1 + pages) (length flip.bits + bits) slot → HasRoom pages bits now)
-      → All (HasRoom (1 + pages) (length flip.bits + bits)) slots → All (HasRoom pages bits) (set slots k now)
-  room_left flip slots k slot now pages bits at here all =
-      all_set (HasRoom (1 + pages) (length flip.bits + bits)) (HasRoom pages bits) slots k slot now at here
-      (λ other r. record { page_room = omega (arith, r.page_room); bits_room = omega (arith, r.bits_room) }) all
+  -- and after it for the others
+  pub room_after : (flip : Flip) (rest : List Flip) (slots : List (Slot F C flash)) (slot now : Slot F C flash) → slice_get slots flip.chip ≡ Some slot
+      → chip_page_room slot.chip ≤ chip_page_room now.chip + 1 → chip_bits slot.chip ≤ chip_bits now.chip + length flip.bits
+      → HasRoomFor (flip ∷ rest) slots → HasRoomFor rest (set slots flip.chip now)
+  room_after flip rest slots slot now at pages bits room k =
+      let Has : ℕ → List Flip → Option (Slot F C flash) → Type 0 = λ j fs o. IfSome o (HasRoom (1 + length (flips_on j fs)) (bit_count (flips_on j fs))) in
+      let changed = set_changes slots flip.chip now (slice_get_within slots flip.chip slot at) in
+      let count = counted_on flip.chip flip rest refl in
+      let all = at_some (HasRoom (1 + length (flips_on flip.chip (flip ∷ rest))) (bit_count (flips_on flip.chip (flip ∷ rest))))
+      (slice_get slots flip.chip) slot (room flip.chip) at in
+      let here : HasRoom (1 + length (flips_on flip.chip rest)) (bit_count (flips_on flip.chip rest)) now =
+      record { page_room = omega (arith, all.page_room, count.0, pages); bits_room = omega (arith, all.bits_room, count.1, bits) } in
+      elim (cases_eq flip.chip k) [
+        | inl same ↦ subst (λ j. Has j rest (slice_get (set slots flip.chip now) j)) same (subst (Has flip.chip rest) (sym changed.here) here)
+        | inr other ↦ subst (Has k rest) (sym (changed.elsewhere k other))
+            (subst (λ fs. IfSome (slice_get slots k) (HasRoom (1 + length fs) (bit_count fs))) (counted_off k flip rest other) (room k))
+      ]
 
-  -- the loop over the flips stands at place n: chips and room are those of the flips before, and
-  -- those that are left can be made, with room for one page more
-  pub record FlipsLeft (flips : List Flip) (event n : ℕ) (start : List (SlotState flash.FaultState)) (slots : List (Slot F C flash)) : Type 0 where
+  -- the loop over the flips stands before the next of them: chips and room are those after the ones
+  -- before, and those that are left can be made, with room for one page more
+  pub record FlipsLeft (flips : List Flip) (event : ℕ) (next : Option ℕ) (start : List (SlotState flash.FaultState)) (slots : List (Slot F C flash)) :
+      Type 0 where
+    pub left : List Flip
+    pub are_left : AreLeft flips event next left
     pub there : All (CanFlip (map slot_state slots)) flips
-    pub room : All (HasRoom (1 + length (due_flips (drop n flips) event)) (bit_count (due_flips (drop n flips) event))) slots
-    pub so_far : fold (slot_flip flash.fault_model) (map slot_state slots) (due_flips (drop n flips) event)
-        ≡ slot_flips_before flash.fault_model flips event start
+    pub room : HasRoomFor left slots
+    pub so_far : fold (slot_flip flash.fault_model) (map slot_state slots) left ≡ slot_flips_before flash.fault_model flips event start
 
-  module _ (flips : List Flip) (event n : ℕ) (start : List (SlotState flash.FaultState)) (slots : List (Slot F C flash))
-      (left : FlipsLeft flips event n start slots)
-      (flip : Flip) (at : slice_get flips n ≡ Some flip) where
-    module _ (due : flip.before ≡ event) where
-      is_due_here : is_due event flip ≡ true
-      is_due_here = eq-eqb flip.before event due
+  module _ (flips : List Flip) (event : ℕ) (next : Option ℕ) (start : List (SlotState flash.FaultState)) (slots : List (Slot F C flash))
+      (made : FlipsLeft flips event next start slots) where
+    -- there is room for the next flip
+    pub flip_room : (n : ℕ) (flip : Flip) → next ≡ Some n → slice_get flips n ≡ Some flip → (rest : List Flip) × HasRoomFor (flip ∷ rest) slots
+    flip_room n flip at there =
+        let after = left_after flips event n flip next (first_due flips event (n + 1)) made.left made.are_left at there refl in
+        (after.0, subst (λ fs. HasRoomFor fs slots) after.1 made.room)
 
-      flip_rooms : All (HasRoom (1 + (1 + length (due_flips (drop (n + 1) flips) event))) (length flip.bits + bit_count (due_flips (drop (n + 1) flips) event))) slots
-          × All (HasRoom 1 (length flip.bits)) slots
-      flip_rooms =
-          let counts = counted_here flips event n flip at is_due_here in
-          room_split (1 + length (due_flips (drop n flips) event)) (bit_count (due_flips (drop n flips) event)) flip (due_flips (drop (n + 1) flips) event)
-          slots (ap (λ m. 1 + m) counts.0) counts.1 left.room
+    -- it is made
+    pub one_flipped : (n : ℕ) (flip : Flip) (after : Option ℕ) (now : List (Slot F C flash)) → next ≡ Some n → slice_get flips n ≡ Some flip
+        → after ≡ first_due flips event (n + 1) → map slot_state now ≡ slot_flip flash.fault_model (map slot_state slots) flip
+        → ((rest : List Flip) → HasRoomFor (flip ∷ rest) slots → HasRoomFor rest now)
+        → FlipsLeft flips event after start now
+    one_flipped n flip after now at there is chips room =
+        let rest = left_after flips event n flip next after made.left made.are_left at there is in
+        record {
+          left = rest.0;
+          are_left = rest.2;
+          there = λ k d h. subst (λ cs. CanFlip cs (get_or flips k d)) (sym chips) (can_still_flip flash.fault_model (map slot_state slots) flip
+              (get_or flips k d) (made.there k d h));
+          room = room rest.0 (subst (λ fs. HasRoomFor fs slots) rest.1 made.room);
+          so_far = ap (λ cs. fold (slot_flip flash.fault_model) cs rest.0) chips
+              ∙ ap (fold (slot_flip flash.fault_model) (map slot_state slots)) (sym rest.1) ∙ made.so_far;
+        }
 
-      -- there is room for the flip
-      pub flip_room : All (HasRoom 1 (length flip.bits)) slots
-      flip_room = flip_rooms.1
+    -- at the end all flips are made
+    pub all_flipped : next ≡ None → map slot_state slots ≡ slot_flips_before flash.fault_model flips event start
+    all_flipped none =
+        ap (fold (slot_flip flash.fault_model) (map slot_state slots)) (sym (left_none flips event next made.left made.are_left none)) ∙ made.so_far
 
-      -- it is made
-      pub one_flipped : (now : List (Slot F C flash)) → map slot_state now ≡ slot_flip flash.fault_model (map slot_state slots) flip
-          → ((pages bits : ℕ) → All (HasRoom (1 + pages) (length flip.bits + bits)) slots → All (HasRoom pages bits) now)
-          → FlipsLeft flips event (n + 1) start now
-      one_flipped now chips room = record {
-        there = λ k d h. subst (λ cs. CanFlip cs (get_or flips k d)) (sym chips) (can_still_flip flash.fault_model (map slot_state slots) flip
-            (get_or flips k d) (left.there k d h));
-        room = room (1 + length (due_flips (drop (n + 1) flips) event)) (bit_count (due_flips (drop (n + 1) flips) event)) flip_rooms.0;
-        so_far = ap (λ cs. fold (slot_flip flash.fault_model) cs (due_flips (drop (n + 1) flips) event)) chips
-            ∙ ap (fold (slot_flip flash.fault_model) (map slot_state slots)) (sym (due_here flips event n flip at is_due_here)) ∙ left.so_far;
-      }
-
-    -- a flip that is not due is passed over
-    pub none_flipped : (flip.before ≡ event → ⊥) → FlipsLeft flips event (n + 1) start slots
-    none_flipped other = subst (λ due. All (HasRoom (1 + length due) (bit_count due)) slots → fold (slot_flip flash.fault_model) (map slot_state slots) due
-        ≡ slot_flips_before flash.fault_model flips event start
-        → FlipsLeft flips event (n + 1) start slots)
-        (sym (due_later flips event n flip at (ne_eqb flip.before event other)))
-        (λ room so_far. record { there = left.there; room = room; so_far = so_far }) left.room left.so_far
-
-  -- at its end all flips are made
-  pub all_flipped : (flips : List Flip) (event n : ℕ) (start : List (SlotState flash.FaultState)) (slots : List (Slot F C flash))
-      → FlipsLeft flips event n start slots → length flips ≤ n
-      → map slot_state slots ≡ slot_flips_before flash.fault_model flips event start
-  all_flipped flips event n start slots left end =
-      ap (fold (slot_flip flash.fault_model) (map slot_state slots)) (sym (due_at_end flips event n end)) ∙ left.so_far
-
-  -- and room for a page is left
-  pub room_at_end : (flips : List Flip) (event n : ℕ) (start : List (SlotState flash.FaultState)) (slots : List (Slot F C flash))
-      → FlipsLeft flips event n start slots → length flips ≤ n → All (HasRoom 1 0) slots
-  room_at_end flips event n start slots left end = subst (λ due. All (HasRoom (1 + length due) (bit_count due)) slots) (due_at_end flips event n end) left.room
+    -- and room for a page is left
+    pub room_at_end : next ≡ None → All (HasRoom 1 0) slots
+    room_at_end none =
+        let room = subst (λ fs. HasRoomFor fs slots) (left_none flips event next made.left made.are_left none) made.room in
+        λ k d h. at_some (HasRoom 1 0) (slice_get slots k) (get_or slots k d) (room k) (slice_get-get_or slots k d h)
 
   -- a chip in a slot after the flips, which has an event before them
   pub event_there : (flips : List Flip) (event : ℕ) (before now : List (Slot F C flash)) (k : ℕ)

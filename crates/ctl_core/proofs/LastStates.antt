@@ -1,15 +1,13 @@
 -- What is left of a course that is over, by what its controller keeps.
-use Rattle.std.proofs.Common.{◌≡◌, ◌<◌, ◌≤◌, ◌+◌, arith, ℕ, zero, suc, Bool, true, false, not, ◌&&◌, ◌||◌, List, [], ◌∷◌, ◌++◌, length, map, take, Option, Some, None, refl, ap, sym, ◌∙◌, get_or, add-one, cond}
-use Rattle.std.specs.Prelude.{slice_get, find, option_map, ◌==◌, All, sum_by, is_some}
+use Rattle.std.proofs.Common.{◌≡◌, ◌<◌, ◌≤◌, ◌+◌, arith, ℕ, zero, suc, not, List, [], ◌∷◌, ◌++◌, length, map, take, Option, Some, None, refl, ap, sym, ◌∙◌, get_or, add-one}
+use Rattle.std.specs.Prelude.{slice_get, option_map, All, sum_by}
 use Rattle.std.proofs.lemmas.List.{take_more}
 use Rattle.std.proofs.lemmas.List.Sums.{sum_by-cons, sum_by_push}
-use Rattle.std.proofs.lemmas.Option.{slice_get_within, slice_get-map, slice_get-get_or}
+use Rattle.std.proofs.lemmas.Option.{slice_get-map, slice_get-get_or}
 use Rattle.nand_iface.specs.declared.flash.Flash.{Ghosts}
 use Rattle.nand_model.specs.declared.geometry.Geometry.{Geometry}
 use Rattle.nand_model.specs.declared.words.Command.{Command}
 use Rattle.nand_model.specs.declared.words.Note.{Note}
-use Rattle.nand_model.specs.declared.words.Op.{Op}
-use Rattle.nand_model.specs.declared.words.Reply.{Reply}
 use Rattle.nand_model.specs.declared.words.Part.{Part}
 use Rattle.nand_model.specs.declared.words.Stats.{Stats}
 use Rattle.nand_model.specs.Sizes.{numbers_from}
@@ -22,15 +20,14 @@ use Rattle.run_model.specs.Course.{end_states}
 use Rattle.session_steps.specs.declared.session.Session.{Session}
 use Rattle.session_steps.specs.Standing.{standing}
 use Rattle.chip_paths.proofs.Tables.{one_table}
-use Rattle.chip_paths.specs.Stage.{stage_by, stage_statistics, stage_table}
+use Rattle.chip_paths.specs.Stage.{stage_by, stage_statistics}
 use Rattle.ctl_core.specs.declared.board.Board.{Board}
 use Rattle.ctl_core.specs.SlotState.{SlotState, slot_as, slots_as}
-use Rattle.ctl_core.specs.Past.{Past, starts_of, sizes_in, course_of}
+use Rattle.ctl_core.specs.Past.{Past, starts_of, course_of}
 use Rattle.run_model.specs.Start.{IsOnChip}
 use Rattle.ctl_core.specs.Ended.{end_beside, ends_beside, end_of_run, all_bad_blocks, slot_flash, slot_statistics_on, slot_statistics_at, slot_statistics, slot_bad_blocks}
 use Rattle.run_model.specs.Statistics.{statistics_known, statistics_on, statistics_at, device_numbers, device_statistics}
 use Rattle.ctl_core.specs.Board.{slot_states, IsOnCourse}
-use Rattle.ctl_core.proofs.Places.{item_at}
 use Rattle.ctl_core.proofs.Devices.{all_at, chip_stays}
 use Rattle.ctl_core.proofs.OnCourse.{holds, slot_there}
 

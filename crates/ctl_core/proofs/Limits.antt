@@ -1,5 +1,5 @@
 -- How many chips, events and turns a controller can have.
-use Rattle.std.proofs.Common.{◌≡◌, ◌<◌, ◌≤◌, ◌⊎◌, inl, inr, ◌+◌, ◌*◌, ◌-◌, ◌^◌, arith, ℕ, true, false, List, [], length, Option, Some, None, refl, ap, sym, ◌∙◌, subst, get_or}
+use Rattle.std.proofs.Common.{◌≡◌, ◌<◌, ◌≤◌, ◌⊎◌, inl, inr, ◌*◌, ◌-◌, ◌^◌, arith, ℕ, true, false, List, [], length, Option, Some, None, refl, ap, sym, ◌∙◌, subst, get_or}
 use Rattle.std.specs.Prelude.{slice_get, position, option_map, ◌==◌}
 use Rattle.std.proofs.lemmas.Bool.{cases_lt, eq-eqb, eqb-true}
 use Rattle.std.proofs.lemmas.Option.{slice_get_within}

@@ -1,5 +1,5 @@
 -- An event that is done, whole or torn.
-use Rattle.std.proofs.Common.{◌≡◌, ℕ, ◌+◌, List, map, Option, Some, None, Bor, refl, ap, sym, ◌∙◌, subst}
+use Rattle.std.proofs.Common.{◌≡◌, ℕ, ◌+◌, List, map, Option, Some, Bor, ap, sym, ◌∙◌}
 use Rattle.std.specs.Prelude.{slice_get, option_copied, is_some}
 use Rattle.std.proofs.Math.ListN.{set}
 use Rattle.nand_iface.specs.declared.flash.Flash.{Ghosts}

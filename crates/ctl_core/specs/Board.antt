@@ -1,5 +1,5 @@
 -- What a controller keeps, as its course has it.
-use Rattle.std.specs.Prelude.{◌≡◌, ◌≤◌, ℕ, ◌+◌, List, [], false, map, slice_get, Option, Some, None, is_some, option_map, option_and_then}
+use Rattle.std.specs.Prelude.{◌≡◌, ◌≤◌, ℕ, ◌+◌, List, [], false, length, map, slice_get, Option, Some, None, IfSome, is_some, option_map, option_and_then}
 use Rattle.nand_iface.specs.declared.flash.Flash.{Ghosts}
 use Rattle.nand_model.specs.Chip.{PageEvent}
 use Rattle.nand_model.specs.declared.words.Flip.{Flip}
@@ -16,7 +16,7 @@ use Rattle.ctl_core.specs.declared.board.Slot.{Slot}
 use Rattle.ctl_core.specs.declared.board.Board.{Board}
 use Rattle.ctl_core.specs.declared.journal.Journal.{Journal}
 use Rattle.ctl_core.specs.SlotState.{SlotState, first_attaching, slot_after, notes_after}
-use Rattle.ctl_core.specs.Flips.{slot_flips_before}
+use Rattle.ctl_core.specs.Flips.{bit_count, flips_on, slot_flips_before}
 use Rattle.ctl_core.specs.Follows.{Follows}
 use Rattle.ctl_core.specs.Past.{Past, starts_of, course_of}
 use Rattle.ctl_core.specs.Start.{CanStart}
@@ -34,6 +34,12 @@ slot_state slot = record {
 pub record HasRoom {F C : Type 0} {flash : Ghosts F} (pages bits : ℕ) (slot : Slot F C flash) : Type 0 where
   pub page_room : pages ≤ chip_page_room slot.chip
   pub bits_room : bits ≤ chip_bits slot.chip
+
+-- each chip may turn the bits of its own flips among these, and one page more, before memory has to
+-- be asked for
+abbrev pub HasRoomFor : {F C : Type 0} {flash : Ghosts F} → List Flip → List (Slot F C flash) → Type 0
+HasRoomFor flips slots = (chip : ℕ) → IfSome (slice_get slots chip)
+    (HasRoom (1 + length (flips_on chip flips)) (bit_count (flips_on chip flips)))
 
 -- the chips in their slots
 abbrev pub slot_states : {F C : Type 0} {flash : Ghosts F} → Board F C flash → List (SlotState flash.FaultState)

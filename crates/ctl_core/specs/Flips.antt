@@ -1,6 +1,6 @@
 -- The flips of a controller's chips: which are due before an event, and what they make of the
 -- chips.
-use Rattle.std.specs.Prelude.{ℕ, List, length, sum_by, fold, ◌≡◌, slice_get, Some}
+use Rattle.std.specs.Prelude.{ℕ, List, length, sum_by, fold, filter, ◌≡◌, ◌==◌, slice_get, Some}
 use Rattle.nand_model.specs.Chip.{FaultModel, after_trace, flip_events}
 use Rattle.ctl_core.specs.SlotState.{SlotState}
 use Rattle.command_model.specs.Boot.{change_at}
@@ -10,6 +10,10 @@ use Rattle.nand_model.specs.declared.words.Flip.{Flip}
 -- how many bits these flips turn
 abbrev pub bit_count : List Flip → ℕ
 bit_count flips = sum_by (λ (flip : Flip). length flip.bits) flips
+
+-- those of these flips that are of a chip
+abbrev pub flips_on : ℕ → List Flip → List Flip
+flips_on chip flips = filter (λ (flip : Flip). flip.chip == chip) flips
 
 -- a chip after its bits were turned
 abbrev pub slot_with_flip : {W : Type 0} → FaultModel W → Flip → SlotState W → SlotState W

@@ -1,7 +1,5 @@
 use Rattle.std.proofs.Common.{◌≡◌, ◌+◌, ◌∷◌, ◌++◌, [], Bool, not, ap, length, length-append, sym, ◌∙◌}
-use Rattle.nand_model.specs.declared.words.Command.{Command}
 use Rattle.tool_steps.specs.Boot.{commands_at}
-use Rattle.session_steps.specs.declared.session.Session.{Session}
 use Rattle.session_steps.specs.Standing.{end_of, standing}
 use Rattle.ctl_core.specs.Ended.{ends_beside}
 use Rattle.ctl_core.proofs.LastStates.{ends_none, ends_push}

@@ -1,4 +1,4 @@
-use Rattle.std.proofs.Common.{◌≡◌, ◌<◌, ◌≤◌, length, map, List, sym, ap, ◌∙◌, subst}
+use Rattle.std.proofs.Common.{◌<◌, ◌≤◌, length, map, List, sym, ap, ◌∙◌, subst}
 use Rattle.std.specs.Prelude.{All, sum_by}
 use Rattle.nand_model.specs.Partitions.{Partitions}
 use Rattle.nand_model.specs.declared.words.Part.{Part}

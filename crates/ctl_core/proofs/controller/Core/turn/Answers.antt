@@ -1,10 +1,10 @@
-use Rattle.std.proofs.Common.{◌≡◌, ◌≤◌, ◌+◌, ◌*◌, ℕ, List, length, Bool, true, false, not, None, Ok, refl, ap, sym, ◌∙◌, subst}
+use Rattle.std.proofs.Common.{◌≡◌, ◌≤◌, ℕ, List, length, Bool, true, false, not, Ok, refl, ap, sym, ◌∙◌, subst}
 use Rattle.std.specs.declared.alloc.AllocError.{AllocError}
 use Rattle.run_model.specs.Course.{is_idle}
 use Rattle.ctl_core.specs.declared.turn.Turn.{Turn}
 use Rattle.ctl_core.specs.declared.turn.Turn.TheVariants.{Did, Held, Done, Dark}
 use Rattle.ctl_core.specs.Answer.{is_did, turn_answer, after_turn}
-use Rattle.ctl_core.specs.Past.{turn_limit, Past, starts_of, sizes_in, course_of, next_course, takes_turns, with_turn}
+use Rattle.ctl_core.specs.Past.{turn_limit, Past, sizes_in, course_of, next_course, takes_turns, with_turn}
 use Rattle.ctl_core.specs.Board.{past_of, StandsAt, IsOnCourse}
 use Rattle.ctl_core.proofs.Limits.{few_turns}
 use Rattle.ctl_core.proofs.CoreSteps.{dark_course, lit_course, relisted, stayed_on, next_attached, turned_on, idle_turn}

@@ -1,4 +1,4 @@
-use Rattle.std.proofs.Common.{◌+◌, ◌*◌, ◌≤◌, length, subst, sym, ◌∙◌}
+use Rattle.std.proofs.Common.{◌≤◌, subst, sym, ◌∙◌}
 use Rattle.ctl_core.specs.Past.{Past, turn_limit}
 use Rattle.ctl_core.specs.Board.{past_of}
 use Rattle.ctl_core.proofs.Limits.{few_turns}
