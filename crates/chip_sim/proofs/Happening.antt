@@ -1,5 +1,5 @@
 -- The state of a chip whose pages, counts of calls and faults changed.
-use Rattle.std.proofs.Common.{◌≡◌, ℕ, List, refl}
+use Rattle.std.proofs.Common.{◌≡◌, ℕ, List}
 use Rattle.nand_model.specs.Chip.{ChipState, PageState, SimFaults, WeakCount}
 use Rattle.nand_model.specs.Sizes.{raw_len}
 use Rattle.nand_model.specs.declared.geometry.Geometry.{Geometry}

@@ -1,5 +1,5 @@
 -- The done bits of a tear, and the cells of an erased page.
-use Rattle.std.proofs.Common.{◌≡◌, ℕ, zero, suc, ◌+◌, ◌^◌, ◌<◌, ◌≤◌, List, [], ◌∷◌, replicate, refl, ap, sym, arith, bit_or}
+use Rattle.std.proofs.Common.{◌≡◌, ℕ, zero, suc, ◌+◌, ◌^◌, ◌<◌, ◌≤◌, ◌∷◌, replicate, refl, ap, sym, arith, bit_or}
 use Rattle.std.specs.Prelude.{◌%◌}
 use Rattle.std.proofs.lemmas.Nat.{le_or_l, or_of_8}
 use Rattle.nand_model.specs.Chip.{done_bits, map_from, torn_erased}

@@ -1,7 +1,7 @@
 -- The weak place of a call, found by its place in the list.
 use Rattle.std.proofs.Common.{◌≡◌, ℕ, suc, zero, ◌+◌, ◌<◌, ◌≤◌, Bool, true, false, List, [], ◌∷◌, length, drop, slice_set, slice_index, Some, None, if◌then◌else◌, refl, ap, sym, ◌∙◌, subst, arith, inl, inr, min, map, replicate}
-use Rattle.std.specs.Prelude.{◌&&◌, ◌||◌, not, nat_le, slice_get}
-use Rattle.std.specs.List.{list_any, position_from, zip}
+use Rattle.std.specs.Prelude.{not, nat_le, slice_get}
+use Rattle.std.specs.List.{list_any, zip}
 use Rattle.std.proofs.lemmas.Bool.Decides.{nat_tests}
 use Rattle.std.proofs.lemmas.Bool.{cases_Bool, eqb-true, false≢true, not-true, or_parts, and_parts}
 use Rattle.nand_model.specs.Chip.{Call, ProgramCall, EraseCall, WeakCount, done_bits, is_weak_at, weak_fails, weak_after_call}

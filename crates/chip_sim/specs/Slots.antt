@@ -5,7 +5,6 @@ use Rattle.nand_model.specs.Chip.{PageState, done_bits, programmed, torn_erased,
 use Rattle.nand_model.specs.Flips.{with_bit_turned}
 use Rattle.nand_model.specs.declared.tear.Tear.{Tear}
 use Rattle.chip_sim.specs.Blanks.{blank_cells}
-use Rattle.chip_sim.specs.declared.page.Page.{Page}
 use Rattle.chip_sim.specs.declared.slots.Slot.{Slot}
 use Rattle.chip_sim.specs.declared.slots.Slot.TheVariants.{Blank, Kept}
 

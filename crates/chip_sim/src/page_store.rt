@@ -25,6 +25,7 @@ pub struct PageStore {
     ghost all_there: { length slots.items ≡ page_count geometry },
     ghost whole: { All (IsWholeSlot (raw_len geometry)) slots.items },
     ghost blanks_fit: { blanks.raw ≡ raw_len geometry },
+    ghost flips_fit: { length log.flips ≡ page_count geometry },
 }
 
 impl PageStore {
@@ -37,11 +38,13 @@ impl PageStore {
         ensures pages { IfOk result
             (λ store. (page : ℕ) → stored_pages store page ≡ new_page g bad.now page) }
     {
+        let slots = new_slots(alloc, g, bad)?;
+        let log = FlipLog::new(alloc, slots.len())?;
         Ok(PageStore {
             geometry: g,
-            slots: new_slots(alloc, g, bad)?,
+            slots,
             blanks: BlankPages::new(alloc, g.raw_len() as usize),
-            log: FlipLog::new(alloc),
+            log,
         })
     }
 

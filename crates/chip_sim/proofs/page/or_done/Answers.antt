@@ -1,4 +1,4 @@
-use Rattle.std.proofs.Common.{◌≡◌, ℕ, ◌-◌, ◌∙◌, arith, slice_index, bit_and, bit_or}
+use Rattle.std.proofs.Common.{◌≡◌, ℕ, ◌∙◌, arith, bit_or}
 use Rattle.std.specs.Prelude.{◌%◌}
 use Rattle.nand_model.specs.Chip.{done_bits}
 use Rattle.chip_sim.proofs.Programming.{map_from_next, map_from_done}

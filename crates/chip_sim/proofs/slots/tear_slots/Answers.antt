@@ -1,4 +1,4 @@
-use Rattle.std.proofs.Common.{ℕ, ◌+◌, ◌∙◌, ◌<◌, ap, length, All, arith, false}
+use Rattle.std.proofs.Common.{ℕ, ◌+◌, ◌∙◌, ◌<◌, ap, length, arith, false}
 use Rattle.std.proofs.lemmas.List.{get_or_default}
 use Rattle.std.proofs.lemmas.List.Elements.{All-set}
 use Rattle.chip_sim.specs.Slots.{IsWholeSlot, erase_torn, slot_at}

@@ -1,11 +1,19 @@
-use Rattle.std.proofs.Common.{rules}
-use Rattle.std.proofs.lemmas.Fn.{filter_same}
-use Rattle.chip_sim.specs.declared.flip_log.FlippedBit.{FlippedBit}
-use Rattle.chip_sim.proofs.LogLemmas.{flips_of-outside, is_outside}
+use Rattle.std.proofs.Common.{◌∙◌}
+use Rattle.std.specs.Vec.{with_items}
+use Rattle.std.proofs.lemmas.List.{with_items_is}
+use Rattle.chip_sim.proofs.LogLemmas.{flips_of-cleared, linked-cleared}
 use Rattle.chip_sim.proofs.flip_log.FlipLog.forget.Goals as goal
 
+pub invariant_of-self : goal.invariant_of-self
+invariant_of-self c =
+    let new = c.clear_places.new.places in
+    let same = with_items_is c.self.inside.last new (c.clear_places.auto.places ∙ c.deref_mut.ensures.len) in
+    linked-cleared c.self.inside.flips.items c.self.inside.last.items (with_items c.self.inside.last new).items c.args.first c.args.end
+    (rw (same, ← c.deref_mut.ensures.value) c.clear_places.ensures) c.self.invariant
+
 pub returns-clause-flips : goal.returns-clause-flips
-returns-clause-flips c =
-    let kept = filter_same _ (λ (flip : FlippedBit). is_outside c.args.first c.args.end flip.page) _ (λ x b f' k. search rules)
-    c.self.inside.flips.items c.retain.new.self.items c.retain.ensures.filtered in
-    λ p. rw (kept, ← c.self.view_is) (flips_of-outside c.self.inside.flips.items c.args.first c.args.end p)
+returns-clause-flips c p =
+    let new = c.clear_places.new.places in
+    let same = with_items_is c.self.inside.last new (c.clear_places.auto.places ∙ c.deref_mut.ensures.len) in
+    rw (← c.self.view_is) (flips_of-cleared c.self.inside.flips.items c.self.inside.last.items (with_items c.self.inside.last new).items c.args.first c.args.end
+    (rw (same, ← c.deref_mut.ensures.value) c.clear_places.ensures) p)

@@ -26,6 +26,7 @@ invariant_of-self c =
       all_there = ap length same ∙ c.clear_slots.auto.slots ∙ ap length c.deref_mut.ensures.value ∙ s.all_there;
       whole = subst (All (IsWholeSlot raw)) (sym same) after;
       blanks_fit = s.blanks_fit;
+      flips_fit = c.forget.ensures.pages ∙ s.flips_fit;
     }
 
 pub returns-clause-pages : goal.returns-clause-pages

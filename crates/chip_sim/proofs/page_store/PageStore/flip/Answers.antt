@@ -1,4 +1,4 @@
-use Rattle.std.proofs.Common.{◌<◌, ◌∙◌, length, sym, arith, false}
+use Rattle.std.proofs.Common.{◌<◌, ◌∙◌, length, arith, false}
 use Rattle.std.proofs.lemmas.List.{length-set}
 use Rattle.std.proofs.lemmas.List.Elements.{All-set}
 use Rattle.nand_model.specs.Sizes.{raw_len}
@@ -23,6 +23,7 @@ invariant_of-self c =
       whole = All-set (IsWholeSlot raw) s.slots.items c.args.page c.flip_slot.new.slot
           (rw new (flipped-whole raw c.args.bits.now (slot_at s.slots.items c.args.page) (s.whole c.args.page (Blank false) there))) s.whole;
       blanks_fit = c.flip_slot.ensures.raw ∙ s.blanks_fit;
+      flips_fit = c.add.ensures.pages ∙ s.flips_fit;
     }
 
 pub returns-then-len-gt0-clause-pages : goal.returns-then-len-gt0-clause-pages

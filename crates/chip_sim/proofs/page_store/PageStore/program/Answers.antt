@@ -23,6 +23,7 @@ invariant_of-self c =
       whole = All-set (IsWholeSlot raw) s.slots.items c.args.page c.program_slot.new.slot
           (rw new (programmed-whole raw c.args.image.now (slot_at s.slots.items c.args.page) (s.whole c.args.page (Blank false) there))) s.whole;
       blanks_fit = c.program_slot.ensures.raw ∙ s.blanks_fit;
+      flips_fit = s.flips_fit;
     }
 
 pub returns-clause-pages : goal.returns-clause-pages

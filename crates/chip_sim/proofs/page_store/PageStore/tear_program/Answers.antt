@@ -23,6 +23,7 @@ invariant_of-self c =
       whole = All-set (IsWholeSlot raw) s.slots.items c.args.page c.tear_slot_program.new.slot
           (rw new (program_torn-whole raw c.args.image.now c.args.tear.now (slot_at s.slots.items c.args.page) (s.whole c.args.page (Blank false) there))) s.whole;
       blanks_fit = c.tear_slot_program.ensures.raw ∙ s.blanks_fit;
+      flips_fit = s.flips_fit;
     }
 
 pub returns-clause-pages : goal.returns-clause-pages

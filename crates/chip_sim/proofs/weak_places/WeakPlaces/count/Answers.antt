@@ -1,8 +1,8 @@
-use Rattle.std.proofs.Common.{◌≡◌, ◌+◌, ◌∙◌, List, ap, arith, length, min, sym}
+use Rattle.std.proofs.Common.{◌≡◌, ◌+◌, ◌∙◌, List, ap, arith, min, sym}
 use Rattle.std.proofs.lemmas.List.{get_or_read}
 use Rattle.nand_model.specs.Chip.{Call, WeakCount, weak_after_call}
 use Rattle.fault_plan.specs.WeakPlaces.{call_at}
-use Rattle.chip_sim.proofs.Weakness.{IsFound, counts_there, found_at, none_weak, strong-counts}
+use Rattle.chip_sim.proofs.Weakness.{counts_there, found_at, none_weak, strong-counts}
 use Rattle.chip_sim.proofs.weak_places.WeakPlaces.count.Goals as goal
 
 pub get-requires : goal.get-requires

@@ -1,9 +1,8 @@
-use Rattle.std.proofs.Common.{◌∙◌, ap, arith, length, sym}
+use Rattle.std.proofs.Common.{◌∙◌, arith, sym}
 use Rattle.std.proofs.lemmas.List.{get_or_read}
-use Rattle.nand_model.specs.Chip.{Call, done_bits}
-use Rattle.std.specs.Prelude.{option_copied, option_map}
+use Rattle.nand_model.specs.Chip.{Call}
 use Rattle.fault_plan.specs.WeakPlaces.{call_at}
-use Rattle.chip_sim.proofs.Weakness.{IsFound, fails_not_yet, fails_worn, found_at, none_weak, strong-fails}
+use Rattle.chip_sim.proofs.Weakness.{fails_not_yet, fails_worn, found_at, none_weak, strong-fails}
 use Rattle.chip_sim.proofs.weak_places.WeakPlaces.failing.Goals as goal
 
 pub returns-in_err-place : goal.returns-in_err-place
