@@ -5,4 +5,3 @@ mod ClapSteps
 mod ClapWords
 mod Accepted
 mod Parsed
-mod Strengths

@@ -49,8 +49,8 @@ taken_or_refused (Decode t) bytes text taken refused = whole_or_not (unit_bytes 
 -- what is served is taken
 pub served_is_taken : (request : Request) (bytes text : List ℕ) → Serves request bytes text → IsTaken request bytes
 served_is_taken Check bytes text (plan, form, same) = (plan, form)
-served_is_taken Replay bytes text (plan, form, report) = (plan, form)
-served_is_taken Run bytes text (plan, form, report) = (plan, form)
+served_is_taken Replay bytes text (plan, form, blocks, report) = (plan, form)
+served_is_taken Run bytes text (plan, form, blocks, report) = (plan, form)
 served_is_taken (Make n) bytes text summary = tt
 served_is_taken Bus bytes text legal = (text, legal)
 served_is_taken (Encode t) bytes text (whole, same) = whole
