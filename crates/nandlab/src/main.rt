@@ -4,6 +4,8 @@
 
 mod answer;
 mod exit;
+#[cfg(test)]
+mod failing;
 mod refusal;
 mod request;
 mod status;

@@ -57,9 +57,9 @@ fn numbers(alloc: Global, of: &[u32]) -> Result<BlockList, AllocError> {
     Ok(list)
 }
 
-// How a call with these words ends, and what its sink holds then. The numbers name the calls of
-// source and sink that fail.
-fn served(
+// How a call with these words ends, and what its sink holds then. Source and sink move at most
+// `piece` bytes in a call; the numbers name their calls that fail.
+pub fn served(
     alloc: Global,
     words: &str,
     bytes: Bytes,
@@ -70,7 +70,7 @@ fn served(
     requires { 0 < piece }
 {
     let words = words_of(alloc, words)?;
-    let mut source = MemSource::new(bytes, 4096, numbers(alloc, source_fails)?);
+    let mut source = MemSource::new(bytes, piece, numbers(alloc, source_fails)?);
     let mut sink = MemSink::new(alloc, 65536, piece, numbers(alloc, sink_fails)?)?;
     let status = serial_top(alloc, &words, &mut source, &mut sink);
     Ok((status, sink))

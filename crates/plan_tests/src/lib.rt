@@ -4,6 +4,8 @@
 #[cfg(test)]
 mod commands;
 #[cfg(test)]
+mod hostile;
+#[cfg(test)]
 mod plans;
 #[cfg(test)]
 mod printing;

@@ -105,8 +105,8 @@ const OF_SESSIONS: &str = "line 8: WrongPlace<flip 0.0 0 1 1|\
     line 9: TooLarge<nandtest -p 31 mtd0\nnandtest mtd0";
 
 // Why bytes are refused, or that they are read.
-fn refusal(alloc: Global, text: &str) -> Result<String, AllocError> {
-    match read_plan(alloc, text.as_bytes()) {
+pub fn refusal(alloc: Global, bytes: &[u8]) -> Result<String, AllocError> {
+    match read_plan(alloc, bytes) {
         Ok(_) => String::from_str(alloc, "read"),
         Err(error) => error.to_string(alloc),
     }
@@ -114,11 +114,11 @@ fn refusal(alloc: Global, text: &str) -> Result<String, AllocError> {
 
 // The first of these rows whose lines are refused otherwise behind these beginnings; nothing where
 // there is none.
-fn first_wrong(alloc: Global, front: &str, rows: &str) -> Result<String, AllocError> {
+pub fn first_wrong(alloc: Global, front: &str, rows: &str) -> Result<String, AllocError> {
     for row in rows.split('|') {
         let (want, back) = row.split_once('<').unwrap_or((row, ""));
         let text = format!(in alloc; "{front}{back}")?;
-        if refusal(alloc, text.as_str())?.as_str() != want {
+        if refusal(alloc, text.as_bytes())?.as_str() != want {
             return String::from_str(alloc, row);
         }
     }
