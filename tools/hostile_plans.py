@@ -5,10 +5,11 @@
   tools/hostile_plans.py PROGRAM mutated [--seed N] [--runs N] [--jobs N] [--keep FOLDER] FOLDER..
 
 `limits` wants status 0 of each plan at a limit, and of each plan above it the refusal that the rules of plans say; the
-second reader of plans (plan_reader.py) has to agree on all but the one of 65,536 lines. `mutated` changes the plans below the folders, and random small
-plans beside them, as tools/mutated_plans.py does. Each run has to end with status 0 and a report, or with status 3 and
-one line of a refusal, within a minute of a processor and in less memory than plans within the limits may take. A run
-depends on the seed and its own number alone. Exit status: 1 where a run ended otherwise.
+second reader of plans (plan_reader.py) has to agree on all but the one of 65,536 lines. `mutated` changes the plans
+below the folders, and random small plans beside them, as tools/mutated_plans.py does. Each run has to end with status 0
+and a report, or with status 3 and one line of a refusal, within a minute of a processor and in less memory than plans
+within the limits may take. A run depends on the seed and its own number alone. Exit status: 1 where a run ended
+otherwise.
 """
 import argparse
 import collections
@@ -26,8 +27,8 @@ import random_plans
 
 SECONDS, CLOCK, MOST_MEMORY = 60, 1200, 3_500_000_000 # by the processor; by the clock a run is ended later
 SECOND_READER = 20_000 # the most lines that it reads in a fair time
-KINDS = ('LineTooLong BadByte UnknownWord WrongPlace BadWords BadNumber BadSize SpareTooSmall OutOfChip TooFewTableBlocks '
-         'Overlap UnknownDevice UnknownName NotMultiple TooLarge Ended TooLong')
+KINDS = ('LineTooLong BadByte UnknownWord WrongPlace BadWords BadNumber BadSize SpareTooSmall OutOfChip '
+         'TooFewTableBlocks Overlap UnknownDevice UnknownName NotMultiple TooLarge Ended TooLong')
 REFUSAL = re.compile(r'line (0|[1-9][0-9]*): (%s)\n' % KINDS.replace(' ', '|'))
 END = re.compile(r'(^|\n)end boot [0-9]+\n\Z')
 

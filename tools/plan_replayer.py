@@ -2,7 +2,7 @@
 """Replays a plan from standard input, and prints its report, or the line that the plan is refused with.
 
 A second replay beside the proved one, written from the standard and not from the code under crates/; plans are read by
-plan_reader.py. Exit status: 0, or 3 for a refusal. tools/mutated_plans.py compares the two programs.
+plan_reader.py. Exit status: 0, or 3 for a refusal. tools/random_plans.py compares the two programs.
 """
 import functools
 import sys

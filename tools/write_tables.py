@@ -1,5 +1,5 @@
 #!/usr/bin/env python3
-"""Writes the tables of the quick BCH codes and the masks; run `rt fmt` in the four crates afterwards.
+"""Writes the tables of the quick BCH codes and the masks; run `rt fmt` in the three crates afterwards.
 
 The prover checks each row of remainders, the powers and the generators of gf13_tables and gf14_tables, and
 the masks of ecc_page. The logarithms and the odd powers are not claimed: what they give is tested
