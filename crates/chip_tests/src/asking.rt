@@ -10,14 +10,14 @@ ghost use Rattle.chip_core.specs.Sums.{AreSmall};
 
 use chip_core::{Chip, Fairness, Flash, Op, PageCode, Parts, Reply, Stats, attach, perform};
 use nand_iface::PageKind;
-use nand_model::{BlockList, Bytes, Geometry, Part};
+use nand_model::{BlockList, Bytes, Geometry, Part, Which};
 use std::alloc::{AllocError, Global};
 use std::test::Fail;
 
-/// One device, of the blocks 4 and 5 of a chip of eight.
-pub fn one_device(alloc: Global) -> Result<Parts, Fail> {
+/// One device, of so many blocks of a chip of eight from this one on.
+pub fn device_of(alloc: Global, start: u32, count: u32) -> Result<Parts, Fail> {
     let mut parts = Parts::new(alloc, 0);
-    let (chip, start, count) = (0, 4, 2);
+    let chip = 0;
     parts.add(Part { chip, start, count }, 8)?;
     Ok(parts)
 }
@@ -48,14 +48,17 @@ pub enum Told {
     BadBlock,
     MarkerByte,
     ProgramFailed,
+    EraseFailed,
     MarkerFailed,
+    TableFailed(Which),
+    Reserved,
+    Copies(u32),
     State(u32),
     /// The kind of a page, its corrected bits, the most of a step, its failed steps, and its first
     /// byte.
     Page(PageKind, u32, u32, u32, u8),
     /// The corrected bits, the failed steps, and the bad blocks of the device.
     Counts(u64, u64, u32),
-    Another,
 }
 
 // The operation that is asked for.
@@ -152,8 +155,8 @@ fn op_for<F: Flash, C: PageCode>(
     Ok(op)
 }
 
-// Performs an operation, and tells its reply in short; or flips bits.
-fn reply_to<F: Flash, C: PageCode>(
+/// Performs an operation, and tells its reply in short; or flips bits.
+pub fn reply_to<F: Flash, C: PageCode>(
     chip: &mut Chip<F, C>,
     alloc: Global,
     parts: &Parts,
@@ -180,7 +183,7 @@ pub fn first_other_reply<F: Flash, C: PageCode>(
 ) -> Result<Option<(usize, Told)>, Fail>
     requires { (F.state flash).geometry.bbt ≡ 0 }
 {
-    let parts = one_device(alloc)?;
+    let parts = device_of(alloc, 4, 2)?;
     let mut chip = attach(alloc, flash, code)?;
     first_other_of(&mut chip, alloc, &parts, rows)
 }
@@ -203,8 +206,8 @@ fn first_other_of<F: Flash, C: PageCode>(
     Ok(None)
 }
 
-// Begins an operation.
-fn begin<F: Flash, C: PageCode>(
+/// Begins an operation.
+pub fn begin<F: Flash, C: PageCode>(
     chip: &mut Chip<F, C>,
     alloc: Global,
     parts: &Parts,
@@ -227,7 +230,7 @@ pub fn told_of_failure<F: Flash, C: PageCode>(
 ) -> Result<Option<Fairness>, Fail>
     requires { (F.state flash).geometry.bbt ≡ 0 }
 {
-    let parts = one_device(alloc)?;
+    let parts = device_of(alloc, 4, 2)?;
     let mut chip = attach(alloc, flash, code)?;
     failure_of(&mut chip, alloc, &parts, ask)
 }
@@ -291,15 +294,19 @@ fn has_bit(g: &Geometry, page: u32, bit: u32) -> bool
     sizes == (8, 64, 2048, 64) && page < 512 && bit < 16896
 }
 
-// A reply in short.
-fn in_short(reply: &Reply) -> Told {
+/// A reply in short.
+pub fn in_short(reply: &Reply) -> Told {
     match reply {
         Reply::Done => Told::Done,
         Reply::OutOfRange => Told::OutOfRange,
         Reply::BadBlock => Told::BadBlock,
         Reply::MarkerByte => Told::MarkerByte,
         Reply::ProgramFailed => Told::ProgramFailed,
+        Reply::EraseFailed => Told::EraseFailed,
         Reply::MarkerFailed => Told::MarkerFailed,
+        Reply::TableFailed(which) => Told::TableFailed(*which),
+        Reply::Reserved => Told::Reserved,
+        Reply::Copies(copies) => Told::Copies(*copies),
         Reply::State(state) => Told::State(*state),
         Reply::Page { kind, read, image } => {
             let first = image.as_slice().first().copied().unwrap_or(0);
@@ -310,6 +317,5 @@ fn in_short(reply: &Reply) -> Told {
             failed,
             bad,
         } => Told::Counts(*corrected, *failed, *bad),
-        _ => Told::Another,
     }
 }
